@@ -1,0 +1,3 @@
+pub mod Character
+pub mod Name
+pub mod Scope
