@@ -1,3 +1,5 @@
 pub mod Character
 pub mod Name
 pub mod Scope
+pub mod Pyx
+pub mod Forest

@@ -1,6 +1,6 @@
 -- The namespaces in scope (Namespaces in XML 1.0, 6): a finite map from prefixes to URIs. The default
 -- namespace stands under the empty prefix, and the empty URI there means no namespace.
-use Rattle.std.specs.Prelude.{ℕ, List, [], Option, codes}
+use Rattle.std.specs.Prelude.{ℕ, List, Option, codes}
 use Rattle.std.specs.Ordering.{nat_cmp}
 use Rattle.std.specs.Cmp.Lexicographic.{slice_cmp}
 use Rattle.std.specs.FinMap.{FinMap, empty, get, insert}

@@ -1,1 +1,13 @@
+//! What xt believes about documents: characters, names, the namespaces in scope, PYX lines and
+//! events, and plain forests. `docs/DEFINITIONS.md` gives the order in which to read the modules of
+//! `specs/`.
+//!
+//! There is no code here but the laws, whose functions have no body, and the types that the
+//! definitions share with the code, which have texts of any type.
 #![tactic(auto)]
+
+mod event;
+mod laws;
+
+pub use event::Event;
+pub use laws::{escapes_read_back, written_lines_read_back};
