@@ -1,0 +1,124 @@
+// Names (Namespaces in XML 1.0, productions 4 and 7 to 11).
+ghost use Rattle.std.specs.Prelude.{◌≡◌, ◌&&◌, bytes_eq, IfOk};
+ghost use Rattle.std.specs.Option.{option_copied};
+ghost use Rattle.std.specs.Str.{chars};
+ghost use Rattle.spec_document.specs.Name as spec;
+
+use crate::character::{is_name_part, is_name_start};
+use crate::split::split_first;
+use std::alloc::Global;
+use std::marker::Model;
+use xt_text::{Memory, Text};
+
+/// Whether the text is an NCName: a name without a colon (production 4). Takes no memory.
+pub fn is_ncname(text: &str) -> bool
+    ensures { result ≡ spec.is_ncname (chars text.now) }
+{
+    let mut characters = text.chars();
+    match characters.next() {
+        None => false,
+        Some(first) => is_name_start(first) && characters.all(|c| is_name_part(c)),
+    }
+}
+
+/// A QName in its parts (productions 7 to 11).
+#[derive(Drop)]
+pub struct QName {
+    prefix: Option<Text>,
+    local: Text,
+}
+
+impl Model for QName {
+    ghost use Rattle.spec_document.specs.Name as spec;
+
+    ghost Value = { spec.QName };
+
+    ghost view = { λ name. record { prefix = name.prefix; local = name.local } };
+}
+
+impl QName {
+    /// The QName that the text is: an NCName, or two of them parted by a colon. None exactly where it
+    /// is neither.
+    pub fn read(alloc: Global, text: &str) -> Result<Option<QName>, Memory>
+        ensures { IfOk result (λ name. name ≡ spec.qname_of (chars text.now)) }
+    {
+        if is_ncname(text) {
+            return Ok(Some(QName {
+                prefix: None,
+                local: Text::from_str(alloc, text)?,
+            }));
+        }
+        let Some((prefix, local)) = split_first(text, ':') else {
+            return Ok(None);
+        };
+        if !is_ncname(prefix) || !is_ncname(local) {
+            return Ok(None);
+        }
+        Ok(Some(QName {
+            prefix: Some(Text::from_str(alloc, prefix)?),
+            local: Text::from_str(alloc, local)?,
+        }))
+    }
+
+    /// The part before the colon, where there is one.
+    pub fn prefix(&self) -> Option<&Text>
+        ensures { option_copied result ≡ self.now.prefix }
+    {
+        self.prefix.as_ref()
+    }
+
+    /// The part behind the colon, or all of the name.
+    pub fn local(&self) -> &Text
+        ensures { result.now ≡ self.now.local }
+    {
+        &self.local
+    }
+}
+
+/// An expanded name: a namespace URI, empty for no namespace, and a local part (Namespaces in XML
+/// 1.0, section 2.1).
+#[derive(Drop)]
+pub struct Expanded {
+    uri: Text,
+    local: Text,
+}
+
+impl Model for Expanded {
+    ghost use Rattle.spec_document.specs.Name as spec;
+
+    ghost Value = { spec.Expanded };
+
+    ghost view = { λ name. record { uri = name.uri; local = name.local } };
+}
+
+impl Expanded {
+    /// The name of these parts. Takes no memory.
+    pub fn new(uri: Text, local: Text) -> Expanded
+        ensures uri { result.uri ≡ uri }
+        ensures local { result.local ≡ local }
+    {
+        Expanded { uri, local }
+    }
+
+    /// The URI of its namespace, empty for no namespace.
+    pub fn uri(&self) -> &Text
+        ensures { result.now ≡ self.now.uri }
+    {
+        &self.uri
+    }
+
+    /// The local part.
+    pub fn local(&self) -> &Text
+        ensures { result.now ≡ self.now.local }
+    {
+        &self.local
+    }
+
+    /// Whether both have the same URI and the same local part, character by character. Takes no
+    /// memory.
+    pub fn same(&self, other: &Expanded) -> bool
+        ensures { result ≡ (bytes_eq self.now.uri other.now.uri && bytes_eq self.now.local other.now.local) }
+    {
+        self.uri.same(&other.uri) && self.local.same(&other.local)
+    }
+}

@@ -1,0 +1,93 @@
+// The namespaces in scope (Namespaces in XML 1.0, section 6).
+ghost use Rattle.std.specs.Prelude.{◌≡◌, IfOk, OnOk, OnErr, codes};
+ghost use Rattle.std.specs.Option.{option_copied};
+ghost use Rattle.std.specs.Str.{chars};
+ghost use Rattle.spec_document.specs.Scope as spec;
+
+use std::alloc::Global;
+use std::collections::VecDeque;
+use std::marker::Model;
+use xt_text::{Memory, Text};
+
+/// Which URI each prefix stands for. The default namespace stands under the empty prefix, and the
+/// empty URI there means no namespace. Contracts see the finite map from prefixes to URIs.
+#[derive(Drop)]
+pub struct Scope {
+    // the newest first, so that a binding hides the older ones of its prefix
+    bindings: VecDeque<Binding>,
+}
+
+#[derive(Drop)]
+struct Binding {
+    prefix: Text,
+    uri: Text,
+}
+
+impl Model for Scope {
+    ghost use Rattle.std.specs.Prelude.{ℕ, List, map};
+    ghost use Rattle.std.specs.Ordering.{nat_cmp};
+    ghost use Rattle.std.specs.Cmp.Lexicographic.{slice_cmp};
+    ghost use Rattle.std.specs.Coded.{coded_ℕ, coded_list};
+    ghost use Rattle.std.specs.FinMap as finite;
+
+    ghost Value = { finite.FinMap (slice_cmp nat_cmp) (List ℕ) };
+
+    ghost coded = { finite.code (coded_list coded_ℕ) (coded_list coded_ℕ) };
+
+    ghost view = { λ s. finite.from_entries (map (λ b. (b.prefix, b.uri)) s.bindings.items) };
+}
+
+impl Scope {
+    /// The scope before any declaration: the prefix `xml` alone.
+    pub fn root(alloc: Global) -> Result<Scope, Memory>
+        ensures { IfOk result (λ scope. scope ≡ spec.root_scope) }
+    {
+        let mut scope = Scope {
+            bindings: VecDeque::new(alloc),
+        };
+        scope.bind("xml", "http://www.w3.org/XML/1998/namespace")?;
+        Ok(scope)
+    }
+
+    /// Declares the prefix, the empty one for the default namespace; an older declaration of it no
+    /// longer counts. After want of memory the scope is as before.
+    pub fn bind(&mut self, prefix: &str, uri: &str) -> Result<(), Memory>
+        ensures ok { OnOk result (self.new ≡ spec.bound self.old (chars prefix.now) (chars uri.now)) }
+        ensures err { OnErr result (self.new ≡ self.old) }
+    {
+        let alloc = *self.bindings.allocator();
+        let binding = Binding {
+            prefix: Text::from_str(alloc, prefix)?,
+            uri: Text::from_str(alloc, uri)?,
+        };
+        self.bindings.push_front(binding)?;
+        Ok(())
+    }
+
+    /// The URI of the prefix. None exactly where it is not declared. Takes no memory, and time in the
+    /// number of declarations.
+    pub fn resolve(&self, prefix: &str) -> Option<&Text>
+        ensures { option_copied result ≡ spec.resolved self.now (chars prefix.now) }
+    {
+        for binding in &self.bindings {
+            if prefix == binding.prefix.as_str() {
+                return Some(&binding.uri);
+            }
+        }
+        None
+    }
+
+    /// The same scope, in memory of its own.
+    pub fn copy(&self, alloc: Global) -> Result<Scope, Memory>
+        ensures { IfOk result (λ scope. scope ≡ self.now) }
+    {
+        let mut bindings = VecDeque::new(alloc);
+        for binding in &self.bindings {
+            bindings.push_back(Binding {
+                prefix: binding.prefix.copy(alloc)?,
+                uri: binding.uri.copy(alloc)?,
+            })?;
+        }
+        Ok(Scope { bindings })
+    }
+}
