@@ -1,0 +1,7 @@
+pub mod Lines
+pub mod Command
+pub mod Form
+pub mod Reply
+pub mod Machine
+pub mod Outside
+pub mod Served

@@ -1,0 +1,34 @@
+// Plain enums, which the definitions and the code share.
+
+/// What a line between two commands is, as its first 7 bytes and their count tell.
+#[derive(Clone, Copy, Debug, PartialEq, Eq)]
+pub enum LineKind {
+    /// An empty line, which is skipped.
+    Empty,
+    /// `quit`, which ends the session.
+    Quit,
+    /// A command whose body follows, up to a line `.`.
+    WithBody,
+    /// Any other command.
+    Alone,
+}
+
+/// How the lines of a session end.
+#[derive(Clone, Copy, Debug, PartialEq, Eq)]
+pub enum Ending {
+    /// With the last line of a command.
+    Finished,
+    /// With `quit`.
+    Quit,
+    /// Inside a body, whose line `.` is not there.
+    Unfinished,
+}
+
+/// Why there is no result of the transformation.
+#[derive(Clone, Copy, Debug, PartialEq, Eq)]
+pub enum Refusal {
+    /// S01: there is no module `main`.
+    NoMain,
+    /// S02: there is no source.
+    NoSource,
+}
