@@ -1,12 +1,12 @@
 -- The documents that are taken so far, and what is made of them: a source of one element around at most one data
 -- line, and a stylesheet of one template for the root whose content is an element around one xsl:value-of.
-use Rattle.std.specs.Prelude.{ℕ, Bool, false, ◌&&◌, List, [], ◌∷◌, Option, None, Some, bytes_eq, codes, if◌then◌else◌}
+use Rattle.std.specs.Prelude.{ℕ, Bool, true, false, ◌&&◌, List, [], ◌∷◌, Option, None, Some, bytes_eq, codes, if◌then◌else◌}
 use Rattle.spec_document.specs.declared.event.Event.{Event}
 use Rattle.spec_document.specs.declared.event.Event.TheVariants.{Start, Attribute, Data, Instruction as InstructionEvent, End, Comment as CommentEvent}
 use Rattle.spec_document.specs.Name.{is_ncname}
 use Rattle.spec_document.specs.Forest.{Written, Content, Element, Text, Comment, Instruction, Forest, Empty, Node, Plain, with_text}
 
--- the event is the start, the end, of an element of this name; an attribute of this name and value; character data
+-- the event is the start, the end, of an element of this name; an attribute of this name and value; character data at all
 abbrev pub is_start : Event (List ℕ) → List ℕ → Bool
 is_start (Start other) name = bytes_eq other name
 is_start _ name = false
@@ -19,11 +19,11 @@ abbrev pub is_attribute : Event (List ℕ) → List ℕ → List ℕ → Bool
 is_attribute (Attribute other another) name value = bytes_eq other name && bytes_eq another value
 is_attribute _ name value = false
 
-abbrev pub is_data : Event (List ℕ) → List ℕ → Bool
-is_data (Data other) text = bytes_eq other text
-is_data _ text = false
+abbrev pub is_data : Event (List ℕ) → Bool
+is_data (Data text) = true
+is_data _ = false
 
--- the name of a start, the value of an attribute, the text of character data
+-- the name of a start, the value of an attribute, the text of character data; empty at another event
 abbrev pub name_in : Event (List ℕ) → List ℕ
 name_in (Start name) = name
 name_in _ = []
@@ -40,15 +40,15 @@ text_in _ = []
 abbrev pub element_with : List ℕ → List ℕ → Plain
 element_with name text = Node tt (Element name []) (with_text text Empty) Empty
 
--- an element whose name is an NCName, around what stands between its start and its end
+-- the start and the end of an element whose name is an NCName; the empty text is none
 abbrev pub encloses : Event (List ℕ) → Event (List ℕ) → Bool
-encloses start end = is_start start (name_in start) && is_ncname (name_in start) && is_end end (name_in start)
+encloses start end = is_ncname (name_in start) && is_end end (name_in start)
 
 -- the tree of a source: one element around at most one data line
 abbrev pub source_of : List (Event (List ℕ)) → Option Plain
 source_of (start ∷ end ∷ []) = if encloses start end then Some (element_with (name_in start) []) else None
 source_of (start ∷ line ∷ end ∷ []) =
-    if encloses start end && is_data line (text_in line) then Some (element_with (name_in start) (text_in line)) else None
+    if encloses start end && is_data line then Some (element_with (name_in start) (text_in line)) else None
 source_of _ = None
 
 abbrev pub xslt_uri : List ℕ

@@ -5,3 +5,4 @@ pub mod Reply
 pub mod Machine
 pub mod Outside
 pub mod Served
+pub mod Examples

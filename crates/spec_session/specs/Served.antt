@@ -1,9 +1,10 @@
 -- What a call that serves a session has done, by the status that it answers.
-use Rattle.std.specs.Prelude.{ℕ, ◌≡◌, ◌≤◌, ◌+◌, List, ◌++◌, length, nat_lt}
+use Rattle.std.specs.Prelude.{ℕ, ◌≡◌, ◌≤◌, ◌+◌, ◌^◌, ◌⊎◌, Bool, false, List, [], ◌∷◌, ◌++◌, length, nat_lt, bytes_eq, codes, Option, IfSome, IsSomeAnd}
 use Rattle.std.specs.List.{flat_map}
 use Rattle.spec_session.specs.Lines.{lines_within, ended_lines}
 use Rattle.spec_session.specs.Command.{Command, Session, session_of, status_of}
 use Rattle.spec_session.specs.Reply.{Reply, reply_bytes}
+use Rattle.spec_session.specs.Outside.{Appends}
 use Rattle.spec_session.specs.Machine.{Documents, no_documents, Run}
 
 -- the text is the bytes of the replies of a run of the machine over the commands, and nothing else
@@ -41,3 +42,26 @@ pub record TakesAtMost (limit : ℕ) (bytes left : List ℕ) : Type 0 where
   pub taken : List ℕ
   pub all : bytes ≡ taken ++ left
   pub few : length taken ≤ limit + 1
+
+-- The headline. What a call that serves a session has done, where source and sink tell their bytes, by its status: 0, 4
+-- and 5 without a fault, 1 and 2 at a fault of the source or of the sink, 3 for want of memory at the start.
+pub record Serves (limit : ℕ) (before left : Option (List ℕ)) (written now : Option (List ℕ)) (status : ℕ) : Type 0 where
+  pub served : (status ≡ 0) ⊎ ((status ≡ 4) ⊎ (status ≡ 5)) → IfSome before (λ bytes. (text : List ℕ) × IsServed limit bytes status text × Appends written now text)
+  pub cut_short : status ≡ 1 → IfSome before (λ bytes. IsSomeAnd left (λ rest. (text : List ℕ) × IsCutShort bytes rest text × Appends written now text))
+  pub prefix : status ≡ 2 → IfSome before (λ bytes. (text : List ℕ) × IsPrefixOfReplies limit bytes text × Appends written now text)
+  pub nothing : status ≡ 3 → Appends written now []
+  pub takes : IfSome before (λ bytes. IsSomeAnd left (λ rest. TakesAtMost limit bytes rest))
+  pub no_other : status ≤ 5
+
+-- the words of a command line, as bytes, ask for a session: the program's name, and `session`
+abbrev pub asks_session : List (List ℕ) → Bool
+asks_session (name ∷ word ∷ []) = bytes_eq word (codes "session")
+asks_session _ = false
+
+-- how many bytes a session of the program may have
+abbrev pub session_limit : ℕ
+session_limit = 281474976710656
+
+-- what is written where the words ask for nothing
+abbrev pub usage_line : List ℕ
+usage_line = codes "usage: xt session | demo N\n"
