@@ -1,0 +1,12 @@
+use Rattle.std.proofs.lemmas.Str.{IsUtf8-past_char}
+use Rattle.xt_pyx.proofs.Escapes.{written_more, written_all}
+use Rattle.xt_pyx.proofs.escape.push_escaped.Goals as goal
+
+pub loop-character-preserved : goal.loop-character-preserved
+loop-character-preserved c =
+    let known = c.loop-character.invariant in
+    let step = c.in-Some.ensures.steps.0 in
+    record { utf8 = IsUtf8-past_char _ _ _ known.utf8 step; so_far = written_more _ _ _ _ _ _ known.utf8 step c.in_ok-push_escape.ensures known.so_far }
+
+pub returns : goal.returns
+returns c = written_all _ _ _ c.in-None.ensures.steps.0.0 c.loop-character.invariant.so_far
