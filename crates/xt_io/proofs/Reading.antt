@@ -124,10 +124,10 @@ line old before passed raw given cur new now p none e strip room at_end =
     let whole : old.kept ++ p.taken ≡ (passed ++ raw) ++ 10 ∷ new.kept = p.kept ∙ ap (λ bytes. passed ++ bytes) e ∙ sym (append_assoc passed raw (10 ∷ new.kept)) in
     let both = line_in old.kept p.taken (passed ++ raw) new.kept given old.at_end new.at_end before now old.room new.room (HasNoNewline-append passed raw p.none none) strip whole (at_end ∙ p.at_end) p.still p.read (omega (arith, p.room, room)) in
     record {
-  begins = weaken (ahead old before) (ahead new now) _ (λ bytes more. BeginsWith bytes given more × (length bytes + allowance new ≡ length more + allowance old)) (λ x y h. (inl h.0, h.1)) both;
-  fewer = omega (arith, p.room, room, length-append old.kept p.taken, length-append (passed ++ raw) (10 ∷ new.kept), ap length whole);
-  not_last = λ h. (sym p.at_end ∙ sym at_end ∙ h, weaken (ahead old before) (ahead new now) _ (λ bytes more. BeginsWithEnded bytes given more) (λ x y h. h.0) both);
-}
+      begins = weaken (ahead old before) (ahead new now) _ (λ bytes more. BeginsWith bytes given more × (length bytes + allowance new ≡ length more + allowance old)) (λ x y h. (inl h.0, h.1)) both;
+      fewer = omega (arith, p.room, room, length-append old.kept p.taken, length-append (passed ++ raw) (10 ∷ new.kept), ap length whole);
+      not_last = λ h. (sym p.at_end ∙ sym at_end ∙ h, weaken (ahead old before) (ahead new now) _ (λ bytes more. BeginsWithEnded bytes given more) (λ x y h. h.0) both);
+    }
 
 -- the source ended: nothing is left of it
 pub record Ends (at_end : Bool) (now after : Option (List ℕ)) : Type 0 where
