@@ -60,6 +60,10 @@ opens stylesheet version namespace template match =
     is_start stylesheet (codes "xsl:stylesheet") && is_attribute version (codes "version") (codes "1.0")
     && is_attribute namespace (codes "xmlns:xsl") xslt_uri && is_start template (codes "xsl:template") && is_attribute match (codes "match") (codes "/")
 
+-- its last two events
+abbrev pub closes : Event (List ℕ) → Event (List ℕ) → Bool
+closes template stylesheet = is_end template (codes "xsl:template") && is_end stylesheet (codes "xsl:stylesheet")
+
 -- xsl:value-of whose select is an NCName
 abbrev pub selects : Event (List ℕ) → Event (List ℕ) → Event (List ℕ) → Bool
 selects start select end =
@@ -78,8 +82,7 @@ stylesheet_tree output select =
 -- the tree of a stylesheet
 abbrev pub stylesheet_of : List (Event (List ℕ)) → Option Plain
 stylesheet_of (a ∷ b ∷ c ∷ d ∷ e ∷ literal ∷ start ∷ select ∷ end ∷ literal_end ∷ template_end ∷ stylesheet_end ∷ []) =
-    if opens a b c d e && encloses literal literal_end && selects start select end && is_end template_end (codes "xsl:template")
-    && is_end stylesheet_end (codes "xsl:stylesheet")
+    if opens a b c d e && encloses literal literal_end && selects start select end && closes template_end stylesheet_end
     then Some (stylesheet_tree (name_in literal) (value_in select)) else None
 stylesheet_of _ = None
 
@@ -100,9 +103,10 @@ abbrev pub below : Plain → Plain
 below Empty = Empty
 below (Node label content children siblings) = children
 
--- the result of a stylesheet on a source: the element that its template holds, around the text of the source's
--- document element where that has the selected name, else around nothing
+-- the text that the stylesheet selects in a source: that of its document element, where this has the selected name
+abbrev pub selected_of : Plain → Plain → List ℕ
+selected_of stylesheet source = if bytes_eq (name_of source) (attribute_of (below (below (below stylesheet)))) then text_of (below source) else []
+
+-- the result of a stylesheet on a source: the element that its template holds, around the selected text
 abbrev pub result_of : Plain → Plain → Plain
-result_of stylesheet source =
-    let literal : Plain = below (below stylesheet) in
-    element_with (name_of literal) (if bytes_eq (name_of source) (attribute_of (below literal)) then text_of (below source) else [])
+result_of stylesheet source = element_with (name_of (below (below stylesheet))) (selected_of stylesheet source)

@@ -29,6 +29,8 @@ mod tests {
         text.push('𝄞')?;
         let copy = text.copy(alloc)?;
         assert_eq!(rt; copy.as_str(), "aé𝄞");
+        assert!(rt; copy.is("aé𝄞"));
+        assert!(rt; !copy.is("aé"));
         assert!(rt; copy.same(&text));
         assert!(rt; !copy.same(&Text::from_str(alloc, "aé")?));
         Ok(())

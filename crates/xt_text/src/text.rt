@@ -82,6 +82,13 @@ impl Text {
         self.inner.as_str().is_empty()
     }
 
+    /// Whether it has the characters of this text. Takes no memory.
+    pub fn is(&self, text: &str) -> bool
+        ensures { result ≡ bytes_eq self.now (chars text.now) }
+    {
+        self.inner.as_str() == text
+    }
+
     /// Whether both have the same characters. Takes no memory.
     pub fn same(&self, other: &Text) -> bool
         ensures { result ≡ bytes_eq self.now other.now }
