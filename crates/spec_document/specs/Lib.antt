@@ -3,3 +3,4 @@ pub mod Name
 pub mod Scope
 pub mod Pyx
 pub mod Forest
+pub mod Examples
