@@ -88,6 +88,7 @@ impl Lines {
         ensures end { IfOk result (λ found. IfNone found ((self.new.kept ≡ []) × (self.new.at_end ≡ true))) }
 
         // Each fault.
+        ensures asked { IsErrOf result SkipFault.Failed → self.old.at_end ≡ false }
         ensures inside { IsErrOf result SkipFault.Failed → TakesNoNewline self.old (I.remaining from.old) (I.remaining from.new) }
         ensures over { IsErrOf result SkipFault.Over → IsOver self.old (I.remaining from.old) }
 

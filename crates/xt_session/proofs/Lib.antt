@@ -1,0 +1,9 @@
+pub mod Giving
+pub mod Taking
+pub mod Running
+pub mod Meeting
+pub mod Serving
+pub mod Answering
+pub mod Forms
+pub mod Bodies
+pub mod Commands
