@@ -1,5 +1,5 @@
 -- What a source of bytes and a sink tell.
-use Rattle.std.specs.Prelude.{ℕ, ◌≡◌, ◌<◌, ◌≤◌, ◌⊎◌, List, ◌++◌, length, take, drop, Option, Result, IfSome, IsSomeAnd, IsErr, IsOk}
+use Rattle.std.specs.Prelude.{ℕ, ◌≡◌, ◌<◌, ◌≤◌, ◌⊎◌, List, ◌++◌, length, take, drop, Option, None, MatchOption, Result, IfSome, IsSomeAnd, IsErr, IsOk}
 
 -- a count of faults has risen, or stands at its greatest value
 abbrev pub HasRisen : ℕ → ℕ → Type 0
@@ -13,7 +13,7 @@ pub record HasCause {T E : Type 0} (before now : ℕ) (result : Result T E) : Ty
 -- `count` bytes were taken from what was left, and stand at the front of `piece`; where nothing is told of what was
 -- left, nothing is told after it
 abbrev pub Takes : Option (List ℕ) → ℕ → List ℕ → Option (List ℕ) → Type 0
-Takes old count piece new = IfSome old (λ left. (count ≤ length left) × (take count piece ≡ take count left) × IsSomeAnd new (λ rest. rest ≡ drop count left))
+Takes old count piece new = MatchOption old (new ≡ None) (λ left. (count ≤ length left) × (take count piece ≡ take count left) × IsSomeAnd new (λ rest. rest ≡ drop count left))
 
 -- none was taken, since none is left
 abbrev pub IsAtEnd : Option (List ℕ) → Type 0

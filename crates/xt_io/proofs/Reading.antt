@@ -213,13 +213,13 @@ takes_over_in (Some x) (Some y) (Some z) t room rest read on e f =
 pub takes_over : (old : Reader) (before : Option (List ℕ)) (passed : List ℕ) (cur : Reader) (now after : Option (List ℕ)) (new : Reader) → Passed old before passed cur now → cur.room ≡ 0 → new.room ≡ 0 → GoesOn now after → TakesUpTo 1 old before new after
 takes_over old before passed cur now after new p full room on = record { bytes = takes_over_in before now after p.taken old.room new.room p.read on (omega (arith, p.room, full)) room }
 
-reads_front : (before after : Option (List ℕ)) (count : ℕ) (into rest : List ℕ) → Takes before count into after → (before ≡ None → after ≡ None) → count ≤ length into → Reads before (take count (into ++ rest)) after
-reads_front None after count into rest took silent le = silent refl
-reads_front (Some left) None count into rest took silent le = absurd took.2
-reads_front (Some left) (Some more) count into rest took silent le =
+reads_front : (before after : Option (List ℕ)) (count : ℕ) (into rest : List ℕ) → Takes before count into after → count ≤ length into → Reads before (take count (into ++ rest)) after
+reads_front None after count into rest took le = took
+reads_front (Some left) None count into rest took le = absurd took.2
+reads_front (Some left) (Some more) count into rest took le =
     sym (take-append-drop count left) ∙ ap (λ xs. xs ++ drop count left) (sym took.1 ∙ sym (take-append-le count into rest le)) ∙ ap (λ xs. take count (into ++ rest) ++ xs) (sym took.2)
 
 -- what a read into the front of a piece gives
-pub reads : {E : Type 0} (result : Result ℕ E) (before after : Option (List ℕ)) (into rest : List ℕ) (size : ℕ) → IfOk result (λ count. count ≤ size) → length into ≡ size → IfOk result (λ count. Takes before count into after) → OnOk result (before ≡ None → after ≡ None) → IfOk result (λ count. Reads before (take count (into ++ rest)) after)
-reads (Ok count) before after into rest size le same took silent = reads_front before after count into rest took silent (omega arith)
-reads (Err e) before after into rest size le same took silent = tt
+pub reads : {E : Type 0} (result : Result ℕ E) (before after : Option (List ℕ)) (into rest : List ℕ) (size : ℕ) → IfOk result (λ count. count ≤ size) → length into ≡ size → IfOk result (λ count. Takes before count into after) → IfOk result (λ count. Reads before (take count (into ++ rest)) after)
+reads (Ok count) before after into rest size le same took = reads_front before after count into rest took (omega arith)
+reads (Err e) before after into rest size le same took = tt

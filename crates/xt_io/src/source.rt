@@ -17,7 +17,6 @@ pub trait Source {
     fn read(&mut self, into: &mut [u8]) -> Result<usize, Failed>
         ensures within { IfOk result (λ count. count ≤ length into.old) }
         ensures bytes { IfOk result (λ count. Takes (remaining self.old) count into.new (remaining self.new)) }
-        ensures silent { OnOk result (remaining self.old ≡ None → remaining self.new ≡ None) }
         ensures end { IfOk result (λ count. count ≡ 0 → 0 < length into.old → IsAtEnd (remaining self.old)) }
         ensures unread { OnErr result (remaining self.new ≡ remaining self.old) }
         ensures cause { HasCause (faults self.old) (faults self.new) result };
