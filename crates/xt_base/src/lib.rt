@@ -1,0 +1,18 @@
+//! What the expressions and the session of xt stand on: numbers, places, counts of steps, and the codes of
+//! all refusals.
+//!
+//! ```text
+//! let seven = Num::read(" 7 ")?;
+//! seven.div(Num::whole(2)?)           // Err(NumFault::Fraction)
+//! ```
+#![tactic(auto)]
+
+mod codes;
+mod num;
+mod place;
+mod steps;
+
+pub use codes::{DynCode, EditCode, StaticCode};
+pub use num::{Num, NumFault};
+pub use place::Place;
+pub use steps::Steps;
