@@ -1,8 +1,10 @@
 // Numbers: whole ones in the range of exact doubles, and NaN.
 ghost use Rattle.std.specs.Prelude.{◌≡◌, IfOk, IfSome};
-ghost use Rattle.spec_expression.specs.Number.{whole, Whole, NaN, value_of, IsInRange, sum_of, difference_of, product_of, quotient_of, remainder_of, negation_of, order_of, text_of};
+ghost use Rattle.spec_expression.specs.Number.{whole, Whole, NaN, value_of, IsInRange, sum_of, difference_of, product_of, quotient_of, remainder_of, negation_of, order_of, number_of, text_of};
+ghost use Rattle.std.specs.Str.{chars};
 ghost use Rattle.xt_base.specs.Fault.{Gives};
 
+use crate::reading;
 use itoa::Buffer;
 use std::alloc::{AllocError, Global};
 use std::cmp::Ordering;
@@ -134,7 +136,11 @@ impl Num {
             return Ok(Num::nan());
         };
         if b == 0 {
-            return if a == 0 { Ok(Num::nan()) } else { Err(NumFault::Infinite) };
+            return if a == 0 {
+                Ok(Num::nan())
+            } else {
+                Err(NumFault::Infinite)
+            };
         }
         if a % b != 0 {
             return Err(NumFault::Fraction);
@@ -171,6 +177,15 @@ impl Num {
             (Some(a), Some(b)) => Some(a.cmp(&b)),
             _ => None,
         }
+    }
+
+    /// The number of a string (XPath 1.0, 4.4): white space, `-`, a numeral as `12`, `12.`, `1.5` or `.5`, and
+    /// white space; only the numeral must be there. NaN of any other string. `Wide` where the part before the
+    /// point is over 9007199254740991, else `Fraction` where a digit after the point is not 0.
+    pub fn read(text: &str) -> Result<Num, NumFault>
+        ensures { Gives result (number_of (chars text.now)) }
+    {
+        reading::number(text.as_bytes())
     }
 
     /// The string of the number (XPath 1.0, 4.2): its decimal digits, after `-` where it is negative, or `NaN`.
