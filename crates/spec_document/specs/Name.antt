@@ -21,8 +21,8 @@ abbrev pub qname_of : List ℕ → Option QName
 qname_of text =
     if is_ncname text then Some (record { prefix = None; local = text })
     else (if is_ncname (before_first is_colon text) && is_ncname (after_first is_colon text)
-      then Some (record { prefix = Some (before_first is_colon text); local = after_first is_colon text })
-      else None)
+    then Some (record { prefix = Some (before_first is_colon text); local = after_first is_colon text })
+    else None)
 
 -- an expanded name: a namespace URI, empty for no namespace, and a local part
 pub record Expanded : Type 0 where
