@@ -53,6 +53,12 @@ impl Model for Num {
 }
 
 impl Clone for Num {
+    ghost use Rattle.std.specs.Prelude.{◌≡◌, ⊤};
+
+    ghost is_clone = { λ n m. m ≡ n };
+
+    ghost is_infallible = { λ _. ⊤ };
+
     fn clone(&self) -> Result<Num, AllocError> {
         Ok(*self)
     }
