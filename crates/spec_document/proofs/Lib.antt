@@ -1,2 +1,6 @@
 pub mod First
 pub mod Lines
+pub mod DocumentExamples
+pub mod Prefixes
+pub mod Reading
+pub mod Written

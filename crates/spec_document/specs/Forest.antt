@@ -1,5 +1,5 @@
 -- Documents as forests: the nodes below a root, or any siblings with what is below them.
-use Rattle.std.specs.Prelude.{ℕ, ◌≡◌, List, [], ◌∷◌, ◌++◌, map, Option, None, Some}
+use Rattle.std.specs.Prelude.{ℕ, ◌+◌, ◌≡◌, ◌≢◌, List, [], ◌∷◌, ◌++◌, map, Option, None, Some}
 use Rattle.spec_document.specs.declared.event.Event.{Event}
 use Rattle.spec_document.specs.declared.event.Event.TheVariants.{Start, Attribute, Data, Instruction as InstructionEvent, End, Comment as CommentEvent}
 use Rattle.spec_document.specs.Pyx.{Line, event_of, line_of}
@@ -29,11 +29,14 @@ abbrev pub plain : {L : Type 0} → Forest L → Plain
 plain Empty = Empty
 plain (Node label content children siblings) = Node tt content (plain children) (plain siblings)
 
--- data in front of siblings: empty data makes no text, and adjacent data one text
+-- data in front of siblings: empty data makes no text, and adjacent data one text, which has the label of the first
+abbrev pub joined : {L : Type 0} → L → List ℕ → Forest L → Forest L
+joined label [] siblings = siblings
+joined label (c ∷ cs) (Node next (Text text) children siblings) = Node label (Text ((c ∷ cs) ++ text)) children siblings
+joined label (c ∷ cs) siblings = Node label (Text (c ∷ cs)) Empty siblings
+
 abbrev pub with_text : List ℕ → Plain → Plain
-with_text [] siblings = siblings
-with_text (c ∷ cs) (Node label (Text text) children siblings) = Node label (Text ((c ∷ cs) ++ text)) children siblings
-with_text (c ∷ cs) siblings = Node tt (Text (c ∷ cs)) Empty siblings
+with_text text siblings = joined tt text siblings
 
 abbrev pub attribute_event : Written → Event (List ℕ)
 attribute_event a = Attribute a.name a.value
@@ -75,3 +78,49 @@ written (Node label (Instruction target text) children siblings) = InstructionEv
 -- the lines that are written for a forest
 abbrev pub lines_of : {L : Type 0} → Forest L → List Line
 lines_of forest = map line_of (written forest)
+
+-- only elements have something below them, no text is empty, and no two texts stand side by side: as a forest that events are
+abbrev pub IsNoText : {L : Type 0} → Forest L → Type 0
+IsNoText Empty = Unit {0}
+IsNoText (Node label (Text text) children siblings) = ⊥
+IsNoText (Node label (Element name attributes) children siblings) = Unit {0}
+IsNoText (Node label (Comment text) children siblings) = Unit {0}
+IsNoText (Node label (Instruction target text) children siblings) = Unit {0}
+
+abbrev pub IsNormal : {L : Type 0} → Forest L → Type 0
+IsNormal Empty = Unit {0}
+IsNormal (Node label (Element name attributes) children siblings) = IsNormal children × IsNormal siblings
+IsNormal (Node label (Text text) children siblings) = (children ≡ Empty) × (text ≢ []) × IsNoText siblings × IsNormal siblings
+IsNormal (Node label (Comment text) children siblings) = (children ≡ Empty) × IsNormal siblings
+IsNormal (Node label (Instruction target text) children siblings) = (children ≡ Empty) × IsNormal siblings
+
+-- how many nodes the forest has
+abbrev pub size : {L : Type 0} → Forest L → ℕ
+size Empty = 0
+size (Node label content children siblings) = 1 + size children + size siblings
+
+-- the labels in document order
+abbrev pub labels : {L : Type 0} → Forest L → List L
+labels Empty = []
+labels (Node label content children siblings) = label ∷ labels children ++ labels siblings
+
+-- the same forest, its nodes numbered from n on in document order
+abbrev pub numbered : {L : Type 0} → ℕ → Forest L → Forest ℕ
+numbered n Empty = Empty
+numbered n (Node label content children siblings) = Node n content (numbered (n + 1) children) (numbered (n + 1 + size children) siblings)
+
+-- the text of the forest: its texts in document order, joined
+abbrev pub text_of : Content → List ℕ
+text_of (Element name attributes) = []
+text_of (Text text) = text
+text_of (Comment text) = []
+text_of (Instruction target text) = []
+
+abbrev pub texts_in : {L : Type 0} → Forest L → List ℕ
+texts_in Empty = []
+texts_in (Node label content children siblings) = text_of content ++ texts_in children ++ texts_in siblings
+
+-- a document: its root, and what is below it
+pub record Document (L : Type 0) : Type 0 where
+  pub root : L
+  pub nodes : Forest L

@@ -3,4 +3,7 @@ pub mod Name
 pub mod Scope
 pub mod Pyx
 pub mod Forest
+pub mod Declaration
+pub mod Place
+pub mod Document
 pub mod Examples

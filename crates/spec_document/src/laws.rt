@@ -1,6 +1,9 @@
-// Laws of PYX lines, which hold of the definitions alone.
-ghost use Rattle.std.specs.Prelude.{◌≡◌, ℕ, List, Some};
+// Laws of PYX lines and of forests, which hold of the definitions alone.
+ghost use Rattle.std.specs.Prelude.{◌≡◌, ◌↔◌, ℕ, List, Some, map};
+ghost use Rattle.std.specs.Option.{option_map};
 ghost use Rattle.spec_document.specs.declared.event.Event.{Event};
+ghost use Rattle.spec_document.specs.Document.{forest_of};
+ghost use Rattle.spec_document.specs.Forest.{Plain, IsForestOf, IsNormal, plain, written};
 ghost use Rattle.spec_document.specs.Pyx.{escaped, unescaped, line_of, event_of, IsWritable};
 
 /// What is written with escapes is read as it was.
@@ -12,4 +15,21 @@ pub fn escapes_read_back()
 /// name or target has a space in it.
 pub fn written_lines_read_back()
     ensures { (event : Event (List ℕ)) → IsWritable event → event_of (line_of event) ≡ Some event }
+{}
+
+/// Events are those of at most one forest.
+pub fn events_have_one_forest()
+    ensures { (events : List (Event (List ℕ))) (f g : Plain) → IsForestOf events f → IsForestOf events g → f ≡ g }
+{}
+
+/// The forest that is computed from events, its lines forgotten, is the one whose events they are; none
+/// is computed where they are no forest's.
+pub fn forests_are_computed()
+    ensures { (events : List (ℕ × Event (List ℕ))) (f : Plain) → (option_map plain (forest_of events) ≡ Some f) ↔ IsForestOf (map (λ e. e.1) events) f }
+{}
+
+/// The events that are written for a forest are that forest, where it is as one that events are: only
+/// elements have something below them, no text is empty and no two stand side by side.
+pub fn written_forests_read_back()
+    ensures { (f : Plain) → IsNormal f → IsForestOf (written f) f }
 {}

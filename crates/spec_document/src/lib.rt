@@ -1,5 +1,5 @@
 //! What xt believes about documents: characters, names, the namespaces in scope, PYX lines and
-//! events, and plain forests. `docs/DEFINITIONS.md` gives the order in which to read the modules of
+//! events, forests, places, and what makes lines a document. `docs/DEFINITIONS.md` gives the order in which to read the modules of
 //! `specs/`.
 //!
 //! There is no code here but the laws, whose functions have no body, and the types that the
@@ -7,7 +7,14 @@
 #![tactic(auto)]
 
 mod event;
+mod kind;
 mod laws;
+mod usage;
 
 pub use event::Event;
-pub use laws::{escapes_read_back, written_lines_read_back};
+pub use kind::Kind;
+pub use laws::{
+    escapes_read_back, events_have_one_forest, forests_are_computed, written_forests_read_back,
+    written_lines_read_back,
+};
+pub use usage::Use;
