@@ -1,1 +1,4 @@
 pub mod ValueExamples
+mod GrammarExamples
+pub mod Ranks
+pub mod Unique

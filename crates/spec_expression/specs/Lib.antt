@@ -1,2 +1,6 @@
 pub mod Number
 pub mod Strings
+pub mod Token
+pub mod Syntax
+pub mod Grammar
+pub mod Rank
