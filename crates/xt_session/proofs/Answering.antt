@@ -1,19 +1,17 @@
 -- Replies that the machine may give.
-use Rattle.std.proofs.Common.{◌≡◌, ℕ, List, [], ◌∷◌, ◌++◌, Option, None, Some, Ok, Err, refl, sym, ◌∙◌, ap, subst, inr, append-nil, append_assoc}
-use Rattle.std.specs.Prelude.{cond, codes, Result, IfOk}
+use Rattle.std.proofs.Common.{◌≡◌, ℕ, List, [], ◌∷◌, ◌++◌, Some, Ok, Err, refl, sym, ◌∙◌, ap, subst, inr, append_assoc}
+use Rattle.std.specs.Prelude.{Result, IfOk}
 use Rattle.std.specs.List.{flat_map}
-use Rattle.std.specs.Option.{option_map, option_and_then}
 use Rattle.std.specs.Str.{chars}
-use Rattle.spec_document.specs.Forest.{Plain, Empty, Text, Node, with_text, lines_of, written}
-use Rattle.spec_document.specs.Pyx.{escaped}
+use Rattle.spec_document.specs.Forest.{Plain, Empty, with_text}
 use Rattle.spec_session.specs.Command.{Command}
-use Rattle.spec_session.specs.Form.{element_with, text_of, below, result_of, stylesheet_tree}
+use Rattle.spec_session.specs.Form.{element_with, text_of}
 use Rattle.spec_session.specs.Machine as machine
 use Rattle.spec_session.specs.Machine.{Answers, Step, Outcome, Done, Refused, outcome_of, request_of, set_by}
 use Rattle.spec_session.specs.Reply as spec
 use Rattle.spec_session.specs.Reply.{reply_bytes, reply_lines, with_newline}
 use Rattle.xt_session.specs.declared.reply.Reply.{Reply}
-use Rattle.xt_session.specs.declared.reply.Reply.TheVariants.{OkDone, OkRefused, NotTaken, ShowRefused}
+use Rattle.xt_session.specs.declared.reply.Reply.TheVariants.{NotTaken}
 use Rattle.xt_session.specs.View.{data_lines, bytes_of, GivesReply, IsChangeReply, IsShowReply}
 
 -- the answer to a request is one to a command that asks it

@@ -1,9 +1,8 @@
 -- Lines that a reader gives, one after another.
-use Rattle.std.proofs.Common.{◌≡◌, ℕ, suc, ◌+◌, ◌-◌, ◌<◌, ◌≤◌, ◌⊎◌, Bool, true, false, List, [], ◌∷◌, ◌++◌, length, Option, None, Some, refl, sym, ◌∙◌, ap, subst, arith, append_assoc, length-append, inl, inr}
+use Rattle.std.proofs.Common.{◌≡◌, ℕ, suc, ◌+◌, ◌≤◌, false, List, [], ◌∷◌, ◌++◌, length, Option, None, Some, refl, sym, ◌∙◌, ap, subst, arith, append_assoc, length-append, inl, inr}
 use Rattle.std.specs.Prelude.{nat_lt, IfSome, IsSomeAnd}
 use Rattle.std.proofs.lemmas.Bool.Decides.{nat_tests}
-use Rattle.std.specs.Str.Lines.{strip_carriage_return}
-use Rattle.spec_session.specs.Lines.{ended_lines, lines_within, HasNoNewline, BeginsWith, BeginsWithEnded, IsLastLine, Reader, ahead, allowance, GivesLine, IsKept}
+use Rattle.spec_session.specs.Lines.{ended_lines, lines_within, BeginsWith, BeginsWithEnded, Reader, ahead, allowance, GivesLine, IsKept}
 use Rattle.spec_session.proofs.Reading.{ended_lines-ended, lines_within-ended, lines_within-last, lines_within-nil}
 use Rattle.xt_session.specs.Progress.{AreBehind, GivesLines}
 

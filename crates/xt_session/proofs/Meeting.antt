@@ -1,11 +1,11 @@
 -- What a reader meets where the next line is.
-use Rattle.std.proofs.Common.{◌≡◌, ℕ, ◌+◌, ◌<◌, Bool, true, false, List, [], ◌∷◌, ◌++◌, length, take, Option, None, Some, refl, sym, ◌∙◌, ap, subst, arith, append-nil}
+use Rattle.std.proofs.Common.{◌≡◌, ℕ, ◌+◌, ◌<◌, false, List, [], ◌++◌, length, take, Option, None, Some, refl, sym, ◌∙◌, subst, arith, append-nil}
 use Rattle.std.specs.Prelude.{IfSome, IsSomeAnd}
 use Rattle.spec_session.specs.Lines.{Reader, ahead, allowance, HasNoNewline, BeginsWith, BeginsWithEnded, GivesLine, IsFinished, IsOver, IsKept, TakesUpTo}
-use Rattle.spec_session.specs.Command.{Session, session_of, session_with, head_of, kind_of, is_end, after, ended}
+use Rattle.spec_session.specs.Command.{Session}
 use Rattle.xt_session.specs.declared.meet.Met.{Met}
 use Rattle.xt_session.specs.declared.meet.Met.TheVariants.{Line, Head, End, Over, Failed as LineFailed}
-use Rattle.xt_session.specs.Progress.{FailsInLine, IsCut, GivesLines, Meets}
+use Rattle.xt_session.specs.Progress.{FailsInLine, IsCut, Meets}
 use Rattle.xt_session.proofs.Giving.{none_given}
 use Rattle.xt_session.proofs.Taking.{takes_both}
 

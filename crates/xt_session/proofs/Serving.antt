@@ -1,17 +1,17 @@
 -- A session as it is served, turn after turn.
-use Rattle.std.proofs.Common.{◌≡◌, ℕ, ◌+◌, ◌≤◌, ◌⊎◌, Bool, true, false, List, [], ◌∷◌, ◌++◌, length, take, Option, None, Some, refl, sym, ◌∙◌, ap, subst, arith, append_assoc, append-nil, inl, inr}
+use Rattle.std.proofs.Common.{◌≡◌, ℕ, ◌+◌, ◌≤◌, List, [], ◌++◌, length, take, Option, None, Some, refl, sym, ◌∙◌, ap, subst, arith, append_assoc, append-nil}
 use Rattle.std.specs.Prelude.{IfSome, IsSomeAnd}
 use Rattle.spec_session.specs.Lines.{Reader, TakesUpTo}
 use Rattle.spec_session.specs.Command.{Command, session_of}
-use Rattle.spec_session.specs.Machine.{Documents, no_documents, Step}
+use Rattle.spec_session.specs.Machine.{Documents, no_documents}
 use Rattle.spec_session.specs.Outside.{Appends}
-use Rattle.spec_session.specs.Reply.{No, reply_bytes}
-use Rattle.spec_session.specs.Served.{IsServed, IsCutShort, IsPrefixOfReplies, TakesAtMost, Serves}
+use Rattle.spec_session.specs.Reply.{No}
+use Rattle.spec_session.specs.Served.{IsCutShort, IsPrefixOfReplies, TakesAtMost, Serves}
 use Rattle.xt_session.specs.declared.reply.Reply.{Reply}
 use Rattle.xt_session.specs.declared.reply.Reply.TheVariants.{NoMemory}
 use Rattle.xt_session.specs.declared.session.Turn.{Turn}
 use Rattle.xt_session.specs.declared.session.Turn.TheVariants.{Answered, Stopped, ReadFailed, WriteFailed}
-use Rattle.xt_session.specs.Progress.{GivesCommand, IsDone, IsCut, HasCome, reader_at_start}
+use Rattle.xt_session.specs.Progress.{GivesCommand, HasCome, reader_at_start}
 use Rattle.xt_session.specs.Turn.{IsAnswered, Turns, Writes}
 use Rattle.xt_session.specs.View.{bytes_of, GivesReply}
 use Rattle.xt_session.proofs.Running.{come_at_start, come_on, come_served, come_cut, come_prefix, no_memory_step}

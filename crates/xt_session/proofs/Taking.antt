@@ -1,14 +1,13 @@
 -- Commands that are taken from lines.
-use Rattle.std.proofs.Common.{◌≡◌, ℕ, ◌+◌, ◌<◌, ◌≤◌, ◌⊎◌, Bool, true, false, List, [], ◌∷◌, ◌++◌, length, take, Option, None, Some, refl, sym, ◌∙◌, ap, subst, arith, append_assoc, append-nil, length-append, inl, inr}
+use Rattle.std.proofs.Common.{◌≡◌, ℕ, ◌+◌, ◌<◌, ◌≤◌, ◌⊎◌, true, false, List, [], ◌∷◌, ◌++◌, length, take, Option, None, Some, refl, sym, ◌∙◌, ap, subst, arith, append_assoc, append-nil, length-append, inl, inr}
 use Rattle.std.specs.Prelude.{nat_lt, IfSome, IsSomeAnd}
-use Rattle.std.specs.List.{flat_map}
 use Rattle.std.proofs.lemmas.Bool.Decides.{nat_tests}
 use Rattle.spec_session.specs.declared.kinds.Ending.{Ending}
-use Rattle.spec_session.specs.declared.kinds.Ending.TheVariants.{Finished, Quit, Unfinished}
-use Rattle.spec_session.specs.Lines.{GivesLine, lines_within, ended_lines, Reader, ahead, allowance, HasNoNewline, IsFinished, IsOver, IsKept, TakesUpTo}
+use Rattle.spec_session.specs.declared.kinds.Ending.TheVariants.{Quit}
+use Rattle.spec_session.specs.Lines.{GivesLine, lines_within, Reader, ahead, allowance, HasNoNewline, IsFinished, IsOver, IsKept, TakesUpTo}
 use Rattle.spec_session.specs.declared.kinds.LineKind.TheVariants.{Empty, Quit as QuitLine, WithBody, Alone}
 use Rattle.spec_session.specs.Command.{Command, Session, session_of, session_with, after, ended, status_of, kind_of, head_of, is_end}
-use Rattle.spec_session.proofs.Reading.{lines_within-nil, lines_within-over, ended_lines-none}
+use Rattle.spec_session.proofs.Reading.{lines_within-nil, lines_within-over}
 use Rattle.xt_session.specs.declared.command.Taken.{Taken}
 use Rattle.xt_session.specs.declared.command.Taken.TheVariants.{Command as Whole, Skipped, Stopped, Failed}
 use Rattle.xt_session.specs.Progress.{GivesLines, GivesCommand, IsDone, IsCut, Took, command_of}

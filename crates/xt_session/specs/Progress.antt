@@ -1,5 +1,5 @@
 -- How the parts of a session are read, and how far it has come.
-use Rattle.std.specs.Prelude.{ℕ, ◌≡◌, ◌+◌, ◌<◌, ◌≤◌, ◌⊎◌, Bool, false, List, [], ◌∷◌, ◌++◌, length, nat_lt, Option, Some, IfSome, IsSomeAnd}
+use Rattle.std.specs.Prelude.{ℕ, ◌≡◌, ◌<◌, ◌≤◌, ◌⊎◌, false, List, [], ◌++◌, length, nat_lt, Option, Some, IfSome, IsSomeAnd}
 use Rattle.std.specs.List.{flat_map}
 use Rattle.spec_session.specs.Lines.{lines_within, ended_lines, Reader, ahead, allowance, HasNoNewline}
 use Rattle.spec_session.specs.Command.{Command, Session, session_of, after, status_of}

@@ -1,5 +1,5 @@
 -- One turn of a session: a command is taken and answered.
-use Rattle.std.specs.Prelude.{ℕ, ◌≡◌, ◌++◌, List, [], Option, None, Some, IsSomeAnd, take}
+use Rattle.std.specs.Prelude.{ℕ, ◌≡◌, List, [], Option, take}
 use Rattle.spec_session.specs.Lines.{Reader}
 use Rattle.spec_session.specs.Command.{Command, session_of}
 use Rattle.spec_session.specs.Machine.{Documents, Step}

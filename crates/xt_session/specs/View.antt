@@ -1,7 +1,6 @@
 -- What the documents, requests and replies of the session stand for.
-use Rattle.std.specs.Prelude.{ℕ, ◌≡◌, List, [], ◌∷◌, Option}
+use Rattle.std.specs.Prelude.{ℕ, ◌≡◌, List, [], ◌∷◌}
 use Rattle.std.specs.Option.{option_map}
-use Rattle.std.specs.List.{flat_map}
 use Rattle.std.specs.Str.{encode_utf8_all}
 use Rattle.spec_document.specs.Pyx.{escaped}
 use Rattle.spec_document.specs.Forest.{Plain}

@@ -91,10 +91,10 @@ fn push_name_line(text: &mut Text, sign: char, name: &Text) -> Result<(), Memory
 }
 
 // Adds the line of character data.
-fn push_data_line(text: &mut Text, data: &Text) -> Result<(), Memory>
-    ensures { OnOk result (text.new ≡ text.old ++ with_newline (0x2D ∷ escaped data.now)) }
+fn push_data_line(text: &mut Text, characters: &Text) -> Result<(), Memory>
+    ensures { OnOk result (text.new ≡ text.old ++ with_newline (0x2D ∷ escaped characters.now)) }
 {
     text.push('-')?;
-    push_escaped(text, data.as_str())?;
+    push_escaped(text, characters.as_str())?;
     text.push('\n')
 }

@@ -1,4 +1,4 @@
-use Rattle.std.proofs.Common.{List, ℕ, Option, Some, None, sym, ◌∙◌, ap, subst}
+use Rattle.std.proofs.Common.{List, ℕ, Option, sym, ◌∙◌, ap, subst}
 use Rattle.std.specs.Option.{option_and_then}
 use Rattle.std.specs.Str.{IsUtf8, chars}
 use Rattle.spec_document.specs.Pyx.{event_of}

@@ -1,5 +1,4 @@
-use Rattle.std.proofs.Common.{◌≡◌, List, ℕ, true, false, sym, ◌∙◌, ap, arith, Some}
-use Rattle.std.proofs.lemmas.Bool.Decides.{nat_tests}
+use Rattle.std.proofs.Common.{◌≡◌, List, ℕ, true, false, sym, ◌∙◌, ap, Some}
 use Rattle.spec_session.specs.Form.{name_in, stylesheet_of, stylesheet_tree, opens, encloses, selects, closes}
 use Rattle.xt_session.proofs.Forms.{twelve, not_enclosed, not_selected, not_closed, has_form}
 use Rattle.xt_session.proofs.form.stylesheet_in.Goals as goal

@@ -1,8 +1,8 @@
-use Rattle.std.proofs.Common.{◌≡◌, List, ℕ, [], ◌∷◌, ◌++◌, refl, true, false, ◌∙◌, ap, subst, sym, arith}
+use Rattle.std.proofs.Common.{◌≡◌, List, ℕ, [], ◌∷◌, ◌++◌, true, false, ◌∙◌, ap, subst, sym, arith}
 use Rattle.std.specs.Prelude.{is_ok, not}
 use Rattle.spec_session.specs.Command.{session_with}
 use Rattle.xt_session.specs.declared.command.Taken.TheVariants.{Command as Whole, Skipped, Stopped, Failed}
-use Rattle.xt_session.proofs.Taking.{GoesOn, goes_took, takes_nothing}
+use Rattle.xt_session.proofs.Taking.{GoesOn, goes_took}
 use Rattle.xt_session.proofs.Commands.{body_whole, body_more, body_finished, body_over, body_fails, end_by_line, end_by_head, takes_on}
 use Rattle.xt_session.proofs.Meeting.{takes_then}
 use Rattle.xt_session.proofs.take.take_body.Goals as goal

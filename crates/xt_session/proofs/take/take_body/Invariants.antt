@@ -1,4 +1,4 @@
-use Rattle.std.proofs.Common.{◌≡◌, List, ℕ, []}
+use Rattle.std.proofs.Common.{◌≡◌, []}
 use Rattle.spec_session.specs.Command.{session_with}
 use Rattle.spec_session.specs.Lines.{TakesUpTo, allowance}
 use Rattle.xt_session.proofs.Taking.{GoesOn}
