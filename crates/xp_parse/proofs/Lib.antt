@@ -1,0 +1,4 @@
+pub mod Pieces
+pub mod Productions
+pub mod Texts
+pub mod Views

@@ -1,0 +1,284 @@
+// Tokens read one after the other.
+ghost use Rattle.std.specs.Prelude.{◌≡◌, ◌+◌, MatchOption, MatchBool, [], IfSome, false};
+ghost use Rattle.spec_expression.specs.Grammar as grammar;
+ghost use Rattle.spec_expression.specs.Token as plain;
+ghost use Rattle.xp_parse.specs.View.{name_of};
+
+use crate::token::{Name, Sign, Token};
+use spec_expression::{Axis, Level, NodeType, Operator};
+use std::alloc::Global;
+use xt_names::Scope;
+
+/// What an expression is read from: its tokens, and the namespaces in scope.
+#[derive(Clone, Copy)]
+pub struct Parser<'t, 'a> {
+    pub alloc: Global,
+    pub tokens: &'t [Token<'a>],
+    pub scope: &'t Scope,
+}
+
+impl<'a> Parser<'_, 'a> {
+    ghost use Rattle.xp_parse.specs.View.{token_of};
+    ghost use Rattle.xp_parse.specs.Reading.{left, IsNext, IsNotNext, NoOperator, token_of_sign, begins_step, begins_primary, begins_test, Begins, BeginsTest, NoAxis, NoTarget};
+
+    /// The token at a place.
+    pub fn peek(&self, at: usize) -> Option<Token<'a>>
+        ensures { MatchOption result (left self.now at ≡ []) (λ t. IsNext self.now at (token_of t)) }
+    {
+        self.tokens.get(at).copied()
+    }
+
+    /// Whether this sign stands at a place.
+    pub fn next_is(&self, at: usize, sign: Sign) -> bool
+        ensures { MatchBool result (IsNext self.now at (token_of_sign sign)) (IsNotNext (left self.now at) (token_of_sign sign)) }
+    {
+        matches!(
+            (self.peek(at), sign),
+            (Some(Token::Open), Sign::Open)
+                | (Some(Token::Close), Sign::Close)
+                | (Some(Token::OpenSquare), Sign::OpenSquare)
+                | (Some(Token::CloseSquare), Sign::CloseSquare)
+                | (Some(Token::Dot), Sign::Dot)
+                | (Some(Token::DotDot), Sign::DotDot)
+                | (Some(Token::At), Sign::At)
+                | (Some(Token::Comma), Sign::Comma)
+                | (Some(Token::ColonColon), Sign::ColonColon)
+                | (Some(Token::Slash), Sign::Slash)
+                | (Some(Token::SlashSlash), Sign::SlashSlash)
+        )
+    }
+
+    /// The operator of this level at a place, where one stands there.
+    pub fn operator_at(&self, at: usize, level: Level) -> Option<Operator>
+        ensures next { MatchOption result (NoOperator level (left self.now at)) (λ o. IsNext self.now at (plain.Binary o)) }
+        ensures level { IfSome result (λ o. grammar.level_of o ≡ level) }
+    {
+        match self.peek(at) {
+            Some(Token::Binary(operator)) if level_of(operator) == level => Some(operator),
+            _ => None,
+        }
+    }
+
+    /// Whether a step begins at a place.
+    pub fn begins_step(&self, at: usize) -> bool
+        ensures { result ≡ begins_step (left self.now at) }
+    {
+        matches!(
+            self.peek(at),
+            Some(
+                Token::Dot
+                    | Token::DotDot
+                    | Token::At
+                    | Token::Star
+                    | Token::AnyOf(_)
+                    | Token::Name(_)
+            )
+        )
+    }
+
+    /// Whether the sign `-` stands at a place.
+    pub fn minus_at(&self, at: usize) -> bool
+        ensures { MatchBool result (IsNext self.now at (plain.Binary Operator.Subtract)) (IsNotNext (left self.now at) (plain.Binary Operator.Subtract)) }
+    {
+        matches!(self.peek(at), Some(Token::Binary(Operator::Subtract)))
+    }
+
+    /// How the primary expression at a place begins, where one does.
+    pub fn head_at(&self, at: usize) -> Option<Head<'a>>
+        ensures { MatchOption result (begins_primary (left self.now at) ≡ false) (λ head. Begins self.now at head) }
+    {
+        match self.peek(at) {
+            Some(Token::Variable(name)) => Some(Head::Variable(name)),
+            Some(Token::Open) => Some(Head::Group),
+            Some(Token::Literal(content)) => Some(Head::Literal(content)),
+            Some(Token::Number(whole, fraction)) => Some(Head::Number(whole, fraction)),
+            Some(Token::Name(name))
+                if type_of(name).is_none() && self.next_is(at + 1, Sign::Open) => {
+                Some(Head::Call(name))
+            }
+            _ => None,
+        }
+    }
+
+    /// How the node test at a place begins, where one does.
+    pub fn test_at(&self, at: usize) -> Option<TestHead<'a>>
+        ensures { MatchOption result (begins_test (left self.now at) ≡ false) (λ head. BeginsTest self.now at head) }
+    {
+        match self.peek(at) {
+            Some(Token::Star) => Some(TestHead::Star),
+            Some(Token::AnyOf(prefix)) => Some(TestHead::AnyOf(prefix)),
+            Some(Token::Name(name)) => Some(TestHead::Name(name)),
+            _ => None,
+        }
+    }
+
+    /// The name of an axis at a place, where a name and `::` stand there.
+    pub fn axis_name_at(&self, at: usize) -> Option<Name<'a>>
+        ensures { MatchOption result (NoAxis (left self.now at)) (λ name. IsNext self.now at (plain.Name (name_of name)) × IsNext self.now (at + 1) plain.ColonColon) }
+    {
+        match self.peek(at) {
+            Some(Token::Name(name)) if self.next_is(at + 1, Sign::ColonColon) => Some(name),
+            _ => None,
+        }
+    }
+
+    /// The target in the parentheses of `processing-instruction`, where a literal and `)` stand at a
+    /// place.
+    pub fn target_at(&self, at: usize) -> Option<&'a [char]>
+        ensures { MatchOption result (NoTarget (left self.now at)) (λ target. IsNext self.now at (plain.Literal target.now) × IsNext self.now (at + 1) plain.Close) }
+    {
+        match self.peek(at) {
+            Some(Token::Literal(target)) if self.next_is(at + 1, Sign::Close) => Some(target),
+            _ => None,
+        }
+    }
+}
+
+/// How a primary expression begins.
+#[derive(Clone, Copy)]
+pub enum Head<'a> {
+    Variable(Name<'a>),
+    /// `(`
+    Group,
+    Literal(&'a [char]),
+    Number(&'a [char], &'a [char]),
+    /// The name of a function and `(`.
+    Call(Name<'a>),
+}
+
+/// How a node test begins.
+#[derive(Clone, Copy)]
+pub enum TestHead<'a> {
+    Star,
+    AnyOf(&'a [char]),
+    Name(Name<'a>),
+}
+
+/// The level that an operator stands at.
+pub fn level_of(operator: Operator) -> Level
+    ensures { result ≡ grammar.level_of operator }
+{
+    match operator {
+        Operator::Or => Level::OrExpr,
+        Operator::And => Level::AndExpr,
+        Operator::Equal | Operator::NotEqual => Level::EqualityExpr,
+        Operator::Less | Operator::LessOrEqual | Operator::Greater | Operator::GreaterOrEqual =>
+            Level::RelationalExpr,
+        Operator::Add | Operator::Subtract => Level::AdditiveExpr,
+        Operator::Multiply | Operator::Divide | Operator::Modulo => Level::MultiplicativeExpr,
+        Operator::Union => Level::UnionExpr,
+    }
+}
+
+/// The axis that a name is, where it is one.
+#[tactic(auto, unfolding(spec_expression::specs::Grammar::axis_named))]
+fn axis_named(name: &[char]) -> Option<Axis>
+    ensures { result ≡ grammar.axis_named name.now }
+{
+    if name == ['a', 'n', 'c', 'e', 's', 't', 'o', 'r'].as_slice() {
+        return Some(Axis::Ancestor);
+    }
+    if name
+        == [
+            'a', 'n', 'c', 'e', 's', 't', 'o', 'r', '-', 'o', 'r', '-', 's', 'e', 'l', 'f',
+        ]
+        .as_slice()
+    {
+        return Some(Axis::AncestorOrSelf);
+    }
+    if name == ['a', 't', 't', 'r', 'i', 'b', 'u', 't', 'e'].as_slice() {
+        return Some(Axis::Attribute);
+    }
+    if name == ['c', 'h', 'i', 'l', 'd'].as_slice() {
+        return Some(Axis::Child);
+    }
+    if name == ['d', 'e', 's', 'c', 'e', 'n', 'd', 'a', 'n', 't'].as_slice() {
+        return Some(Axis::Descendant);
+    }
+    if name
+        == [
+            'd', 'e', 's', 'c', 'e', 'n', 'd', 'a', 'n', 't', '-', 'o', 'r', '-', 's', 'e', 'l',
+            'f',
+        ]
+        .as_slice()
+    {
+        return Some(Axis::DescendantOrSelf);
+    }
+    if name == ['f', 'o', 'l', 'l', 'o', 'w', 'i', 'n', 'g'].as_slice() {
+        return Some(Axis::Following);
+    }
+    if name
+        == [
+            'f', 'o', 'l', 'l', 'o', 'w', 'i', 'n', 'g', '-', 's', 'i', 'b', 'l', 'i', 'n', 'g',
+        ]
+        .as_slice()
+    {
+        return Some(Axis::FollowingSibling);
+    }
+    if name == ['n', 'a', 'm', 'e', 's', 'p', 'a', 'c', 'e'].as_slice() {
+        return Some(Axis::Namespace);
+    }
+    if name == ['p', 'a', 'r', 'e', 'n', 't'].as_slice() {
+        return Some(Axis::Parent);
+    }
+    if name == ['p', 'r', 'e', 'c', 'e', 'd', 'i', 'n', 'g'].as_slice() {
+        return Some(Axis::Preceding);
+    }
+    if name
+        == [
+            'p', 'r', 'e', 'c', 'e', 'd', 'i', 'n', 'g', '-', 's', 'i', 'b', 'l', 'i', 'n', 'g',
+        ]
+        .as_slice()
+    {
+        return Some(Axis::PrecedingSibling);
+    }
+    if name == ['s', 'e', 'l', 'f'].as_slice() {
+        return Some(Axis::Itself);
+    }
+    None
+}
+
+/// The node type that a name is, where it is one.
+#[tactic(auto, unfolding(spec_expression::specs::Grammar::type_named))]
+fn type_named(name: &[char]) -> Option<NodeType>
+    ensures { result ≡ grammar.type_named name.now }
+{
+    if name == ['c', 'o', 'm', 'm', 'e', 'n', 't'].as_slice() {
+        return Some(NodeType::Comment);
+    }
+    if name == ['t', 'e', 'x', 't'].as_slice() {
+        return Some(NodeType::Text);
+    }
+    if name == PROCESSING_INSTRUCTION.as_slice() {
+        return Some(NodeType::ProcessingInstruction);
+    }
+    if name == ['n', 'o', 'd', 'e'].as_slice() {
+        return Some(NodeType::Node);
+    }
+    None
+}
+
+const PROCESSING_INSTRUCTION: [char; 22] = [
+    'p', 'r', 'o', 'c', 'e', 's', 's', 'i', 'n', 'g', '-', 'i', 'n', 's', 't', 'r', 'u', 'c', 't',
+    'i', 'o', 'n',
+];
+
+/// The node type that a name without a prefix is.
+pub fn type_of(name: Name<'_>) -> Option<NodeType>
+    ensures { result ≡ grammar.type_of (name_of name.entry) }
+{
+    match name.prefix {
+        None => type_named(name.local),
+        Some(_) => None,
+    }
+}
+
+/// The axis that a name without a prefix is.
+pub fn axis_of(name: Name<'_>) -> Option<Axis>
+    ensures { result ≡ grammar.axis_of (name_of name.entry) }
+{
+    match name.prefix {
+        None => axis_named(name.local),
+        Some(_) => None,
+    }
+}
