@@ -14,7 +14,7 @@ mod name;
 mod scope;
 mod split;
 
-pub use character::{is_char, is_space};
+pub use character::{is_char, is_name_part, is_name_start, is_space};
 pub use name::{Expanded, QName, is_ncname};
 pub use scope::Scope;
 pub use split::split_first;
