@@ -10,12 +10,18 @@
 #![tactic(auto)]
 
 mod character;
+mod declaration;
 mod name;
+mod namespaces;
+mod order;
 mod scope;
 mod split;
 
 pub use character::{is_char, is_name_part, is_name_start, is_space};
+pub use declaration::{Use, is_declaration, use_of};
 pub use name::{Expanded, QName, is_ncname};
+pub use namespaces::Namespace;
+pub use order::compare;
 pub use scope::Scope;
 pub use split::split_first;
 
@@ -119,5 +125,76 @@ mod tests {
     fn texts_are_cut_at_the_first_mark(rt: HostRuntime) {
         assert_eq!(rt; split_first("añb ñc", 'ñ'), Some(("a", "b ñc")));
         assert!(rt; split_first("ab", ' ').is_none());
+    }
+
+    #[test]
+    fn names_are_read_in_their_scope(rt: HostRuntime) -> Result<(), Fail> {
+        let alloc = rt.alloc();
+        let mut scope = Scope::root(alloc)?;
+        for (name, value) in [
+            ("xmlns", "urn:d"),
+            ("xmlns:p", "urn:p"),
+            ("p:xmlns", "1"),
+            ("xmlns:", "2"),
+        ] {
+            scope.declare(alloc, name, value)?;
+        }
+        for (name, element, attribute) in [
+            ("a", Some("urn:d"), Some("")),
+            ("p:a", Some("urn:p"), Some("urn:p")),
+            ("q:a", None, None),
+            ("xmlns:a", None, None),
+        ] {
+            let qname = QName::read(alloc, name)?.ok_or("no name")?;
+            let found = scope.element_name(alloc, &qname)?;
+            assert_eq!(rt; found.as_ref().map(|e| e.uri().as_str()), element, "{name}");
+            let found = scope.attribute_name(alloc, &qname)?;
+            assert_eq!(rt;
+                found.as_ref().map(|e| e.uri().as_str()),
+                attribute,
+                "{name}"
+            );
+        }
+        for (name, declares) in [
+            ("xmlns", true),
+            ("xmlns:p", true),
+            ("xmlns:xmlns", true),
+            ("xmlnsp", false),
+            ("p:xmlns", false),
+            ("xmlns:", false),
+            ("xmlns:a:b", false),
+        ] {
+            assert_eq!(rt; is_declaration(alloc, name)?, declares, "{name}");
+        }
+        Ok(())
+    }
+
+    #[test]
+    fn namespaces_stand_in_code_point_order(rt: HostRuntime) -> Result<(), Fail> {
+        let alloc = rt.alloc();
+        let mut scope = Scope::root(alloc)?;
+        for (prefix, uri) in [
+            ("z", "1"),
+            ("𐀀", "2"),
+            ("\u{FFFD}", "3"),
+            ("z", "4"),
+            ("", "5"),
+        ] {
+            scope.bind(prefix, uri)?;
+        }
+        let mut listed = Text::new(alloc);
+        for namespace in &scope.namespaces(alloc)? {
+            listed.push_str(namespace.prefix.as_str())?;
+            listed.push('=')?;
+            listed.push_str(namespace.uri.as_str())?;
+            listed.push(' ')?;
+        }
+        assert_eq!(rt;
+            listed.as_str(),
+            "=5 xml=http://www.w3.org/XML/1998/namespace z=4 \u{FFFD}=3 𐀀=2 "
+        );
+        scope.bind("", "")?;
+        assert_eq!(rt; scope.namespaces(alloc)?.len(), 4);
+        Ok(())
     }
 }

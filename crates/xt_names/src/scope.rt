@@ -1,9 +1,13 @@
 // The namespaces in scope (Namespaces in XML 1.0, section 6).
-ghost use Rattle.std.specs.Prelude.{◌≡◌, IfOk, OnOk, OnErr, codes};
+ghost use Rattle.std.specs.Prelude.{◌≡◌, map, IfOk, OnOk, OnErr, codes};
+ghost use Rattle.std.specs.List.{filter};
 ghost use Rattle.std.specs.Option.{option_copied};
 ghost use Rattle.std.specs.Str.{chars};
 ghost use Rattle.spec_document.specs.Scope as spec;
+ghost use Rattle.spec_document.specs.Declaration.{namespaces_in, is_there};
+ghost use Rattle.xt_names.specs.View.{entry_of};
 
+use crate::namespaces::{Namespace, put};
 use std::alloc::Global;
 use std::collections::VecDeque;
 use std::marker::Model;
@@ -90,4 +94,36 @@ impl Scope {
         }
         Ok(Scope { bindings })
     }
+
+    /// The namespaces in scope, each in memory of its own: the default one first where it has a URI,
+    /// then by prefix in code point order, `xml` among them.
+    pub fn namespaces(&self, alloc: Global) -> Result<Vec<Namespace>, Memory>
+        ensures { IfOk result (λ list. map entry_of list.items ≡ namespaces_in self.now) }
+    {
+        let mut list = Vec::new(alloc);
+        let mut left = self.bindings.len();
+        while left > 0 {
+            left -= 1;
+            let binding = &self.bindings[left];
+            let namespace = Namespace {
+                prefix: binding.prefix.copy(alloc)?,
+                uri: binding.uri.copy(alloc)?,
+            };
+            put(&mut list, namespace)?;
+        }
+        declared(alloc, list)
+    }
+}
+
+// The namespaces that have a URI.
+fn declared(alloc: Global, list: Vec<Namespace>) -> Result<Vec<Namespace>, Memory>
+    ensures { IfOk result (λ kept. map entry_of kept.items ≡ filter (λ n. is_there n.1) (map entry_of list.items)) }
+{
+    let mut kept = Vec::new(alloc);
+    for namespace in list {
+        if !namespace.uri.is_empty() {
+            kept.push(namespace)?;
+        }
+    }
+    Ok(kept)
 }

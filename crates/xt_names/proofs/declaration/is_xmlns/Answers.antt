@@ -1,0 +1,20 @@
+use Rattle.std.proofs.Common.{◌≡◌, ℕ, List, refl, ap, ◌∙◌, codes}
+use Rattle.std.specs.Prelude.{bytes_eq}
+use Rattle.std.specs.Str.{chars, IsUtf8}
+use lib.Utf8.{encode}
+use Rattle.xt_text.proofs.Chars.{same_chars}
+use Rattle.spec_document.specs.Declaration.{is_xmlns}
+use Rattle.xt_names.proofs.declaration.is_xmlns.Goals as goal
+
+word_utf8 : IsUtf8 (codes "xmlns")
+unfolding encode
+word_utf8 = (codes "xmlns", (refl, refl))
+
+word_chars : chars (codes "xmlns") ≡ codes "xmlns"
+unfolding chars
+word_chars = refl
+
+pub returns : goal.returns
+returns c =
+    c.eq.ensures ∙ same_chars c.as_str.result.now (codes "xmlns") c.as_str.utf8 word_utf8
+    ∙ ap (bytes_eq (chars c.as_str.result.now)) word_chars ∙ ap (λ t. bytes_eq t (codes "xmlns")) c.as_str.ensures.characters
