@@ -1,0 +1,11 @@
+use Rattle.std.proofs.Common.{◌∷◌, [], ◌∙◌, ap}
+use Rattle.xt_tree.specs.View.{forest_of, forest, tree_of, followed}
+use Rattle.xt_tree.proofs.Views.{forest_of-append}
+use Rattle.xt_tree.proofs.doc.Nodes.push.Goals as goal
+
+pub returns-clause-ok : goal.returns-clause-ok
+returns-clause-ok c =
+    let xs = c.self.inside.list.items in
+    ap forest_of c.in_ok-push.ensures.items ∙ forest_of-append xs (c.in_ok-shared.shared ∷ [])
+    ∙ ap (λ n. followed (forest_of xs) (forest (tree_of n ∷ []))) c.in_ok-shared.ensures.ok
+    ∙ ap (λ f. followed f (forest (tree_of c.args.node ∷ []))) c.self.view_is

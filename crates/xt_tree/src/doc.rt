@@ -1,0 +1,336 @@
+// Documents, and siblings that are to stand in one.
+ghost use Rattle.std.specs.Prelude.{◌≡◌, ◌==◌, map, IfOk, OnOk, OnErr, ◌∷◌, [], MatchOption, IsSome, Some, None};
+ghost use Rattle.std.specs.Option.{option_map, option_and_then, ForSome};
+ghost use Rattle.spec_document.specs.Name.{qname_of};
+ghost use Rattle.spec_document.specs.Declaration.{namespaces_in, attribute_name};
+ghost use Rattle.spec_document.specs.Place.{TreeNode, expanded_name, name_by, node_at, scope_at, kind_of, kind_by, string_value, string_value_by, attributes_of, at_number};
+ghost use Rattle.xt_tree.specs.View.{itself, IsWayTo, item_of, numbered_node, written_of, followed, forest, forest_of, tree_of};
+ghost use Rattle.xt_tree.specs.Numbers.{IsNumbered};
+ghost use Rattle.spec_document.specs.Forest as spec;
+
+use crate::find::{find, lead, push_texts, push_value, sibling_at};
+use crate::part::{attribute_at, attribute_name, content_name, enter, namespace_at};
+use crate::{Node, NodeId, NodeRef, Part, Written};
+use spec_document::Kind;
+use std::alloc::Global;
+use std::marker::Model;
+use std::rc::Rc;
+use xt_names::{Expanded, Scope};
+use xt_text::{Memory, Path, Text};
+
+/// A document: its root and what is below it. Its nodes have distinct numbers below 2^62. Contracts see
+/// the plain tree with the numbers as labels.
+#[derive(Drop)]
+pub struct Doc {
+    root: NodeId,
+    children: Vec<Rc<Node>>,
+}
+
+impl Model for Doc {
+    ghost use Rattle.std.specs.Prelude.{ℕ, map};
+    ghost use Rattle.spec_document.specs.Forest as spec;
+    ghost use Rattle.xt_tree.specs.Code.{document_code};
+
+    ghost Value = { spec.Document ℕ };
+
+    ghost coded = { document_code };
+
+    ghost use Rattle.xt_tree.specs.View.{forest_of};
+    ghost use Rattle.xt_tree.specs.Numbers.{IsNumbered};
+
+    ghost view = { λ d. record { root = d.root.number; nodes = forest_of d.children.items } };
+
+    ghost invariant = { λ d. IsNumbered (record { root = d.root.number; nodes = forest_of d.children.items }) };
+}
+
+/// Siblings in their order, with what is below them. Contracts see the forest with the numbers as labels.
+#[derive(Drop)]
+pub struct Nodes {
+    list: Vec<Rc<Node>>,
+}
+
+impl Model for Nodes {
+    ghost use Rattle.std.specs.Prelude.{ℕ, map};
+    ghost use Rattle.spec_document.specs.Forest as spec;
+    ghost use Rattle.xt_tree.specs.Code.{forest_code};
+
+    ghost Value = { spec.Forest ℕ };
+
+    ghost coded = { forest_code };
+
+    ghost use Rattle.xt_tree.specs.View.{forest_of};
+
+    ghost view = { λ n. forest_of n.list.items };
+}
+
+impl Nodes {
+    /// No node. Takes no memory.
+    pub fn new(alloc: Global) -> Nodes
+        ensures { result ≡ spec.Empty }
+    {
+        Nodes {
+            list: Vec::new(alloc),
+        }
+    }
+
+    /// Adds the node as the last sibling. After want of memory the siblings are as before.
+    pub fn push(&mut self, alloc: Global, node: Node) -> Result<(), Memory>
+        ensures ok { OnOk result (self.new ≡ followed self.old (forest (tree_of node ∷ []))) }
+        ensures err { OnErr result (self.new ≡ self.old) }
+    {
+        let shared = Rc::new(alloc, node)?;
+        self.list.push(shared)?;
+        Ok(())
+    }
+
+    /// The siblings in their order.
+    pub fn list(&self) -> &[Rc<Node>]
+        ensures { forest_of result.now ≡ self.now }
+    {
+        self.list.as_slice()
+    }
+
+    /// The siblings as the children of a node.
+    pub fn into_list(self) -> Vec<Rc<Node>>
+        ensures { forest_of result.items ≡ self }
+    {
+        self.list
+    }
+}
+
+impl Doc {
+    /// The document with this root and these nodes below it. Takes no memory.
+    pub fn new(root: NodeId, nodes: Nodes) -> Doc
+        requires { IsNumbered (record { root = root.number; nodes = nodes }) }
+        ensures { result ≡ record { root = root.number; nodes = nodes } }
+    {
+        Doc {
+            root,
+            children: nodes.into_list(),
+        }
+    }
+
+    /// The nodes directly below the root, in their order.
+    pub fn children(&self) -> &[Rc<Node>]
+        ensures { forest_of result.now ≡ self.now.nodes }
+    {
+        self.children.as_slice()
+    }
+
+    /// The number of the root.
+    pub fn root(&self) -> NodeId
+        ensures { result.number ≡ self.now.root }
+    {
+        self.root
+    }
+
+    /// The node that the path leads to. None exactly where it leaves the tree. Takes no memory.
+    pub fn at(&self, path: &Path) -> Option<NodeRef>
+        ensures number { result ≡ option_map (λ node. itself node.label) (node_at self.now path.now) }
+        ensures item { option_and_then (item_of self.now) result ≡ option_map TreeNode (node_at self.now path.now) }
+    {
+        let mut id = self.root;
+        let mut siblings = self.children.as_slice();
+        for position in path.positions() {
+            let node = sibling_at(siblings, *position)?;
+            id = node.id;
+            siblings = node.children.as_slice();
+        }
+        Some(NodeRef::of(id))
+    }
+
+    /// The path of the node, or of the element that the attribute or namespace node belongs to. None
+    /// exactly where no node of the tree has its number.
+    pub fn place(&self, alloc: Global, node: &NodeRef) -> Result<Option<Path>, Memory>
+        ensures { IfOk result (λ place. IsWayTo self.now node.now.node.number place) }
+    {
+        let mut path = Path::new(alloc);
+        if self.root == node.node {
+            return Ok(Some(path));
+        }
+        if lead(&mut path, self.children.as_slice(), node.node)? {
+            return Ok(Some(path));
+        }
+        Ok(None)
+    }
+
+    /// The kind of a node of the tree. Takes no memory.
+    pub fn kind(&self, node: &NodeRef) -> Kind
+        requires { IsSome (item_of self.now node.now) }
+        ensures { option_map kind_of (item_of self.now node.now) ≡ Some result }
+    {
+        match node.part {
+            Part::Attribute(_) => Kind::Attribute,
+            Part::Namespace(_) => Kind::Namespace,
+            Part::Itself => self.own_kind(node.node),
+        }
+    }
+
+    // The kind of the node of this number, or of the root.
+    fn own_kind(&self, id: NodeId) -> Kind
+        ensures { ForSome (numbered_node self.now id.number) (λ node. result ≡ kind_by node.content) }
+    {
+        if self.root == id {
+            return Kind::Root;
+        }
+        match find(self.children.as_slice(), id) {
+            None => Kind::Root,
+            Some(node) => node.content.kind(),
+        }
+    }
+
+    // The scope inside the node that the path leads to, where it leads to one.
+    fn scope_along(&self, alloc: Global, path: &Path) -> Result<Scope, Memory>
+        ensures { IfOk result (λ scope. ForSome (node_at self.now path.now) (λ node. scope ≡ scope_at node)) }
+    {
+        let mut scope = Scope::root(alloc)?;
+        let mut siblings = self.children.as_slice();
+        for position in path.positions() {
+            match sibling_at(siblings, *position) {
+                None => return Ok(scope),
+                Some(node) => {
+                    enter(alloc, &mut scope, &node.content)?;
+                    siblings = node.children.as_slice();
+                }
+            }
+        }
+        Ok(scope)
+    }
+
+    // The scope at the node of this number, where there is one.
+    fn scope_of(&self, alloc: Global, node: &NodeRef) -> Result<Scope, Memory>
+        ensures { IfOk result (λ scope. ForSome (numbered_node self.now node.now.node.number) (λ node. scope ≡ scope_at node)) }
+    {
+        match self.place(alloc, node)? {
+            None => Scope::root(alloc),
+            Some(path) => self.scope_along(alloc, &path),
+        }
+    }
+
+    /// The string-value of a node of the tree (XPath 1.0, section 5): of the root and an element the texts
+    /// below, of an attribute its value, of a namespace node its URI, of any other node its content.
+    pub fn string_value(&self, alloc: Global, node: &NodeRef) -> Result<Text, Memory>
+        requires { IsSome (item_of self.now node.now) }
+        ensures { IfOk result (λ text. option_map string_value (item_of self.now node.now) ≡ Some text) }
+    {
+        match node.part {
+            Part::Itself => self.own_value(alloc, node.node),
+            Part::Attribute(number) => self.attribute_value(alloc, node.node, number),
+            Part::Namespace(number) => self.namespace_uri(alloc, node, number),
+        }
+    }
+
+    fn own_value(&self, alloc: Global, id: NodeId) -> Result<Text, Memory>
+        ensures { IfOk result (λ text. ForSome (numbered_node self.now id.number) (λ node. text ≡ string_value_by node.content node.children)) }
+    {
+        let mut text = Text::new(alloc);
+        if self.root == id {
+            push_texts(&mut text, self.children.as_slice())?;
+            return Ok(text);
+        }
+        match find(self.children.as_slice(), id) {
+            None => Ok(text),
+            Some(node) => {
+                push_value(&mut text, node)?;
+                Ok(text)
+            }
+        }
+    }
+
+    // The attribute of this number of the node, where there is one.
+    fn attribute(&self, alloc: Global, id: NodeId, number: u64) -> Result<Option<&Written>, Memory>
+        ensures { IfOk result (λ found. ForSome (numbered_node self.now id.number) (λ node. option_map (λ a. written_of a.now) found ≡ at_number number (attributes_of node))) }
+    {
+        if self.root == id {
+            return Ok(None);
+        }
+        match find(self.children.as_slice(), id) {
+            None => Ok(None),
+            Some(node) => attribute_at(alloc, &node.content, number),
+        }
+    }
+
+    fn attribute_value(&self, alloc: Global, id: NodeId, number: u64) -> Result<Text, Memory>
+        ensures { IfOk result (λ text. ForSome (numbered_node self.now id.number) (λ node. ForSome (at_number number (attributes_of node)) (λ a. text ≡ a.value))) }
+    {
+        match self.attribute(alloc, id, number)? {
+            None => Ok(Text::new(alloc)),
+            Some(attribute) => attribute.value.copy(alloc),
+        }
+    }
+
+    // The namespaces in scope at a node. The condition that it is an element is the caller's.
+    fn namespace_uri(&self, alloc: Global, node: &NodeRef, number: u64) -> Result<Text, Memory>
+        ensures { IfOk result (λ text. ForSome (numbered_node self.now node.now.node.number) (λ found. ForSome (at_number number (namespaces_in (scope_at found))) (λ n. text ≡ n.1))) }
+    {
+        let namespaces = self.scope_of(alloc, node)?.namespaces(alloc)?;
+        match namespace_at(namespaces.as_slice(), number) {
+            None => Ok(Text::new(alloc)),
+            Some(namespace) => namespace.uri.copy(alloc),
+        }
+    }
+
+    /// The expanded name of a node of the tree (XPath 1.0, section 5). None exactly for the root, a text
+    /// and a comment, and where a prefix is not declared; a processing instruction has its target as local
+    /// part and a namespace node its prefix, both in no namespace.
+    pub fn name(&self, alloc: Global, node: &NodeRef) -> Result<Option<Expanded>, Memory>
+        requires { IsSome (item_of self.now node.now) }
+        ensures { IfOk result (λ name. option_map expanded_name (item_of self.now node.now) ≡ Some name) }
+    {
+        match node.part {
+            Part::Itself => self.own_name(alloc, node),
+            Part::Attribute(number) => self.attribute_name(alloc, node, number),
+            Part::Namespace(number) => self.namespace_name(alloc, node, number),
+        }
+    }
+
+    fn own_name(&self, alloc: Global, node: &NodeRef) -> Result<Option<Expanded>, Memory>
+        ensures { IfOk result (λ name. ForSome (numbered_node self.now node.now.node.number) (λ found. name ≡ name_by found.content (scope_at found))) }
+    {
+        if self.root == node.node {
+            return Ok(None);
+        }
+        match find(self.children.as_slice(), node.node) {
+            None => Ok(None),
+            Some(found) => {
+                let scope = self.scope_of(alloc, node)?;
+                content_name(alloc, &found.content, &scope)
+            }
+        }
+    }
+
+    fn attribute_name(
+        &self,
+        alloc: Global,
+        node: &NodeRef,
+        number: u64,
+    ) -> Result<Option<Expanded>, Memory>
+        ensures { IfOk result (λ name. ForSome (numbered_node self.now node.now.node.number) (λ found. ForSome (at_number number (attributes_of found))
+            (λ a. name ≡ option_and_then (attribute_name (scope_at found)) (qname_of a.name)))) }
+    {
+        let scope = self.scope_of(alloc, node)?;
+        match self.attribute(alloc, node.node, number)? {
+            None => Ok(None),
+            Some(attribute) => attribute_name(alloc, attribute.name.as_str(), &scope),
+        }
+    }
+
+    fn namespace_name(
+        &self,
+        alloc: Global,
+        node: &NodeRef,
+        number: u64,
+    ) -> Result<Option<Expanded>, Memory>
+        ensures { IfOk result (λ name. ForSome (numbered_node self.now node.now.node.number) (λ found. ForSome (at_number number (namespaces_in (scope_at found)))
+            (λ n. name ≡ Some (record { uri = []; local = n.0 })))) }
+    {
+        let namespaces = self.scope_of(alloc, node)?.namespaces(alloc)?;
+        match namespace_at(namespaces.as_slice(), number) {
+            None => Ok(None),
+            Some(namespace) => Ok(Some(Expanded::new(
+                Text::new(alloc),
+                namespace.prefix.copy(alloc)?,
+            ))),
+        }
+    }
+}

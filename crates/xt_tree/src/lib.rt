@@ -1,0 +1,21 @@
+//! Documents as shared trees whose nodes have numbers. Contracts see a `Doc` as the plain tree with
+//! its numbers; how a node is found by its number is nobody else's concern.
+//!
+//! ```text
+//! let element = doc.at(&path);               // the node at child positions, each from 1
+//! let text = doc.string_value(alloc, &node)?;   // the texts below an element
+//! ```
+#![tactic(auto)]
+
+mod doc;
+mod find;
+mod node;
+mod node_ref;
+mod part;
+#[cfg(test)]
+mod tests;
+
+pub use doc::{Doc, Nodes};
+pub use node::{Content, Node, Written};
+pub use node_ref::{NodeId, NodeRef, Part};
+pub use spec_document::Kind;

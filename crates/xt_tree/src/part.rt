@@ -1,0 +1,127 @@
+// Parts of nodes: their attributes, and the namespaces in scope at them.
+ghost use Rattle.std.specs.Prelude.{◌≡◌, Some, map, not, IfOk, OnOk};
+ghost use Rattle.std.specs.Option.{option_map, option_and_then};
+ghost use Rattle.std.specs.Str.{chars};
+ghost use Rattle.spec_document.specs.Name.{qname_of};
+ghost use Rattle.spec_document.specs.Declaration as spec;
+ghost use Rattle.std.specs.List.{filter};
+ghost use Rattle.spec_document.specs.Declaration.{is_declaration, declared_all, within};
+ghost use Rattle.spec_document.specs.Place.{at_number, attributes_in, name_by};
+ghost use Rattle.xt_names.specs.View.{entry_of};
+ghost use Rattle.xt_tree.specs.View.{written_of, content_of};
+
+use crate::{Content, Written};
+use std::alloc::Global;
+use xt_names::{Expanded, Namespace, QName, Scope, is_declaration};
+use xt_text::{Memory, Text};
+
+/// The attribute of this number, from 1.
+pub fn attribute_at<'a>(
+    alloc: Global,
+    content: &'a Content,
+    number: u64,
+) -> Result<Option<&'a Written>, Memory>
+    ensures { IfOk result (λ found. option_map (λ a. written_of a.now) found ≡ at_number number (attributes_in (Some (content_of content.now)))) }
+{
+    match content {
+        Content::Element { attributes, .. } => {
+            nth_attribute(alloc, attributes.as_slice(), number)
+        }
+        Content::Text { .. } | Content::Comment { .. } | Content::Instruction { .. } => Ok(None),
+    }
+}
+
+// The attribute of this number among those that are no declarations.
+fn nth_attribute<'a>(
+    alloc: Global,
+    attributes: &'a [Written],
+    number: u64,
+) -> Result<Option<&'a Written>, Memory>
+    ensures { IfOk result (λ found. option_map (λ a. written_of a.now) found ≡ at_number number (filter (λ a. not (is_declaration a)) (map written_of attributes.now))) }
+{
+    let mut left = number;
+    for attribute in attributes {
+        if !is_declaration(alloc, attribute.name.as_str())? {
+            if left == 1 {
+                return Ok(Some(attribute));
+            }
+            left = left.saturating_sub(1);
+        }
+    }
+    Ok(None)
+}
+
+/// Adds to the scope what an element declares.
+pub fn enter(alloc: Global, scope: &mut Scope, content: &Content) -> Result<(), Memory>
+    ensures { OnOk result (scope.new ≡ within (content_of content.now) scope.old) }
+{
+    match content {
+        Content::Element { attributes, .. } => declare_all(alloc, scope, attributes.as_slice()),
+        Content::Text { .. } | Content::Comment { .. } | Content::Instruction { .. } => Ok(()),
+    }
+}
+
+fn declare_all(alloc: Global, scope: &mut Scope, attributes: &[Written]) -> Result<(), Memory>
+    ensures { OnOk result (scope.new ≡ declared_all (map written_of attributes.now) scope.old) }
+{
+    for attribute in attributes {
+        scope.declare(alloc, attribute.name.as_str(), attribute.value.as_str())?;
+    }
+    Ok(())
+}
+
+/// The namespace of this number, from 1.
+pub fn namespace_at(namespaces: &[Namespace], number: u64) -> Option<&Namespace>
+    ensures { option_map (λ n. entry_of n.now) result ≡ at_number number (map entry_of namespaces.now) }
+{
+    let mut left = number;
+    for namespace in namespaces {
+        if left == 1 {
+            return Some(namespace);
+        }
+        left = left.saturating_sub(1);
+    }
+    None
+}
+
+/// The expanded name of a node of the tree with this content, which stands with its declarations in this
+/// scope.
+pub fn content_name(
+    alloc: Global,
+    content: &Content,
+    scope: &Scope,
+) -> Result<Option<Expanded>, Memory>
+    ensures { IfOk result (λ name. name ≡ name_by (Some (content_of content.now)) scope.now) }
+{
+    match content {
+        Content::Element { name, .. } => element_name(alloc, name.as_str(), scope),
+        Content::Instruction { target, .. } => Ok(Some(Expanded::new(
+            Text::new(alloc),
+            target.copy(alloc)?,
+        ))),
+        Content::Text { .. } | Content::Comment { .. } => Ok(None),
+    }
+}
+
+fn element_name(alloc: Global, written: &str, scope: &Scope) -> Result<Option<Expanded>, Memory>
+    ensures { IfOk result (λ name. name ≡ option_and_then (spec.element_name scope.now) (qname_of (chars written.now))) }
+{
+    match QName::read(alloc, written)? {
+        None => Ok(None),
+        Some(name) => scope.element_name(alloc, &name),
+    }
+}
+
+/// The expanded name of an attribute of this written name in this scope.
+pub fn attribute_name(
+    alloc: Global,
+    written: &str,
+    scope: &Scope,
+) -> Result<Option<Expanded>, Memory>
+    ensures { IfOk result (λ name. name ≡ option_and_then (spec.attribute_name scope.now) (qname_of (chars written.now))) }
+{
+    match QName::read(alloc, written)? {
+        None => Ok(None),
+        Some(name) => scope.attribute_name(alloc, &name),
+    }
+}
