@@ -1,0 +1,87 @@
+// Names that instructions make, and the namespaces for them (XSLT 1.0, section 7.1).
+ghost use Rattle.std.specs.Prelude.{◌≡◌, List};
+ghost use Rattle.std.specs.Bool.{Decides};
+ghost use Rattle.spec_document.specs.Name as name;
+ghost use Rattle.xp_syntax.specs.Trees as trees;
+ghost use Rattle.xp_syntax.specs.TreeView.{made_name_of, namespace_of};
+
+use crate::alike::{Alike, all_alike, both_alike};
+use crate::avt::Avt;
+use xt_names::Expanded;
+use xt_text::Text;
+
+/// A namespace in scope: its prefix, empty for the default namespace, and its URI (Namespaces in XML
+/// 1.0, section 6).
+#[derive(Drop)]
+pub struct Namespace {
+    pub prefix: Text,
+    pub uri: Text,
+}
+
+/// The name that an xsl:element or xsl:attribute makes (XSLT 1.0, sections 7.1.2 and 7.1.3).
+#[derive(Drop)]
+pub struct MadeName {
+    pub name: Avt,
+    /// Its namespace where one is told, else the prefix of the name finds it.
+    pub namespace: Option<Avt>,
+    /// The namespaces in scope of the instruction.
+    pub scope: Vec<Namespace>,
+}
+
+impl Namespace {
+    /// Whether both have the same prefix and the same URI. Takes no memory.
+    pub fn same(&self, other: &Namespace) -> bool
+        ensures { Decides result (namespace_of self.now ≡ namespace_of other.now) }
+    {
+        self.prefix.same(&other.prefix) && self.uri.same(&other.uri)
+    }
+}
+
+impl Alike for Namespace {
+    ghost Seen = { trees.Namespace };
+
+    ghost seen = { namespace_of };
+
+    fn alike(&self, other: &Namespace) -> bool {
+        self.same(other)
+    }
+}
+
+impl MadeName {
+    /// Whether both are the same tree. Takes no memory.
+    pub fn same(&self, other: &MadeName) -> bool
+        ensures { Decides result (made_name_of self.now ≡ made_name_of other.now) }
+    {
+        self.name.same(&other.name)
+            && both_alike(&self.namespace, &other.namespace)
+            && all_alike(self.scope.as_slice(), other.scope.as_slice())
+    }
+}
+
+impl Alike for Expanded {
+    ghost Seen = { name.Expanded };
+
+    ghost seen = { λ n. n };
+
+    fn alike(&self, other: &Expanded) -> bool {
+        self.same(other)
+    }
+}
+
+/// Whether both lists have the same names in the same order.
+pub(crate) fn same_names(list: &[Expanded], others: &[Expanded]) -> bool
+    ensures { Decides result (list.now ≡ others.now) }
+{
+    all_alike(list, others)
+}
+
+/// Whether both are the same name, or neither is one.
+pub(crate) fn same_name(one: &Option<Expanded>, other: &Option<Expanded>) -> bool
+    ensures { Decides result (one.now ≡ other.now) }
+{
+    match (one, other) {
+        (None, None) => true,
+        (Some(name), Some(other)) => name.same(other),
+        _ => false,
+    }
+}
