@@ -225,6 +225,25 @@ mod tests {
             ("f(1, 'x', g())/a", "tree"),
             ("f(1,)", "S10"),
             ("p:f(*)", "tree"),
+            ("p:text()", "tree"),
+            ("text(1)", "S10"),
+            ("node()", "tree"),
+            ("processing-instruction()", "tree"),
+            ("ancestor::a/ancestor-or-self::a", "tree"),
+            ("descendant::a/descendant-or-self::a", "tree"),
+            ("following::a/following-sibling::a", "tree"),
+            ("preceding::a/preceding-sibling::a", "tree"),
+            ("namespace::p/parent::a/self::*", "tree"),
+            ("attribute::p:*/child::node()", "tree"),
+            ("(a | $b)[1][2]//c", "tree"),
+            ("'x'[1]/a", "tree"),
+            ("/a[@*][not(.)]/..", "tree"),
+            (".[1]", "S10"),
+            ("a/", "S10"),
+            ("/a//", "S10"),
+            ("a[]", "S10"),
+            ("()", "S10"),
+            ("@@a", "S10"),
             ("1.", "tree"),
             ("1.0", "tree"),
             (".5", "S13"),
@@ -287,7 +306,30 @@ mod tests {
     }
 
     #[test]
-    fn long_and_deep_texts_are_read(rt: HostRuntime) -> Result<(), Fail> {
+    fn at_most_64_brackets_are_open(rt: HostRuntime) -> Result<(), Fail> {
+        for (opening, times, inside, closing, expected) in [
+            ("(", 64, "1", ")", "tree"),
+            ("(", 64, "(1)", ")", "S12"),
+            ("a[(", 32, "1", ")]", "tree"),
+            ("a[(", 32, "(1)", ")]", "S12"),
+            ("a[(", 32, "a[1]", ")]", "S12"),
+            ("a[(", 31, "f(1)/a[f(2)]", ")]", "tree"),
+        ] {
+            let mut text = repeated(rt.alloc(), "", opening, times, inside)?;
+            for _ in 0..times {
+                text.push_str(closing)?;
+            }
+            assert_eq!(rt;
+                outcome(rt.alloc(), text.as_str())?,
+                expected,
+                "{opening} {times} {inside}"
+            );
+        }
+        Ok(())
+    }
+
+    #[test]
+    fn long_texts_are_read(rt: HostRuntime) -> Result<(), Fail> {
         for (first, piece, times, last, expected) in [
             ("1", "+1", 19_999, "", "tree"),
             ("", "-", 20_001, "1", "tree"),
