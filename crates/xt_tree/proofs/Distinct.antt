@@ -1,5 +1,5 @@
 -- Where numbers are distinct, the number of a node leads to that node.
-use Rattle.std.proofs.Common.{◌≡◌, ℕ, ◌-◌, Bool, true, false, cond, not, List, [], ◌∷◌, ◌++◌, ◌==◌, Option, Some, None, refl, sym, ap, ◌∙◌, subst, eq-eqb}
+use Rattle.std.proofs.Common.{◌≡◌, ◌≢◌, arith, ℕ, ◌-◌, Bool, true, false, cond, not, List, [], ◌∷◌, ◌++◌, ◌==◌, Option, Some, None, refl, sym, ap, ◌∙◌, subst, eq-eqb}
 use Rattle.std.specs.Prelude.{◌&&◌, ◌||◌, nat_lt}
 use Rattle.std.specs.Option.{option_map, option_and_then, option_or}
 use Rattle.std.specs.List.{list_any, list_all}
@@ -9,7 +9,7 @@ use Rattle.std.proofs.lemmas.List.Folds.{list_any-append}
 use Rattle.spec_document.specs.Forest as spec
 use Rattle.spec_document.specs.Place.{Found, found_in, TreeNode, child_at, node_from, node_at, root_of, first_in}
 use Rattle.xt_tree.specs.Numbers.{are_distinct, IsNumbered}
-use Rattle.xt_tree.specs.View.{numbered_node, itself, item_of}
+use Rattle.xt_tree.specs.View.{numbered_node, itself, item_of, IsWayTo}
 
 abbrev is_among : ℕ → List ℕ → Bool
 is_among n ns = list_any (λ m. m == n) ns
@@ -151,3 +151,107 @@ item_found document ps (Some x) h e =
 pub item_at_number : (document : spec.Document ℕ) (ps : List ℕ) → IsNumbered document
     → option_and_then (item_of document) (option_map (λ node. itself node.label) (node_at document ps)) ≡ option_map TreeNode (node_at document ps)
 item_at_number document ps h = item_found document ps (node_at document ps) h refl
+
+-- ---- The only way to a node
+
+-- whatever a node leads to is that node or below it
+among_from : (l : ℕ) (c : spec.Content) (f : spec.Forest ℕ) (above : List spec.Content) (ps : List ℕ) (x : Found ℕ) → are_distinct (spec.labels f) ≡ true
+    → node_from ps (found_in above l c f) ≡ Some x → is_among x.label (l ∷ spec.labels f) ≡ true
+among_from l c f above [] x h e = or_left (l == x.label) _ (eq-eqb l x.label (ap (λ n. n.label) (some_same (found_in above l c f) x e)))
+among_from l c f above (p ∷ ps) x h e = or_right (l == x.label) _ (found_first f (c ∷ above) p ps x h e).among
+
+-- it is not below itself
+not_below : (l : ℕ) (c : spec.Content) (f : spec.Forest ℕ) (above : List spec.Content) (p : ℕ) (ps : List ℕ) (x : Found ℕ) → are_distinct (l ∷ spec.labels f) ≡ true
+    → found_in above l c f ≡ x → option_and_then (node_from ps) (child_at (c ∷ above) f p) ≡ Some x → ⊥
+not_below l c f above p ps x h is e =
+    let parts = and_parts (not (is_among l (spec.labels f))) (are_distinct (spec.labels f)) h in
+    apart (is_among l (spec.labels f)) (ap (λ n. is_among n.label (spec.labels f)) is ∙ (found_first f (c ∷ above) p ps x parts.1 e).among) (not_false _ parts.0)
+
+abbrev SameWays : spec.Forest ℕ → List spec.Content → Found ℕ → Type 0
+SameWays f above x =
+    (p q : ℕ) (ps qs : List ℕ) → option_and_then (node_from ps) (child_at above f p) ≡ Some x → option_and_then (node_from qs) (child_at above f q) ≡ Some x
+    → (p ≡ q) × (ps ≡ qs)
+
+same_from : (l : ℕ) (c : spec.Content) (f : spec.Forest ℕ) (above : List spec.Content) (x : Found ℕ) → are_distinct (l ∷ spec.labels f) ≡ true → SameWays f (c ∷ above) x
+    → (ps qs : List ℕ) → node_from ps (found_in above l c f) ≡ Some x → node_from qs (found_in above l c f) ≡ Some x → ps ≡ qs
+same_from l c f above x h below [] [] d e = refl
+same_from l c f above x h below [] (q ∷ qs) d e = absurd (not_below l c f above q qs x h (some_same (found_in above l c f) x d) e)
+same_from l c f above x h below (p ∷ ps) [] d e = absurd (not_below l c f above p ps x h (some_same (found_in above l c f) x e) d)
+same_from l c f above x h below (p ∷ ps) (q ∷ qs) d e = let same = below p q ps qs d e in λ i. same.0 i ∷ same.1 i
+
+-- what is found from a node is not among the siblings behind it
+not_behind : (l : ℕ) (c : spec.Content) (f g : spec.Forest ℕ) (above : List spec.Content) (q : ℕ) (ps qs : List ℕ) (x : Found ℕ)
+    → are_distinct (l ∷ spec.labels f ++ spec.labels g) ≡ true → node_from ps (found_in above l c f) ≡ Some x → option_and_then (node_from qs) (child_at above g q) ≡ Some x → ⊥
+not_behind l c f g above q ps qs x h d e =
+    let parts = distinct_parts (l ∷ spec.labels f) (spec.labels g) h in
+    let own = and_parts (not (is_among l (spec.labels f))) (are_distinct (spec.labels f)) parts.0 in
+    let behind = (found_first g above q qs x parts.1 e).among in
+    apart (is_among x.label (l ∷ spec.labels f)) (among_from l c f above ps x own.1 d) (not_before (l ∷ spec.labels f) (spec.labels g) x.label h behind)
+
+none_some : {A : Type 0} (x : A) → None ≡ Some x → ⊥
+none_some x e = cc
+
+true_false : true ≡ false → ⊥
+true_false e = cc
+
+not_one : (p : ℕ) → (p == 1) ≡ false → p ≢ 1
+not_one p h e = true_false (sym (eq-eqb p 1 e) ∙ h)
+
+same_ways : (f : spec.Forest ℕ) (above : List spec.Content) (x : Found ℕ) → are_distinct (spec.labels f) ≡ true → SameWays f above x
+same_ways spec.Empty above x h p q ps qs d e = absurd (cc)
+same_ways (spec.Node l c f g) above x h p q ps qs d e =
+    let parts = distinct_parts (l ∷ spec.labels f) (spec.labels g) h in
+    let own = and_parts (not (is_among l (spec.labels f))) (are_distinct (spec.labels f)) parts.0 in
+    let within = same_from l c f above x parts.0 (same_ways f (c ∷ above) x own.1) ps qs in
+    let behind = same_ways g above x parts.1 (p - 1) (q - 1) ps qs in
+    elim (p == 1) as (λ b. (p == 1) ≡ b → option_and_then (node_from ps) (cond b (Some (found_in above l c f)) (child_at above g (p - 1))) ≡ Some x → (p ≡ q) × (ps ≡ qs)) [
+      | true ↦ λ is d. elim (q == 1) as (λ b. (q == 1) ≡ b → option_and_then (node_from qs) (cond b (Some (found_in above l c f)) (child_at above g (q - 1))) ≡ Some x → (p ≡ q) × (ps ≡ qs)) [
+          | true ↦ λ also e. (eqb-true p 1 is ∙ sym (eqb-true q 1 also), within d e)
+          | false ↦ λ _ e. absurd (not_behind l c f g above (q - 1) ps qs x h d e)
+        ] refl e
+      | false ↦ λ is d. elim (q == 1) as (λ b. (q == 1) ≡ b → option_and_then (node_from qs) (cond b (Some (found_in above l c f)) (child_at above g (q - 1))) ≡ Some x → (p ≡ q) × (ps ≡ qs)) [
+          | true ↦ λ _ e. absurd (not_behind l c f g above (p - 1) qs ps x h e d)
+          | false ↦ λ also e.
+              let apart_p = not_one p is in
+              let apart_q = not_one q also in
+              let same = behind d e in
+              let less : p - 1 ≡ q - 1 = same.0 in
+              (omega arith, same.1)
+        ] refl e
+    ] refl d
+
+-- the root is not below itself
+not_under_root : (document : spec.Document ℕ) (x : Found ℕ) (p : ℕ) (ps : List ℕ) → are_distinct (document.root ∷ spec.labels document.nodes) ≡ true
+    → root_of document ≡ x → option_and_then (node_from ps) (child_at [] document.nodes p) ≡ Some x → ⊥
+not_under_root document x p ps h is e =
+    let parts = and_parts (not (is_among document.root (spec.labels document.nodes))) (are_distinct (spec.labels document.nodes)) h in
+    apart (is_among document.root (spec.labels document.nodes))
+    (ap (λ n. is_among n.label (spec.labels document.nodes)) is ∙ (found_first document.nodes [] p ps x parts.1 e).among) (not_false _ parts.0)
+
+only_path : (document : spec.Document ℕ) (x : Found ℕ) (ps qs : List ℕ) → are_distinct (document.root ∷ spec.labels document.nodes) ≡ true
+    → node_at document ps ≡ Some x → node_at document qs ≡ Some x → ps ≡ qs
+only_path document x [] [] h d e = refl
+only_path document x [] (q ∷ qs) h d e = absurd (not_under_root document x q qs h (some_same (root_of document) x d) e)
+only_path document x (p ∷ ps) [] h d e = absurd (not_under_root document x p ps h (some_same (root_of document) x e) d)
+only_path document x (p ∷ ps) (q ∷ qs) h d e =
+    let parts = and_parts (not (is_among document.root (spec.labels document.nodes))) (are_distinct (spec.labels document.nodes)) h in
+    let same = same_ways document.nodes [] x parts.1 p q ps qs d e in
+    λ i. same.0 i ∷ same.1 i
+
+only_there : (document : spec.Document ℕ) (number : ℕ) (x : Found ℕ) (place : Option (List ℕ)) (path : List ℕ) → are_distinct (document.root ∷ spec.labels document.nodes) ≡ true
+    → IsWayTo document number place → numbered_node document number ≡ Some x → node_at document path ≡ Some x → place ≡ Some path
+only_there document number x None path h w here at = absurd (none_some x (sym w ∙ here))
+only_there document number x (Some way) path h w here at = ap Some (only_path document x way path h (w.0 ∙ here) at)
+
+only_found : (document : spec.Document ℕ) (number : ℕ) (place : Option (List ℕ)) (path : List ℕ) (found : Option (Found ℕ)) → IsNumbered document
+    → IsWayTo document number place → node_at document path ≡ found → option_map (λ n. n.label) found ≡ Some number → place ≡ Some path
+only_found document number place path None h w at e = absurd (cc)
+only_found document number place path (Some x) h w at e =
+    let parts = and_parts (are_distinct (document.root ∷ spec.labels document.nodes)) (list_all (λ n. nat_lt n number_limit) (document.root ∷ spec.labels document.nodes)) h in
+    let here = ap (numbered_node document) (sym (some_same x.label number e)) ∙ numbered_at document path x parts.0 at in
+    only_there document number x place path parts.0 w here at
+
+-- no other path leads to the node of a number
+pub only_way : (document : spec.Document ℕ) (number : ℕ) (place : Option (List ℕ)) → IsNumbered document → IsWayTo document number place
+    → (path : List ℕ) → option_map (λ n. n.label) (node_at document path) ≡ Some number → place ≡ Some path
+only_way document number place h w path e = only_found document number place path (node_at document path) h w refl e

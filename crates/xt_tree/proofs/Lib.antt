@@ -1,3 +1,4 @@
 pub mod Views
 pub mod Ways
 pub mod Distinct
+pub mod Ordered

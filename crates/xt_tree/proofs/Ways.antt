@@ -158,6 +158,11 @@ from_root document number (Some (p ∷ ps)) h =
 pub way_from_root : (document : spec.Document ℕ) (number : ℕ) → LeadsFromRoot document number (way_to number 1 document.nodes)
 way_from_root document number = from_root document number _ (way_leads number 1 document.nodes [])
 
+pub root_way : (document : spec.Document ℕ) (number : ℕ) → (document.root == number) ≡ true → IsWayTo document number (Some [])
+root_way document number h =
+    let here : numbered_node document number ≡ Some (root_of document) = ap (λ b. cond b (Some (root_of document)) (first_in (λ l. l == number) [] document.nodes)) h in
+    (sym here, λ e. some_none (root_of document) (sym here ∙ e))
+
 not_root : (document : spec.Document ℕ) (number : ℕ) → (document.root == number) ≡ false → numbered_node document number ≡ first_in (λ l. l == number) [] document.nodes
 not_root document number h = ap (λ b. cond b (Some (root_of document)) (first_in (λ l. l == number) [] document.nodes)) h
 

@@ -1,9 +1,11 @@
 // Documents, and siblings that are to stand in one.
-ghost use Rattle.std.specs.Prelude.{◌≡◌, ◌==◌, map, IfOk, OnOk, OnErr, ◌∷◌, [], MatchOption, IsSome, Some, None};
+ghost use Rattle.std.specs.Prelude.{ℕ, List, ◌≡◌, ◌==◌, ◌+◌, ◌<◌, map, IfOk, OnOk, OnErr, ◌∷◌, [], MatchOption, IsSome, is_some, Some, None};
 ghost use Rattle.std.specs.Option.{option_map, option_and_then, ForSome};
+ghost use Rattle.spec_document.specs.Document.{number_limit};
+ghost use Rattle.spec_document.specs.Forest.{numbered, size};
 ghost use Rattle.spec_document.specs.Name.{qname_of};
 ghost use Rattle.spec_document.specs.Declaration.{namespaces_in, attribute_name};
-ghost use Rattle.spec_document.specs.Place.{TreeNode, expanded_name, name_by, node_at, scope_at, kind_of, kind_by, string_value, string_value_by, attributes_of, at_number};
+ghost use Rattle.spec_document.specs.Place.{TreeNode, expanded_name, name_by, node_at, scope_at, kind_of, kind_by, string_value, string_value_by, attributes_of, namespaces_of, at_number};
 ghost use Rattle.xt_tree.specs.View.{itself, IsWayTo, item_of, numbered_node, written_of, followed, forest, forest_of, tree_of};
 ghost use Rattle.xt_tree.specs.Numbers.{IsNumbered};
 ghost use Rattle.spec_document.specs.Forest as spec;
@@ -110,6 +112,15 @@ impl Doc {
         }
     }
 
+    /// The document whose nodes are numbered in document order, the root first. Takes no memory.
+    pub fn numbered(root: NodeId, nodes: Nodes) -> Doc
+        requires order { numbered (root.number + 1) nodes ≡ nodes }
+        requires limit { root.number + size nodes < number_limit }
+        ensures { result ≡ record { root = root.number; nodes = nodes } }
+    {
+        Doc::new(root, nodes)
+    }
+
     /// The nodes directly below the root, in their order.
     pub fn children(&self) -> &[Rc<Node>]
         ensures { forest_of result.now ≡ self.now.nodes }
@@ -139,10 +150,11 @@ impl Doc {
         Some(NodeRef::of(id))
     }
 
-    /// The path of the node, or of the element that the attribute or namespace node belongs to. None
-    /// exactly where no node of the tree has its number.
+    /// The path of the node, or of the element that the attribute or namespace node belongs to: the only
+    /// one that leads there. None exactly where no node of the tree has its number.
     pub fn place(&self, alloc: Global, node: &NodeRef) -> Result<Option<Path>, Memory>
-        ensures { IfOk result (λ place. IsWayTo self.now node.now.node.number place) }
+        ensures way { IfOk result (λ place. IsWayTo self.now node.now.node.number place) }
+        ensures only { IfOk result (λ place. (path : List ℕ) → option_map (λ n. n.label) (node_at self.now path) ≡ Some node.now.node.number → place ≡ Some path) }
     {
         let mut path = Path::new(alloc);
         if self.root == node.node {
@@ -152,6 +164,44 @@ impl Doc {
             return Ok(Some(path));
         }
         Ok(None)
+    }
+
+    /// Whether this is a node of the tree, or an attribute or a namespace node of an element of it.
+    pub fn has(&self, alloc: Global, node: &NodeRef) -> Result<bool, Memory>
+        ensures { IfOk result (λ has. has ≡ is_some (item_of self.now node.now)) }
+    {
+        if !self.contains(node.node) {
+            return Ok(false);
+        }
+        match node.part {
+            Part::Itself => Ok(true),
+            Part::Attribute(number) => self.has_attribute(alloc, node.node, number),
+            Part::Namespace(number) => self.has_namespace(alloc, node, number),
+        }
+    }
+
+    // Whether a node of the tree has this number.
+    fn contains(&self, id: NodeId) -> bool
+        ensures { result ≡ is_some (numbered_node self.now id.number) }
+    {
+        self.root == id || find(self.children.as_slice(), id).is_some()
+    }
+
+    fn has_attribute(&self, alloc: Global, id: NodeId, number: u64) -> Result<bool, Memory>
+        ensures { IfOk result (λ has. ForSome (numbered_node self.now id.number) (λ node. has ≡ is_some (at_number number (attributes_of node)))) }
+    {
+        let found = self.attribute(alloc, id, number)?;
+        Ok(found.is_some())
+    }
+
+    fn has_namespace(&self, alloc: Global, node: &NodeRef, number: u64) -> Result<bool, Memory>
+        ensures { IfOk result (λ has. ForSome (numbered_node self.now node.now.node.number) (λ found. has ≡ is_some (at_number number (namespaces_of found)))) }
+    {
+        if self.own_kind(node.node) != Kind::Element {
+            return Ok(false);
+        }
+        let namespaces = self.scope_of(alloc, node)?.namespaces(alloc)?;
+        Ok(namespace_at(namespaces.as_slice(), number).is_some())
     }
 
     /// The kind of a node of the tree. Takes no memory.

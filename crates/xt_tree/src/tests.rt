@@ -194,6 +194,64 @@ fn nodes_have_kinds_names_and_values(rt: HostRuntime) -> Result<(), Fail> {
     Ok(())
 }
 
+const XML: &str = "http://www.w3.org/XML/1998/namespace";
+
+#[test]
+fn attributes_and_namespace_nodes_have_kinds_names_and_values(
+    rt: HostRuntime,
+) -> Result<(), Fail> {
+    let alloc = rt.alloc();
+    let doc = checked(alloc, NodeId { number: 0 }, sample(alloc)?)?.ok_or("numbers")?;
+    let parts: [(u64, Part, Kind, (&str, &str), &str); 7] = [
+        (2, Part::Attribute(1), Kind::Attribute, ("v", "p"), "1"),
+        (2, Part::Attribute(2), Kind::Attribute, ("", "y"), "2"),
+        (2, Part::Namespace(1), Kind::Namespace, ("", ""), "u"),
+        (2, Part::Namespace(2), Kind::Namespace, ("", "x"), "v"),
+        (2, Part::Namespace(3), Kind::Namespace, ("", "xml"), XML),
+        (5, Part::Namespace(1), Kind::Namespace, ("", ""), "u"),
+        (5, Part::Namespace(3), Kind::Namespace, ("", "xml"), XML),
+    ];
+    for (number, part, kind, name, value) in parts {
+        let node = NodeRef {
+            node: NodeId { number },
+            part,
+        };
+        if !doc.has(alloc, &node)? {
+            return Err(Fail::from("no such part"));
+        }
+        assert_eq!(rt; doc.kind(&node), kind, "{number}");
+        let found = doc.name(alloc, &node)?.ok_or("no name")?;
+        assert_eq!(rt; (found.uri().as_str(), found.local().as_str()), name);
+        assert_eq!(rt; doc.string_value(alloc, &node)?.as_str(), value);
+    }
+    Ok(())
+}
+
+#[test]
+fn only_parts_that_are_there_are_found(rt: HostRuntime) -> Result<(), Fail> {
+    let alloc = rt.alloc();
+    let doc = checked(alloc, NodeId { number: 0 }, sample(alloc)?)?.ok_or("numbers")?;
+    for (number, part, is_there) in [
+        (0, Part::Itself, true),
+        (7, Part::Itself, false),
+        (2, Part::Attribute(0), false),
+        (2, Part::Attribute(2), true),
+        (2, Part::Attribute(3), false),
+        (2, Part::Namespace(4), false),
+        (5, Part::Namespace(3), true),
+        (3, Part::Namespace(1), false),
+        (0, Part::Namespace(1), false),
+        (7, Part::Namespace(1), false),
+    ] {
+        let node = NodeRef {
+            node: NodeId { number },
+            part,
+        };
+        assert_eq!(rt; doc.has(alloc, &node)?, is_there, "{node:?}");
+    }
+    Ok(())
+}
+
 #[test]
 fn declarations_are_no_attributes(rt: HostRuntime) -> Result<(), Fail> {
     let alloc = rt.alloc();
