@@ -8,7 +8,10 @@ use Rattle.spec_document.specs.Forest as spec
 use Rattle.xt_tree.specs.Numbers.{are_distinct, are_numbers, IsNumbered}
 
 range-append : (n a b : ℕ) → range_with_len n (a + b) ≡ range_with_len n a ++ range_with_len (n + a) b
-range-append n zero b = let same : n ≡ n + 0 = omega arith in ap (λ m. range_with_len m b) same
+range-append n zero b =
+    let none : 0 + b ≡ b = omega arith in
+    let same : n ≡ n + 0 = omega arith in
+    ap (range_with_len n) none ∙ ap (λ m. range_with_len m b) same
 range-append n (suc a) b =
     let more : suc a + b ≡ suc (a + b) = omega arith in
     let same : n + 1 + a ≡ n + suc a = omega arith in

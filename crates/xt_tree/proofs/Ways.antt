@@ -6,8 +6,9 @@ use Rattle.std.proofs.lemmas.Bool.{eqb-true}
 use Rattle.std.specs.Option.{option_map, option_and_then, option_or}
 use Rattle.spec_document.specs.Forest as spec
 use Rattle.spec_document.specs.Scope.{Scope, root_scope}
-use Rattle.spec_document.specs.Declaration.{within, scope_of as scope_in}
-use Rattle.spec_document.specs.Place.{scope_at, Found, found_in, child_at, node_from, node_at, root_of, first_in}
+use Rattle.spec_document.specs.declared.kind.Kind.TheVariants as kind
+use Rattle.spec_document.specs.Declaration.{within, namespaces_in, scope_of as scope_in}
+use Rattle.spec_document.specs.Place.{kind_by, namespaces_by, scope_at, Found, found_in, child_at, node_from, node_at, root_of, first_in}
 use Rattle.xt_tree.specs.declared.node.Node.{Node, out-Node}
 use Rattle.xt_tree.specs.View.{scope_from, content_of, Tree, tree_of, forest, forest_of, tree_at, number_from, way_to, gone_on, first_tree, itself, numbered_node, IsWayTo}
 use Rattle.xt_tree.proofs.Views.{view-Node}
@@ -219,6 +220,21 @@ seen_number document number x h e = sym (first_in-tree number [] document.nodes)
 pub no_tree : (document : spec.Document ℕ) (number : ℕ) (x : Found ℕ) → (document.root == number) ≡ false → numbered_node document number ≡ Some x → first_tree number document.nodes ≡ None → ⊥
 no_tree document number x h e none = some_none (seen_node x) (sym (seen_number document number x h e) ∙ ap (option_map seen_tree) none)
 
+same_some : {A B C : Type 0} (f : A → C) (g : B → C) (a : Option A) (b : Option B) → option_map f a ≡ option_map g b → is_some a ≡ is_some b
+same_some f g None None e = refl
+same_some f g (Some x) (Some y) e = refl
+same_some f g None (Some y) e = absurd (cc)
+same_some f g (Some x) None e = absurd (cc)
+
+pub some_mapped : {A B : Type 0} (f : A → B) (o : Option A) → is_some (option_map f o) ≡ is_some o
+some_mapped f None = refl
+some_mapped f (Some x) = refl
+
+-- whether there is a node of the number
+pub some_tree : (document : spec.Document ℕ) (number : ℕ) → (document.root == number) ≡ false → is_some (numbered_node document number) ≡ is_some (first_tree number document.nodes)
+some_tree document number h =
+    ap is_some (not_root document number h) ∙ same_some seen_node seen_tree _ _ (first_in-tree number [] document.nodes)
+
 -- what is seen of the node is the tree that is found
 pub record IsTree (x : Found ℕ) (t : Tree) : Type 0 where
   pub content : x.content ≡ Some t.content
@@ -266,3 +282,19 @@ scope_same s t e = some_same s t e
 
 pub scope_none : {A : Type 0} (x : A) → None ≡ Some x → ⊥
 scope_none x e = some_none x (sym e)
+
+-- ---- Namespace nodes: an element has them, and no other node
+
+pub in_element : (content : Option spec.Content) (scope : Scope) → kind_by content ≡ kind.Element → namespaces_by content scope ≡ namespaces_in scope
+in_element None scope e = absurd (cc)
+in_element (Some (spec.Element name attributes)) scope e = refl
+in_element (Some (spec.Text text)) scope e = absurd (cc)
+in_element (Some (spec.Comment text)) scope e = absurd (cc)
+in_element (Some (spec.Instruction target text)) scope e = absurd (cc)
+
+pub in_no_element : (content : Option spec.Content) (scope : Scope) → kind_by content ≢ kind.Element → namespaces_by content scope ≡ []
+in_no_element None scope h = refl
+in_no_element (Some (spec.Element name attributes)) scope h = absurd (h refl)
+in_no_element (Some (spec.Text text)) scope h = refl
+in_no_element (Some (spec.Comment text)) scope h = refl
+in_no_element (Some (spec.Instruction target text)) scope h = refl

@@ -197,11 +197,13 @@ impl Doc {
     fn has_namespace(&self, alloc: Global, node: &NodeRef, number: u64) -> Result<bool, Memory>
         ensures { IfOk result (λ has. ForSome (numbered_node self.now node.now.node.number) (λ found. has ≡ is_some (at_number number (namespaces_of found)))) }
     {
-        if self.own_kind(node.node) != Kind::Element {
-            return Ok(false);
+        match self.own_kind(node.node) {
+            Kind::Element => {
+                let namespaces = self.scope_of(alloc, node)?.namespaces(alloc)?;
+                Ok(namespace_at(namespaces.as_slice(), number).is_some())
+            }
+            _ => Ok(false),
         }
-        let namespaces = self.scope_of(alloc, node)?.namespaces(alloc)?;
-        Ok(namespace_at(namespaces.as_slice(), number).is_some())
     }
 
     /// The kind of a node of the tree. Takes no memory.
