@@ -2,3 +2,4 @@ pub mod Views
 pub mod Ways
 pub mod Distinct
 pub mod Ordered
+pub mod Streams

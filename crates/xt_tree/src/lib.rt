@@ -9,13 +9,17 @@
 
 mod doc;
 mod find;
+mod items;
 mod node;
 mod node_ref;
 mod part;
 #[cfg(test)]
 mod tests;
+mod value;
 
 pub use doc::{Doc, Nodes};
+pub use items::{Item, Items};
 pub use node::{Content, Node, Written};
 pub use node_ref::{NodeId, NodeRef, Part};
 pub use spec_document::Kind;
+pub use value::Value;

@@ -1,0 +1,84 @@
+// Streams: what instructions write, item by item.
+ghost use Rattle.std.specs.Prelude.{◌≡◌, ◌∷◌, [], map, OnOk, OnErr};
+ghost use Rattle.xt_tree.specs.Stream as stream;
+ghost use Rattle.xt_tree.specs.StreamView.{single_of, stream_of};
+
+use std::alloc::Global;
+use std::rc::Rc;
+use xt_names::Namespace;
+use xt_text::{Memory, Text};
+
+/// A stream: what instructions write, in its order. Where one of its items is a hole, another stream is
+/// to stand. Contracts see the plain stream, in which a shared part is its items.
+#[cycle(items)]
+#[derive(Drop)]
+pub struct Items {
+    list: Vec<Item>,
+}
+
+/// An item of a stream.
+#[cycle(items)]
+#[derive(Drop)]
+pub enum Item {
+    /// An element. The namespaces are the namespace nodes that are copied to it.
+    Element {
+        /// The name as it is written.
+        name: Text,
+        /// The URI of the name, empty where it is in no namespace.
+        uri: Text,
+        namespaces: Vec<Namespace>,
+        content: Rc<Items>,
+    },
+    /// What was to stand in an element whose name is no good: the content alone is written, without the
+    /// attributes that it begins with.
+    Nameless { content: Rc<Items> },
+    /// An attribute, for the element whose content it begins.
+    Attribute {
+        /// The name as it is written.
+        name: Text,
+        /// The URI of the name, empty where it is in no namespace.
+        uri: Text,
+        value: Text,
+    },
+    /// A namespace node.
+    Namespace(Namespace),
+    /// A text.
+    Text(Text),
+    /// A comment.
+    Comment(Text),
+    /// A processing instruction.
+    Instruction { target: Text, text: Text },
+    /// A message, which is no part of the result.
+    Message(Text),
+    /// A shared stream, whose items stand here.
+    Part(Rc<Items>),
+    /// The place of a stream that is not known yet.
+    Hole,
+}
+
+impl Items {
+    /// The empty stream. Takes no memory.
+    pub fn new(alloc: Global) -> Items
+        ensures { stream_of result ≡ stream.Ended }
+    {
+        Items {
+            list: Vec::new(alloc),
+        }
+    }
+
+    /// Adds an item at the end. After want of memory the stream is as before.
+    pub fn push(&mut self, item: Item) -> Result<(), Memory>
+        ensures ok { OnOk result (stream_of self.new ≡ stream.followed (stream_of self.old) (single_of item)) }
+        ensures err { OnErr result (stream_of self.new ≡ stream_of self.old) }
+    {
+        self.list.push(item)?;
+        Ok(())
+    }
+
+    /// The items in their order.
+    pub fn list(&self) -> &[Item]
+        ensures { stream.all_followed (map single_of result.now) ≡ stream_of self.now }
+    {
+        self.list.as_slice()
+    }
+}
