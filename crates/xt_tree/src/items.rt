@@ -1,8 +1,9 @@
 // Streams: what instructions write, item by item.
-ghost use Rattle.std.specs.Prelude.{◌≡◌, ◌∷◌, [], map, OnOk, OnErr};
+ghost use Rattle.std.specs.Prelude.{◌≡◌, map, length, IfOk, OnOk, OnErr};
 ghost use Rattle.xt_tree.specs.Stream as stream;
-ghost use Rattle.xt_tree.specs.StreamView.{single_of, stream_of};
+ghost use Rattle.xt_tree.specs.StreamView.{single_of, stream_of, streams_of};
 
+use crate::filling::filled;
 use std::alloc::Global;
 use std::rc::Rc;
 use xt_names::Namespace;
@@ -13,7 +14,7 @@ use xt_text::{Memory, Text};
 #[cycle(items)]
 #[derive(Drop)]
 pub struct Items {
-    list: Vec<Item>,
+    pub(crate) list: Vec<Item>,
 }
 
 /// An item of a stream.
@@ -80,5 +81,15 @@ impl Items {
         ensures { stream.all_followed (map single_of result.now) ≡ stream_of self.now }
     {
         self.list.as_slice()
+    }
+
+    /// The stream with the parts in place of its holes, in order. The parts are shared, and what of this
+    /// stream has holes is made anew.
+    pub fn fill(&self, alloc: Global, parts: &[Rc<Items>]) -> Result<Rc<Items>, Memory>
+        requires { stream.holes (stream_of self.now) ≡ length parts.now }
+        ensures { IfOk result (λ whole. stream_of whole.value ≡ stream.filled (stream_of self.now) (streams_of parts.now)) }
+    {
+        let mut next = 0;
+        filled(alloc, self, parts, &mut next)
     }
 }

@@ -8,6 +8,7 @@
 #![tactic(auto)]
 
 mod doc;
+mod filling;
 mod find;
 mod items;
 mod node;
