@@ -206,18 +206,18 @@ same_ways (spec.Node l c f g) above x h p q ps qs d e =
     let behind = same_ways g above x parts.1 (p - 1) (q - 1) ps qs in
     elim (p == 1) as (λ b. (p == 1) ≡ b → option_and_then (node_from ps) (cond b (Some (found_in above l c f)) (child_at above g (p - 1))) ≡ Some x → (p ≡ q) × (ps ≡ qs)) [
       | true ↦ λ is d. elim (q == 1) as (λ b. (q == 1) ≡ b → option_and_then (node_from qs) (cond b (Some (found_in above l c f)) (child_at above g (q - 1))) ≡ Some x → (p ≡ q) × (ps ≡ qs)) [
-          | true ↦ λ also e. (eqb-true p 1 is ∙ sym (eqb-true q 1 also), within d e)
-          | false ↦ λ _ e. absurd (not_behind l c f g above (q - 1) ps qs x h d e)
-        ] refl e
+        | true ↦ λ also e. (eqb-true p 1 is ∙ sym (eqb-true q 1 also), within d e)
+        | false ↦ λ _ e. absurd (not_behind l c f g above (q - 1) ps qs x h d e)
+      ] refl e
       | false ↦ λ is d. elim (q == 1) as (λ b. (q == 1) ≡ b → option_and_then (node_from qs) (cond b (Some (found_in above l c f)) (child_at above g (q - 1))) ≡ Some x → (p ≡ q) × (ps ≡ qs)) [
-          | true ↦ λ _ e. absurd (not_behind l c f g above (p - 1) qs ps x h e d)
-          | false ↦ λ also e.
-              let apart_p = not_one p is in
-              let apart_q = not_one q also in
-              let same = behind d e in
-              let less : p - 1 ≡ q - 1 = same.0 in
-              (omega arith, same.1)
-        ] refl e
+        | true ↦ λ _ e. absurd (not_behind l c f g above (p - 1) qs ps x h e d)
+        | false ↦ λ also e.
+            let apart_p = not_one p is in
+            let apart_q = not_one q also in
+            let same = behind d e in
+            let less : p - 1 ≡ q - 1 = same.0 in
+            (omega arith, same.1)
+      ] refl e
     ] refl d
 
 -- the root is not below itself

@@ -6,7 +6,7 @@ use Rattle.xt_tree.specs.StreamView.{item_step, items_step, single_of, stream_of
 use Rattle.std.specs.declared.rc.Rc.{Rc}
 use Rattle.std.specs.declared.alloc.Global.{Global}
 use Rattle.xt_tree.specs.declared.items.Items.{Items, out-Items, fold_out-Items}
-use Rattle.xt_tree.specs.declared.items.Item.{Item, Item-F, fold-roll-Item}
+use Rattle.xt_tree.specs.declared.items.Item.{Item-F, fold-roll-Item}
 use Rattle.xt_tree.specs.declared.items.Item.TheVariants as code
 
 pub view-Items : (i : Items) → stream_of i ≡ all_followed (map single_of (out-Items i).list.items)

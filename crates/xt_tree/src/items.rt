@@ -32,7 +32,9 @@ pub enum Item {
     },
     /// What was to stand in an element whose name is no good: the content alone is written, without the
     /// attributes that it begins with.
-    Nameless { content: Rc<Items> },
+    Nameless {
+        content: Rc<Items>,
+    },
     /// An attribute, for the element whose content it begins.
     Attribute {
         /// The name as it is written.
@@ -48,7 +50,10 @@ pub enum Item {
     /// A comment.
     Comment(Text),
     /// A processing instruction.
-    Instruction { target: Text, text: Text },
+    Instruction {
+        target: Text,
+        text: Text,
+    },
     /// A message, which is no part of the result.
     Message(Text),
     /// A shared stream, whose items stand here.
@@ -83,8 +88,7 @@ impl Items {
         self.list.as_slice()
     }
 
-    /// The stream with the parts in place of its holes, in order. The parts are shared, and what of this
-    /// stream has holes is made anew.
+    /// The stream with the parts in place of its holes, in order. The parts are shared; all else is copied.
     pub fn fill(&self, alloc: Global, parts: &[Rc<Items>]) -> Result<Rc<Items>, Memory>
         requires { stream.holes (stream_of self.now) ≡ length parts.now }
         ensures { IfOk result (λ whole. stream_of whole.value ≡ stream.filled (stream_of self.now) (streams_of parts.now)) }

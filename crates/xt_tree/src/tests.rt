@@ -197,9 +197,7 @@ fn nodes_have_kinds_names_and_values(rt: HostRuntime) -> Result<(), Fail> {
 const XML: &str = "http://www.w3.org/XML/1998/namespace";
 
 #[test]
-fn attributes_and_namespace_nodes_have_kinds_names_and_values(
-    rt: HostRuntime,
-) -> Result<(), Fail> {
+fn attributes_and_namespace_nodes_have_kinds_names_and_values(rt: HostRuntime) -> Result<(), Fail> {
     let alloc = rt.alloc();
     let doc = checked(alloc, NodeId { number: 0 }, sample(alloc)?)?.ok_or("numbers")?;
     let parts: [(u64, Part, Kind, (&str, &str), &str); 7] = [

@@ -1,4 +1,4 @@
-use Rattle.std.proofs.Common.{rules, ℕ, length, ◌≤◌, ◌≡◌, ◌∙◌, ◌+◌, ◌∷◌, [], sym, ap, drop, map, arith}
+use Rattle.std.proofs.Common.{rules, ℕ, length, ◌≤◌, ◌≡◌, ◌∙◌, ◌+◌, sym, ap, drop, map, arith}
 use Rattle.std.proofs.lemmas.List.{at_drop_more, at_drop_all}
 use Rattle.xt_tree.specs.Stream.{all_followed, followed, holes, first_of, filled}
 use Rattle.xt_tree.specs.declared.items.Item.{the_lemmas}

@@ -1,4 +1,4 @@
-use Rattle.std.proofs.Common.{◌≡◌, ◌∙◌, sym, ap, is_some, map}
+use Rattle.std.proofs.Common.{◌∙◌, sym, ap, is_some, map}
 use Rattle.spec_document.specs.Declaration.{namespaces_in}
 use Rattle.spec_document.specs.Place.{at_number, scope_at}
 use Rattle.xt_names.specs.View.{entry_of}

@@ -1,4 +1,4 @@
-use Rattle.std.proofs.Common.{◌≡◌, ◌∙◌, sym, ap, ◌∷◌, [], map, ◌++◌}
+use Rattle.std.proofs.Common.{◌∙◌, sym, ap, ◌∷◌, [], map}
 use Rattle.std.proofs.lemmas.List.{map-append}
 use Rattle.xt_tree.specs.Stream.{all_followed, followed}
 use Rattle.xt_tree.specs.StreamView.{single_of}
