@@ -23,7 +23,7 @@ pub fn filled(
     ensures stream { IfOk result (λ whole. stream_of whole.value ≡ filled (stream_of items.now) (streams_of (drop next.old parts.now))) }
 {
     let mut list = Items::new(alloc);
-    for item in items.list.as_slice() {
+    for item in items.list() {
         let whole = filled_item(alloc, item, parts, next)?;
         list.push(whole)?;
     }

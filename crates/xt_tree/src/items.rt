@@ -1,6 +1,7 @@
 // Streams: what instructions write, item by item.
 ghost use Rattle.std.specs.Prelude.{◌≡◌, map, length, IfOk, OnOk, OnErr};
 ghost use Rattle.xt_tree.specs.Stream as stream;
+ghost use Rattle.xt_tree.specs.declared.items.Items.{out-Items};
 ghost use Rattle.xt_tree.specs.StreamView.{single_of, stream_of, streams_of};
 
 use crate::filling::filled;
@@ -14,7 +15,7 @@ use xt_text::{Memory, Text};
 #[cycle(items)]
 #[derive(Drop)]
 pub struct Items {
-    pub(crate) list: Vec<Item>,
+    list: Vec<Item>,
 }
 
 /// An item of a stream.
@@ -83,7 +84,8 @@ impl Items {
 
     /// The items in their order.
     pub fn list(&self) -> &[Item]
-        ensures { stream.all_followed (map single_of result.now) ≡ stream_of self.now }
+        ensures items { result.now ≡ (out-Items self.now).list.items }
+        ensures stream { stream.all_followed (map single_of result.now) ≡ stream_of self.now }
     {
         self.list.as_slice()
     }

@@ -1,9 +1,11 @@
 // Documents made by hand.
-ghost use Rattle.std.specs.Prelude.{◌≡◌, ◌++◌, nat_lt, OnOk};
+ghost use Rattle.std.specs.Prelude.{◌≡◌, ◌++◌, nat_lt, IfOk, OnOk};
 ghost use Rattle.std.specs.List.{list_all};
 ghost use Rattle.spec_document.specs.Document.{number_limit};
 ghost use Rattle.spec_document.specs.Forest.{labels};
 ghost use Rattle.xt_tree.specs.View.{forest_of};
+ghost use Rattle.xt_tree.specs.Stream.{holes};
+ghost use Rattle.xt_tree.specs.StreamView.{stream_of};
 ghost use Rattle.xt_tree.specs.Numbers.{are_distinct, are_numbers};
 
 use crate::part::attribute_at;
@@ -265,5 +267,55 @@ fn declarations_are_no_attributes(rt: HostRuntime) -> Result<(), Fail> {
         let found = attribute_at(alloc, &content, number)?;
         assert_eq!(rt; found.map(|a| a.name.as_str()), name, "{number}");
     }
+    Ok(())
+}
+
+fn text_alone(alloc: Global, text: &str) -> Result<Rc<Items>, Memory> {
+    let mut items = Items::new(alloc);
+    items.push(Item::Text(Text::from_str(alloc, text)?))?;
+    Ok(Rc::new(alloc, items)?)
+}
+
+// A text, a hole inside an element, and a hole behind it.
+fn with_holes(alloc: Global) -> Result<Items, Memory>
+    ensures { IfOk result (λ items. holes (stream_of items) ≡ 2) }
+{
+    let mut inner = Items::new(alloc);
+    inner.push(Item::Hole)?;
+    let content = Rc::new(alloc, inner)?;
+    let mut items = Items::new(alloc);
+    items.push(Item::Nameless { content })?;
+    items.push(Item::Hole)?;
+    Ok(items)
+}
+
+// The texts of a stream, those inside an element in brackets.
+fn push_texts(out: &mut Text, items: &Items) -> Result<(), Memory> {
+    for item in items.list() {
+        match item {
+            Item::Text(text) => out.push_str(text.as_str())?,
+            Item::Part(part) => push_texts(out, part)?,
+            Item::Nameless { content } => {
+                out.push_str("(")?;
+                push_texts(out, content)?;
+                out.push_str(")")?;
+            }
+            _ => out.push_str("?")?,
+        }
+    }
+    Ok(())
+}
+
+#[test]
+fn holes_are_filled_in_order(rt: HostRuntime) -> Result<(), Fail> {
+    let alloc = rt.alloc();
+    let items = with_holes(alloc)?;
+    let mut parts = Vec::new(alloc);
+    parts.push(text_alone(alloc, "a")?)?;
+    parts.push(text_alone(alloc, "b")?)?;
+    let whole = items.fill(alloc, parts.as_slice())?;
+    let mut texts = Text::new(alloc);
+    push_texts(&mut texts, &whole)?;
+    assert_eq!(rt; texts.as_str(), "(a)b");
     Ok(())
 }

@@ -21,7 +21,7 @@ filled_item-returns-in_ok-part-in-Hole-clause-stream t c =
 -- the parts are enough for the next item
 enough : (t : ℕ) (c : goal.filled-After-filled_item-arg-1 t) → c.loop-item.next + holes (single_of c.item-item.result) ≤ length c.args.parts.now
 enough t c =
-    let list = c.as_slice-item-items.result.now in
+    let list = c.list-item-items.result.now in
     let rest = all_followed (map single_of (drop (c.loop-item.item-index + 1) list)) in
     let at = at_drop_more (λ xs. holes (all_followed (map single_of xs))) list c.loop-item.item-index c.item-item.result (omega arith) in
     let here = rw (← c.item-item.is) at at in
@@ -33,7 +33,7 @@ filled-filled_item-requires t c = (search (rules, the_lemmas), enough t c)
 
 pub filled-loop-item-preserved : goal.filled-loop-item-preserved
 filled-loop-item-preserved t c =
-    let list = c.as_slice-item-items.result.now in
+    let list = c.list-item-items.result.now in
     let item = c.item-item.result in
     let rest = all_followed (map single_of (drop (c.loop-item.item-index + 1) list)) in
     let at = at_drop_more (λ xs. all_followed (map single_of xs)) list c.loop-item.item-index item (omega arith) in
@@ -52,7 +52,7 @@ filled-loop-item-preserved t c =
 
 pub filled-returns-clause-stream : goal.filled-returns-clause-stream
 filled-returns-clause-stream t c =
-    let list = c.as_slice-item-items.result.now in
+    let list = c.list-item-items.result.now in
     let left = streams_of (drop c.loop-item.next c.args.parts.now) in
     let at = at_drop_all (λ xs. filled (all_followed (map single_of xs)) left) list c.loop-item.item-index (omega arith) in
     ap stream_of c.in_ok-new.ensures.ok ∙ sym (followed-Ended (stream_of c.loop-item.list)) ∙ ap (followed (stream_of c.loop-item.list)) (sym at) ∙ c.loop-item.invariant.stream
