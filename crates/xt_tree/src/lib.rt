@@ -1,5 +1,6 @@
 //! Documents as shared trees whose nodes have numbers. Contracts see a `Doc` as the plain tree with
-//! its numbers; how a node is found by its number is nobody else's concern.
+//! its numbers; how a node is found by its number is nobody else's concern. Beside them stand the streams
+//! that instructions write, and the values of expressions.
 //!
 //! ```text
 //! let element = doc.at(&path);               // the node at child positions, each from 1
