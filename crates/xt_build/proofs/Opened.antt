@@ -1,0 +1,120 @@
+-- The faults of open forests, one node more in front.
+use Rattle.std.proofs.Common.{◌≡◌, ℕ, ◌+◌, ◌-◌, suc, List, [], ◌∷◌, ◌++◌, map, drop, length, reverse, get_or, Option, Some, None, unwrap_or, Bor, Global, refl, sym, ap, ◌∙◌, arith, append-nil, append_assoc}
+use Rattle.std.specs.Prelude.{nat_lt}
+use Rattle.std.specs.Option.{option_map}
+use Rattle.std.proofs.Math.ListN.{get_or-map}
+use Rattle.std.proofs.lemmas.List.{get_or-reverse, length-reverse, length-map, map-append, reverse-append}
+use Rattle.std.specs.declared.rc.Rc.{Rc}
+use Rattle.spec_document.specs.Scope.{Scope}
+use Rattle.spec_document.specs.Forest.{Written, Forest, Element, Instruction}
+use Rattle.spec_document.specs.Declaration.{declared_all}
+use Rattle.spec_document.specs.Document.{Lines, Fault, least, fault_if, greatest_depth, is_wrong_element, is_wrong_target, attribute_faults, content_faults, node_faults}
+use Rattle.xt_names.specs.declared.scope.Scope.{Scope as Kept}
+use Rattle.xt_build.specs.Least.{merged}
+use Rattle.xt_build.proofs.Attributes.{kept_one, kept_three}
+use Rattle.xt_build.specs.Left.{innermost, open_faults}
+use Rattle.xt_build.specs.Names.{scopes_in}
+use Rattle.xt_build.specs.Piece.{first_of, element_before, leaf_before}
+
+-- ---- Lists of faults
+
+alone : (xs : List Fault) → ((xs ++ []) ++ []) ++ [] ≡ xs ++ []
+alone xs = append-nil ((xs ++ []) ++ []) ∙ append-nil (xs ++ [])
+
+in_front : (xs ys zs : List Fault) → ((xs ++ []) ++ ys) ++ zs ≡ xs ++ (ys ++ zs)
+in_front xs ys zs = ap (λ l. (l ++ ys) ++ zs) (append-nil xs) ∙ append_assoc xs ys zs
+
+around : (xs ys : List Fault) → ((xs ++ ys) ++ []) ++ [] ≡ xs ++ (ys ++ [])
+around xs ys = ap (λ l. l ++ []) (append-nil (xs ++ ys)) ∙ append_assoc xs ys []
+
+between : (ws xs ys zs : List Fault) → ((ws ++ xs) ++ ys) ++ zs ≡ ws ++ (xs ++ (ys ++ zs))
+between ws xs ys zs = append_assoc (ws ++ xs) ys zs ∙ append_assoc ws xs (ys ++ zs)
+
+-- ---- Nodes in front
+
+instruction_faults : (outside : Scope) (depth : ℕ) (scopes : List Scope) (lines : Lines) (target text : List ℕ) (behind : List (Forest Lines))
+    → open_faults outside depth scopes (leaf_before lines (Instruction target text) behind) ≡ fault_if (is_wrong_target target) 10 lines.first ++ open_faults outside depth scopes behind
+instruction_faults outside depth scopes lines target text [] = alone (fault_if (is_wrong_target target) 10 lines.first)
+instruction_faults outside depth scopes lines target text (f ∷ fs) =
+    in_front (fault_if (is_wrong_target target) 10 lines.first) (node_faults (innermost outside scopes) (depth + length scopes) f) (open_faults outside depth (drop 1 scopes) fs)
+
+deeper : (depth n : ℕ) → depth + n + 1 ≡ depth + suc n
+deeper depth n = omega arith
+
+element_faults : (outside : Scope) (depth : ℕ) (scopes : List Scope) (lines : Lines) (name : List ℕ) (attributes : List Written) (behind : List (Forest Lines))
+    → open_faults outside depth scopes (element_before lines (Element name attributes) behind)
+    ≡ content_faults (declared_all attributes (innermost outside scopes)) (depth + length scopes) lines (Element name attributes)
+    ++ open_faults outside depth (declared_all attributes (innermost outside scopes) ∷ scopes) behind
+element_faults outside depth scopes lines name attributes [] =
+    alone (content_faults (declared_all attributes (innermost outside scopes)) (depth + length scopes) lines (Element name attributes))
+element_faults outside depth scopes lines name attributes (f ∷ []) =
+    let inside = declared_all attributes (innermost outside scopes) in
+    let own = content_faults inside (depth + length scopes) lines (Element name attributes) in
+    around own (node_faults inside (depth + length scopes + 1) f) ∙ ap (λ d. own ++ (node_faults inside d f ++ [])) (deeper depth (length scopes))
+element_faults outside depth scopes lines name attributes (f ∷ g ∷ fs) =
+    let inside = declared_all attributes (innermost outside scopes) in
+    let own = content_faults inside (depth + length scopes) lines (Element name attributes) in
+    let rest = node_faults (innermost outside scopes) (depth + length scopes) g ++ open_faults outside depth (drop 1 scopes) fs in
+    between own (node_faults inside (depth + length scopes + 1) f) (node_faults (innermost outside scopes) (depth + length scopes) g) (open_faults outside depth (drop 1 scopes) fs)
+    ∙ ap (λ d. own ++ (node_faults inside d f ++ rest)) (deeper depth (length scopes))
+
+-- what was found at an element, with the faults inside it and behind it, is what was found with the faults from the element on
+pub entered : (outside : Scope) (depth : ℕ) (scopes : List Scope) (lines : Lines) (name : List ℕ) (attributes : List Written) (behind : List (Forest Lines))
+    (found first second now : Option Fault)
+    → first ≡ merged found (least (fault_if (is_wrong_element (declared_all attributes (innermost outside scopes)) name) 10 lines.first))
+    → second ≡ merged first (least (fault_if (nat_lt greatest_depth (depth + length scopes)) 11 lines.first))
+    → now ≡ merged second (least (attribute_faults (declared_all attributes (innermost outside scopes)) [] lines.attributes attributes))
+    → merged now (least (open_faults outside depth (declared_all attributes (innermost outside scopes) ∷ scopes) behind))
+    ≡ merged found (least (open_faults outside depth scopes (element_before lines (Element name attributes) behind)))
+entered outside depth scopes lines name attributes behind found first second now e h k =
+    kept_three found first second now _ _ _ _ e h k ∙ ap (λ fs. merged found (least fs)) (sym (element_faults outside depth scopes lines name attributes behind))
+
+pub instructed : (outside : Scope) (depth : ℕ) (scopes : List Scope) (lines : Lines) (target text : List ℕ) (behind : List (Forest Lines)) (found now : Option Fault)
+    → now ≡ merged found (least (fault_if (is_wrong_target target) 10 lines.first))
+    → merged now (least (open_faults outside depth scopes behind)) ≡ merged found (least (open_faults outside depth scopes (leaf_before lines (Instruction target text) behind)))
+instructed outside depth scopes lines target text behind found now e =
+    kept_one found now _ _ e ∙ ap (λ fs. merged found (least fs)) (sym (instruction_faults outside depth scopes lines target text behind))
+
+-- ---- Scopes
+
+abbrev value_of : Rc Kept Global → Scope
+value_of s = s.value
+
+pub scopes_more : (xs : List (Rc Kept Global)) (x : Rc Kept Global) → scopes_in (xs ++ x ∷ []) ≡ x.value ∷ scopes_in xs
+scopes_more xs x = ap reverse (map-append value_of xs (x ∷ [])) ∙ reverse-append (map value_of xs) (x.value ∷ [])
+
+pub scopes_length : (xs : List (Rc Kept Global)) → length (scopes_in xs) ≡ length xs
+scopes_length xs = length-reverse (map value_of xs) ∙ length-map xs value_of
+
+first_or : (outside : Scope) (scopes : List Scope) → innermost outside scopes ≡ get_or scopes 0 outside
+first_or outside [] = refl
+first_or outside (scope ∷ scopes) = refl
+
+innermost_kept : (xs : List (Rc Kept Global)) (outside : Rc Kept Global) → innermost outside.value (scopes_in xs) ≡ (get_or xs (length xs - 1) outside).value
+innermost_kept [] outside = refl
+innermost_kept (x ∷ xs) outside =
+    first_or outside.value (scopes_in (x ∷ xs))
+    ∙ get_or-reverse (map value_of (x ∷ xs)) 0 outside.value (omega arith)
+    ∙ ap (λ n. get_or (map value_of (x ∷ xs)) n outside.value) (omega (arith, length-map xs value_of))
+    ∙ get_or-map value_of (x ∷ xs) (length (x ∷ xs) - 1) outside
+
+behind_ref : (o : Option (Bor (Rc Kept Global))) (outside : Bor (Rc Kept Global)) → (unwrap_or o outside).now ≡ unwrap_or (option_map (λ x. x.now) o) outside.now
+behind_ref None outside = refl
+behind_ref (Some s) outside = refl
+
+-- the last of the scopes that are kept is the innermost
+pub last_innermost : (xs : List (Rc Kept Global)) (o : Option (Bor (Rc Kept Global))) (outside : Bor (Rc Kept Global))
+    → unwrap_or (option_map (λ x. x.now) o) outside.now ≡ get_or xs (length xs - 1) outside.now
+    → (unwrap_or o outside).now.value ≡ innermost outside.now.value (scopes_in xs)
+last_innermost xs o outside e = ap value_of (behind_ref o outside ∙ e) ∙ sym (innermost_kept xs outside.now)
+
+-- ---- Where one forest is open
+
+level : (depth : ℕ) → depth + 0 ≡ depth
+level depth = omega arith
+
+pub whole_faults : (outside : Scope) (depth : ℕ) (forests : List (Forest Lines)) → length forests ≡ 1
+    → open_faults outside depth [] forests ≡ node_faults outside depth (first_of forests)
+whole_faults outside depth [] e = absurd (omega arith)
+whole_faults outside depth (f ∷ []) e = append-nil (node_faults outside (depth + 0) f) ∙ ap (λ d. node_faults outside d f) (level depth)
+whole_faults outside depth (f ∷ g ∷ fs) e = absurd (omega arith)

@@ -1,0 +1,50 @@
+use Rattle.std.proofs.Common.{◌+◌, ◌<◌, None, Some, Ok, sym, ap, ◌∙◌, subst, arith}
+use Rattle.spec_document.specs.Forest.{numbered, size}
+use Rattle.spec_document.specs.Document.{number_limit, without_texts, document_by}
+use Rattle.xt_build.specs.View.{found_of, pieces_of, fault_of}
+use Rattle.xt_build.specs.Piece.{forest_in}
+use Rattle.xt_build.proofs.Building.{document_made, document_has_room, answered, second_is_next, second_number, AreMade, are_made}
+use Rattle.xt_build.proofs.document.document.Goals as goal
+
+pub returns-in-Some : goal.returns-in-Some
+returns-in-Some c =
+    ap (λ ps. document_by c.args.scope.now c.args.first.number (forest_in (pieces_of ps))) (sym c.as_slice-whole.ensures.value)
+    ∙ answered _ _ (found_of c.check_numbers.new.found) (Some (fault_of c.in-Some.fault))
+    (document_made c.args.scope.now c.args.first.number c.saturating_add-second.result (forest_in (pieces_of c.as_slice-whole.result.now))
+    (found_of c.check_top.new.found) (found_of c.check_nodes.new.found) (found_of c.check_number.new.found) (found_of c.check_numbers.new.found)
+    (second_is_next _ _ c.saturating_add-second.ensures) c.in_ok-check_top.ensures c.in_ok-check_nodes.ensures c.check_number.ensures c.check_numbers.ensures)
+    (ap found_of c.in-Some.is)
+
+-- there is room for all numbers
+room : (c : goal.In_default) → c.args.first.number + size (without_texts (forest_in (pieces_of c.args.pieces.items))) < number_limit
+room c =
+    subst (λ ps. c.args.first.number + size (without_texts (forest_in (pieces_of ps))) < number_limit) c.as_slice-whole.ensures.value
+    (document_has_room c.args.first.number c.saturating_add-second.result (found_of c.check_nodes.new.found) (found_of c.check_number.new.found) (found_of c.check_numbers.new.found)
+    (without_texts (forest_in (pieces_of c.as_slice-whole.result.now))) (second_is_next _ _ c.saturating_add-second.ensures)
+    c.check_number.ensures c.check_numbers.ensures (ap found_of c.in_default.is))
+
+pub make_nodes-requires-clause-numbers : goal.make_nodes-requires-clause-numbers
+make_nodes-requires-clause-numbers c =
+    let fits = room c in
+    let behind = second_number _ _ _ c.saturating_add-second.ensures fits in
+    omega (arith, fits, behind)
+
+made : (c : goal.In_ok-nodes) → AreMade c.args.first.number (without_texts (forest_in (pieces_of c.args.pieces.items))) c.in_ok-nodes.nodes
+made c = are_made _ _ _ _ c.saturating_add-second.ensures (room c.before.before.before) c.in_ok-nodes.ensures
+
+pub numbered-requires-clause-order : goal.numbered-requires-clause-order
+numbered-requires-clause-order c = (made c).again
+
+pub numbered-requires-clause-limit : goal.numbered-requires-clause-limit
+numbered-requires-clause-limit c = (made c).fit
+
+pub returns : goal.returns
+returns c =
+    ap (λ ps. document_by c.args.scope.now c.args.first.number (forest_in (pieces_of ps))) (sym c.as_slice-whole.ensures.value)
+    ∙ answered _ _ (found_of c.check_numbers.new.found) None
+    (document_made c.args.scope.now c.args.first.number c.saturating_add-second.result (forest_in (pieces_of c.as_slice-whole.result.now))
+    (found_of c.check_top.new.found) (found_of c.check_nodes.new.found) (found_of c.check_number.new.found) (found_of c.check_numbers.new.found)
+    (second_is_next _ _ c.saturating_add-second.ensures) c.in_ok-check_top.ensures c.in_ok-check_nodes.ensures c.check_number.ensures c.check_numbers.ensures)
+    (ap found_of c.in_default.is)
+    ∙ ap (λ ps. Ok (record { root = c.args.first.number; nodes = numbered (c.args.first.number + 1) (without_texts (forest_in (pieces_of ps))) })) c.as_slice-whole.ensures.value
+    ∙ ap (λ nodes. Ok (record { root = c.args.first.number; nodes = nodes })) (sym (made c.before).are) ∙ ap Ok (sym c.numbered.ensures)

@@ -1,0 +1,293 @@
+// The faults of nodes themselves: of their names, declarations and attributes, and of their depth
+// (Namespaces in XML 1.0, sections 3, 5 and 6).
+ghost use Rattle.std.specs.Prelude.{◌≡◌, ◌+◌, [], ◌||◌, ◌&&◌, not, List, map, nat_lt, slice_index, IfOk, OnOk, bytes_eq};
+ghost use Rattle.std.specs.List.{list_any};
+ghost use Rattle.std.specs.Option.{option_copied};
+ghost use Rattle.spec_document.specs.Scope as spec;
+ghost use Rattle.spec_document.specs.Forest.{Forest};
+ghost use Rattle.spec_document.specs.Declaration.{declared_all, is_declaration as declares, is_barred, is_there, is_xml, is_xmlns, xmlns_uri, is_reserved_target};
+ghost use Rattle.spec_document.specs.Document.{Lines, least, fault_if, greatest_depth, is_wrong_element, is_wrong_target, is_wrong_use, expanded_by, same_expanded, attribute_faults, node_faults};
+ghost use Rattle.xt_base.specs.Code.{edit_number};
+ghost use Rattle.xt_tree.specs.View.{written_of};
+ghost use Rattle.xt_build.specs.Least.{merged};
+ghost use Rattle.xt_build.specs.Left.{open_faults};
+ghost use Rattle.xt_build.specs.Names.{scopes_in};
+ghost use Rattle.xt_build.specs.Piece.{forest_in, IsWhole, piece_before};
+ghost use Rattle.xt_build.specs.View.{found_of, piece_of, pieces_of};
+
+use crate::Fault;
+use crate::fault::keep_least;
+use crate::piece::Piece;
+use std::alloc::Global;
+use std::rc::Rc;
+use xt_base::EditCode;
+use xt_names::{Expanded, QName, Scope, Use, is_declaration, is_ncname, use_of};
+use xt_text::{Memory, Text};
+use xt_tree::{Content, Written};
+
+// How deep an element may stand; the document element has depth 1.
+const GREATEST_DEPTH: u64 = 256;
+
+/// Finds the faults of the nodes, which stand in this scope below a parent of this depth.
+pub(crate) fn check_nodes(
+    alloc: Global,
+    pieces: &[Piece],
+    scope: &Scope,
+    depth: u64,
+    found: &mut Option<Fault>,
+) -> Result<(), Memory>
+    requires { IsWhole (pieces_of pieces.now) }
+    ensures { OnOk result (found_of found.new ≡ merged (found_of found.old) (least (node_faults scope.now (depth + 1) (forest_in (pieces_of pieces.now))))) }
+{
+    let outside = Rc::new(alloc, scope.copy(alloc)?)?;
+    let mut scopes: Vec<Rc<Scope>> = Vec::new(alloc);
+    for piece in pieces {
+        check_piece(alloc, piece, &outside, depth, &mut scopes, found)?;
+    }
+    Ok(())
+}
+
+// Finds the faults at a piece, where these are the scopes of the elements that are open before it, and
+// keeps those that are open behind it.
+fn check_piece(
+    alloc: Global,
+    piece: &Piece,
+    outside: &Rc<Scope>,
+    depth: u64,
+    scopes: &mut Vec<Rc<Scope>>,
+    found: &mut Option<Fault>,
+) -> Result<(), Memory>
+    ensures { OnOk result ((behind : List (Forest Lines))
+        → merged (found_of found.new) (least (open_faults outside.now.value (depth + 1) (scopes_in scopes.new.items) behind))
+        ≡ merged (found_of found.old) (least (open_faults outside.now.value (depth + 1) (scopes_in scopes.old.items) (piece_before (piece_of piece.now) behind)))) }
+{
+    match piece {
+        Piece::Ends => {
+            let _ = scopes.pop();
+            Ok(())
+        }
+        Piece::Begins {
+            line,
+            attribute_lines,
+            content,
+        } => match content {
+            Content::Element { name, attributes } => {
+                let around = scopes.last().unwrap_or(outside);
+                let inside = scope_inside(alloc, around, attributes.as_slice())?;
+                let is_wrong = is_wrong_element(alloc, &inside, name)?;
+                keep_if(found, is_wrong, EditCode::BadName, *line);
+                let is_deep = is_too_deep(depth, scopes.len());
+                keep_if(found, is_deep, EditCode::TooDeep, *line);
+                check_attributes(
+                    alloc,
+                    &inside,
+                    attributes.as_slice(),
+                    attribute_lines.as_slice(),
+                    found,
+                )?;
+                scopes.push(inside)?;
+                Ok(())
+            }
+            Content::Instruction { target, .. } => {
+                keep_if(found, is_wrong_target(target), EditCode::BadName, *line);
+                Ok(())
+            }
+            Content::Text { .. } | Content::Comment { .. } => Ok(()),
+        },
+    }
+}
+
+// Keeps a fault where it stands and is to be answered rather than the one that was found before.
+fn keep_if(found: &mut Option<Fault>, stands: bool, code: EditCode, line: u64)
+    ensures { found_of found.new ≡ merged (found_of found.old) (least (fault_if stands (edit_number code) line)) }
+{
+    if stands {
+        keep_least(found, Fault { code, line });
+    }
+}
+
+// Whether an element stands too deep where so many are open, the outermost below a parent of this depth.
+fn is_too_deep(depth: u64, elements: usize) -> bool
+    ensures { result ≡ nat_lt greatest_depth (depth + 1 + elements) }
+{
+    depth.saturating_add(elements as u64) >= GREATEST_DEPTH
+}
+
+// The scope inside an element of these attributes. It is shared where nothing is declared.
+fn scope_inside(
+    alloc: Global,
+    around: &Rc<Scope>,
+    attributes: &[Written],
+) -> Result<Rc<Scope>, Memory>
+    ensures { IfOk result (λ inside. inside.value ≡ declared_all (map written_of attributes.now) around.now.value) }
+{
+    if !has_declaration(alloc, attributes)? {
+        return Ok(Rc::clone(around)?);
+    }
+    let mut scope = around.copy(alloc)?;
+    for attribute in attributes {
+        scope.declare(alloc, attribute.name.as_str(), attribute.value.as_str())?;
+    }
+    Ok(Rc::new(alloc, scope)?)
+}
+
+fn has_declaration(alloc: Global, attributes: &[Written]) -> Result<bool, Memory>
+    ensures { IfOk result (λ has. has ≡ list_any declares (map written_of attributes.now)) }
+{
+    for attribute in attributes {
+        if is_declaration(alloc, attribute.name.as_str())? {
+            return Ok(true);
+        }
+    }
+    Ok(false)
+}
+
+// Whether the name is no QName, or its prefix is not declared.
+fn is_wrong_element(alloc: Global, scope: &Scope, name: &Text) -> Result<bool, Memory>
+    ensures { IfOk result (λ is. is ≡ is_wrong_element scope.now name.now) }
+{
+    match QName::read(alloc, name.as_str())? {
+        None => Ok(true),
+        Some(name) => Ok(scope.element_name(alloc, &name)?.is_none()),
+    }
+}
+
+// Whether the target is no NCName, or `xml` in any case.
+fn is_wrong_target(target: &Text) -> bool
+    ensures { result ≡ is_wrong_target target.now }
+{
+    !is_ncname(target.as_str()) || is_reserved(target)
+}
+
+fn is_reserved(target: &Text) -> bool
+    ensures { result ≡ is_reserved_target target.now }
+{
+    target.as_str().eq_ignore_ascii_case("xml")
+}
+
+// Finds the faults of an element's attributes, whose names are read in the scope inside it.
+fn check_attributes(
+    alloc: Global,
+    scope: &Scope,
+    attributes: &[Written],
+    lines: &[u64],
+    found: &mut Option<Fault>,
+) -> Result<(), Memory>
+    ensures { OnOk result (found_of found.new ≡ merged (found_of found.old) (least (attribute_faults scope.now [] lines.now (map written_of attributes.now)))) }
+{
+    let mut names: Vec<Option<Expanded>> = Vec::new(alloc);
+    for (i, attribute) in attributes.iter().enumerate() {
+        let line = line_at(lines, i);
+        let usage = use_of(alloc, attribute.name.as_str())?;
+        let name = expanded(alloc, scope, &usage)?;
+        let is_wrong = is_wrong(&usage, name.as_ref(), &attribute.value);
+        keep_if(found, is_wrong, EditCode::BadName, line);
+        let before = &attributes[..i];
+        let is_double = is_double(before, names.as_slice(), &attribute.name, name.as_ref());
+        keep_if(found, is_double, EditCode::DoubleAttribute, line);
+        names.push(name)?;
+    }
+    Ok(())
+}
+
+// The line of an attribute, 0 where none is told.
+fn line_at(lines: &[u64], i: usize) -> u64
+    ensures { result ≡ slice_index lines.now i }
+{
+    lines.get(i).copied().unwrap_or(0)
+}
+
+// The expanded name of an attribute; a declaration has none.
+fn expanded(alloc: Global, scope: &Scope, usage: &Use) -> Result<Option<Expanded>, Memory>
+    ensures { IfOk result (λ name. name ≡ expanded_by scope.now usage.now) }
+{
+    match usage {
+        Use::Names { name } => scope.attribute_name(alloc, name),
+        Use::Declares { .. } | Use::NoName => Ok(None),
+    }
+}
+
+// Whether an attribute has no good name, or is a declaration that is barred.
+fn is_wrong(usage: &Use, name: Option<&Expanded>, value: &Text) -> bool
+    ensures { (scope : spec.Scope) → option_copied name.entry ≡ expanded_by scope usage.now → result ≡ is_wrong_use scope usage.now value.now }
+{
+    match usage {
+        Use::Declares { prefix } => is_barred(prefix, value),
+        Use::Names { .. } => name.is_none(),
+        Use::NoName => true,
+    }
+}
+
+// Whether no such declaration may stand.
+fn is_barred(prefix: &Text, uri: &Text) -> bool
+    ensures { result ≡ is_barred prefix.now uri.now }
+{
+    undeclares(prefix, uri) || parts_xml(prefix, uri) || names_xmlns(prefix, uri)
+}
+
+// Whether a prefix is undeclared, which only the default namespace can be.
+fn undeclares(prefix: &Text, uri: &Text) -> bool
+    ensures { result ≡ (is_there prefix.now && not (is_there uri.now)) }
+{
+    !prefix.is_empty() && uri.is_empty()
+}
+
+// Whether `xml` or its URI is declared without the other: they belong to each other alone.
+fn parts_xml(prefix: &Text, uri: &Text) -> bool
+    ensures { result ≡ ((is_xml prefix.now && not (bytes_eq uri.now spec.xml_uri)) || (not (is_xml prefix.now) && bytes_eq uri.now spec.xml_uri)) }
+{
+    prefix.is("xml") != uri.is("http://www.w3.org/XML/1998/namespace")
+}
+
+// Whether the prefix `xmlns` or its URI is declared, which neither can be.
+fn names_xmlns(prefix: &Text, uri: &Text) -> bool
+    ensures { result ≡ (is_xmlns prefix.now || bytes_eq uri.now xmlns_uri) }
+{
+    prefix.is("xmlns") || uri.is("http://www.w3.org/2000/xmlns/")
+}
+
+// Whether one of the attributes before, which have these expanded names, has the same name, as written or
+// expanded.
+fn is_double(
+    before: &[Written],
+    names: &[Option<Expanded>],
+    written: &Text,
+    name: Option<&Expanded>,
+) -> bool
+    ensures { result ≡ (list_any (λ b. bytes_eq b.name written.now) (map written_of before.now) || list_any (λ other. same_expanded other (option_copied name.entry)) names.now) }
+{
+    has_name(before, written) || has_expanded(names, name)
+}
+
+// Whether one of the attributes has this name as written.
+fn has_name(attributes: &[Written], name: &Text) -> bool
+    ensures { result ≡ list_any (λ b. bytes_eq b.name name.now) (map written_of attributes.now) }
+{
+    for attribute in attributes {
+        if attribute.name.same(name) {
+            return true;
+        }
+    }
+    false
+}
+
+// Whether one of the expanded names is this one.
+fn has_expanded(names: &[Option<Expanded>], name: Option<&Expanded>) -> bool
+    ensures { result ≡ list_any (λ other. same_expanded other (option_copied name.entry)) names.now }
+{
+    for other in names {
+        if is_same(other.as_ref(), name) {
+            return true;
+        }
+    }
+    false
+}
+
+fn is_same(first: Option<&Expanded>, second: Option<&Expanded>) -> bool
+    ensures { result ≡ same_expanded (option_copied first.entry) (option_copied second.entry) }
+{
+    match (first, second) {
+        (Some(first), Some(second)) => first.same(second),
+        _ => false,
+    }
+}

@@ -1,0 +1,108 @@
+// The lines of a document.
+ghost use Rattle.std.specs.Prelude.{◌≡◌, ◌++◌, ◌∷◌, [], List, ℕ, IfOk, OnOk, Ok, map};
+ghost use Rattle.std.specs.Str.{encode_utf8_all};
+ghost use Rattle.spec_document.specs.Document.{document_of};
+ghost use Rattle.spec_document.specs.Forest.{lines_of, attribute_event};
+ghost use Rattle.spec_document.specs.Pyx.{line_of};
+ghost use Rattle.spec_document.specs.Scope.{Scope};
+ghost use Rattle.spec_document.specs.declared.event.Event.TheVariants as event;
+ghost use Rattle.xt_tree.specs.View.{content_of, forest_of, written_of};
+ghost use Rattle.xt_build.specs.Leaf.{leaf_events};
+
+use std::alloc::Global;
+use std::rc::Rc;
+use xt_pyx::{Event, write_event};
+use xt_text::{Memory, Text};
+use xt_tree::{Content, Doc, Node, Written};
+
+/// The lines that are written for the document, in order. Where lines make this document, these make
+/// it again, with the same numbers.
+pub fn lines(alloc: Global, document: &Doc) -> Result<Vec<Text>, Memory>
+    ensures lines { IfOk result (λ lines. lines.items ≡ lines_of document.now.nodes) }
+    ensures round_trip { IfOk result (λ lines. (scope : Scope) (first : ℕ) (body : List (List ℕ)) → document_of scope first body ≡ Ok document.now
+        → document_of scope first (map encode_utf8_all lines.items) ≡ Ok document.now) }
+{
+    let mut lines = Vec::new(alloc);
+    push_lines(alloc, &mut lines, document.children())?;
+    Ok(lines)
+}
+
+// Adds the lines of these siblings and of what is below them.
+fn push_lines(alloc: Global, lines: &mut Vec<Text>, siblings: &[Rc<Node>]) -> Result<(), Memory>
+    ensures { OnOk result (lines.new.items ≡ lines.old.items ++ lines_of (forest_of siblings.now)) }
+{
+    for sibling in siblings {
+        match &sibling.content {
+            Content::Element { name, attributes } => {
+                push_start(alloc, lines, name, attributes.as_slice())?;
+                push_lines(alloc, lines, sibling.children.as_slice())?;
+                push_end(alloc, lines, name)?;
+            }
+            Content::Text { .. } | Content::Comment { .. } | Content::Instruction { .. } => {
+                push_leaf(alloc, lines, &sibling.content)?;
+            }
+        }
+    }
+    Ok(())
+}
+
+// Adds the lines of a start and of its attributes.
+fn push_start(
+    alloc: Global,
+    lines: &mut Vec<Text>,
+    name: &Text,
+    attributes: &[Written],
+) -> Result<(), Memory>
+    ensures { OnOk result (lines.new.items ≡ lines.old.items ++ line_of (event.Start name.now) ∷ map line_of (map attribute_event (map written_of attributes.now))) }
+{
+    let name = name.copy(alloc)?;
+    push_event(alloc, lines, &Event::Start { name })?;
+    for attribute in attributes {
+        push_attribute(alloc, lines, attribute)?;
+    }
+    Ok(())
+}
+
+fn push_attribute(alloc: Global, lines: &mut Vec<Text>, attribute: &Written) -> Result<(), Memory>
+    ensures { OnOk result (lines.new.items ≡ lines.old.items ++ line_of (attribute_event (written_of attribute.now)) ∷ []) }
+{
+    let name = attribute.name.copy(alloc)?;
+    let value = attribute.value.copy(alloc)?;
+    push_event(alloc, lines, &Event::Attribute { name, value })
+}
+
+fn push_end(alloc: Global, lines: &mut Vec<Text>, name: &Text) -> Result<(), Memory>
+    ensures { OnOk result (lines.new.items ≡ lines.old.items ++ line_of (event.End name.now) ∷ []) }
+{
+    let name = name.copy(alloc)?;
+    push_event(alloc, lines, &Event::End { name })
+}
+
+// Adds the line of a node that nothing is below. An element adds none.
+fn push_leaf(alloc: Global, lines: &mut Vec<Text>, content: &Content) -> Result<(), Memory>
+    ensures { OnOk result (lines.new.items ≡ lines.old.items ++ map line_of (leaf_events (content_of content.now))) }
+{
+    match content {
+        Content::Element { .. } => Ok(()),
+        Content::Text { text } => {
+            let text = text.copy(alloc)?;
+            push_event(alloc, lines, &Event::Data { text })
+        }
+        Content::Comment { text } => {
+            let text = text.copy(alloc)?;
+            push_event(alloc, lines, &Event::Comment { text })
+        }
+        Content::Instruction { target, text } => {
+            let target = target.copy(alloc)?;
+            let text = text.copy(alloc)?;
+            push_event(alloc, lines, &Event::Instruction { target, text })
+        }
+    }
+}
+
+fn push_event(alloc: Global, lines: &mut Vec<Text>, event: &Event) -> Result<(), Memory>
+    ensures { OnOk result (lines.new.items ≡ lines.old.items ++ line_of event.now ∷ []) }
+{
+    lines.push(write_event(alloc, event)?)?;
+    Ok(())
+}
