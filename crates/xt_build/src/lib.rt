@@ -1,9 +1,12 @@
-//! Documents from PYX lines. A body of lines is a document, or siblings that are to stand in one, or it
-//! gets the least of its faults with the line where that stands.
+//! Documents from PYX lines, and the lines of documents. A body of lines is a document, or siblings that
+//! are to stand in one; else the least of its faults is answered, with the line where it stands. What
+//! makes lines a document, and which fault is answered, is said by `document_of` and `nodes_of` of the
+//! definitions.
 //!
 //! ```text
 //! let doc = build(alloc, &body, &Scope::root(alloc)?, NodeId { number: 0 })?;
 //! // Err(Refused(Fault { code: Unbalanced, line: 3 })): line 3 may not follow those before it
+//! let again = lines(alloc, &doc)?;   // lines that make this document again
 //! ```
 #![tactic(auto)]
 
