@@ -13,8 +13,12 @@ fn body(alloc: Global, text: &[u8]) -> Result<Vec<Line>, Fail> {
     let mut from = MemSource::new(alloc, text, &[])?;
     let mut lines = Lines::new(alloc, 1 << 20)?;
     let mut body = Vec::new(alloc);
-    while let Ok(Some(line)) = lines.next_line(&mut from) {
-        body.push(line)?;
+    // There are no more lines than bytes.
+    for _ in text {
+        match lines.next_line(&mut from) {
+            Ok(Some(line)) => body.push(line)?,
+            _ => return Ok(body),
+        }
     }
     Ok(body)
 }
