@@ -1,4 +1,13 @@
 pub mod Pieces
-pub mod Productions
+pub mod Lists
+pub mod Operators
+pub mod Places
+pub mod Begins
+pub mod Paths
+pub mod Primaries
+pub mod Bracketed
+pub mod NodeTests
+pub mod Steps
+pub mod Calls
 pub mod Texts
 pub mod Views

@@ -14,7 +14,15 @@ use Rattle.xp_parse.specs.View.{name_of}
 use Rattle.xp_parse.specs.declared.read.Head.{Head}
 use Rattle.xp_parse.specs.Reading.{left, Begins, Read, Nothing, IsNext}
 use Rattle.xp_parse.proofs.Views.{view-Number, view-Literal, view-Variable, view-Call, view-Root, view-Here, view-Link, view-Step}
-use Rattle.xp_parse.proofs.Productions.{begin, ended, failed, grow_none, grow, link_more, link_fail, links_end, chain_read, chain_fail, chain_fail_later, sign_more, unary_read, unary_fail, path_read, path_fail, root_alone, root_read, root_fail, below_root_read, below_root_fail, relative_read, relative_fail, from_filter_read, from_filter_fail, from_filter_fail_later, filter_read, filter_fail, filter_fail_later, variable_read, literal_read, number_read, number_value, group_read, group_fail, group_unclosed, call_read, call_fail, no_argument_read, arguments_read, arguments_fail, arguments_fail_later, arguments_end, arguments_unclosed, argument_more, argument_fail, predicate_more, predicate_fail, predicate_unclosed, predicates_end, child_more, child_fail, descendant_more, descendant_fail, steps_end, steps_fail, relative_from, dot_read, dots_read, step_read, step_fail, step_fail_later, axis_fail, at_read, at_nothing, at_continues, to_next, next_two, behind_nothing_read, behind_nothing_fail, behind_read, behind_fail, head_begins, exits, exits_refused, found, refused, rank_le}
+use Rattle.xp_parse.proofs.Lists.{begin, ended, failed, grow_none, grow, behind_nothing_read, behind_nothing_fail, behind_read, behind_fail}
+use Rattle.xp_parse.proofs.Operators.{link_more, link_fail, links_end, chain_read, chain_fail, chain_fail_later, sign_more, unary_read, unary_fail, path_read, path_fail, rank_le}
+use Rattle.xp_parse.proofs.Places.{at_read, at_nothing, at_continues, to_next, next_two}
+use Rattle.xp_parse.proofs.Begins.{head_begins}
+use Rattle.xp_parse.proofs.Paths.{root_alone, root_read, root_fail, below_root_read, below_root_fail, relative_read, relative_fail, from_filter_read, from_filter_fail, from_filter_fail_later}
+use Rattle.xp_parse.proofs.Primaries.{filter_read, filter_fail, filter_fail_later, variable_read, literal_read, number_read, number_value, group_read, group_fail, group_unclosed, call_read, call_fail}
+use Rattle.xp_parse.proofs.Bracketed.{no_argument_read, arguments_read, arguments_fail, arguments_fail_later, arguments_end, arguments_unclosed, argument_more, argument_fail, predicate_more, predicate_fail, predicate_unclosed, predicates_end}
+use Rattle.xp_parse.proofs.Steps.{child_more, child_fail, descendant_more, descendant_fail, steps_end, steps_fail, relative_from, dot_read, dots_read, step_read, step_fail, step_fail_later, axis_fail}
+use Rattle.xp_parse.proofs.Calls.{exits, exits_refused, found, refused}
 use Rattle.xp_parse.proofs.read.Parser.+parse.Goals as goal
 
 pub arguments-returns-then-next_is-clause-answer : goal.arguments-returns-then-next_is-clause-answer

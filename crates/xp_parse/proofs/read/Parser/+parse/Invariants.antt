@@ -3,7 +3,7 @@ use Rattle.spec_expression.specs.Grammar.{Signs, ReadsLinks, ReadsMore, ReadsPre
 use Rattle.spec_expression.specs.Rank.{rank}
 use Rattle.xp_syntax.specs.View.{expr_of, step_of, link_of}
 use Rattle.xp_parse.specs.Reading.{left}
-use Rattle.xp_parse.proofs.Productions.{Continues, Growing}
+use Rattle.xp_parse.proofs.Lists.{Continues, Growing}
 use Rattle.xp_parse.proofs.read.Parser.+parse.Given as goal
 
 -- what is left, and among calls at one place the production

@@ -4,7 +4,7 @@ use Rattle.spec_expression.specs.Token.{Token, Name, At, ColonColon}
 use Rattle.spec_expression.specs.Grammar.{axis_of}
 use Rattle.xp_parse.specs.View.{name_of}
 use Rattle.xp_parse.specs.Reading.{left, IsNext, IsNotNext, ReadsAxis, named, attribute, absent}
-use Rattle.xp_parse.proofs.Productions.{next_two}
+use Rattle.xp_parse.proofs.Places.{next_two}
 use Rattle.xp_parse.proofs.read.Parser.axis.Goals as goal
 
 pub returns-then-next_is-clause-ok : goal.returns-then-next_is-clause-ok

@@ -6,7 +6,9 @@ use Rattle.spec_expression.specs.Grammar.{uri_of, expanded}
 use Rattle.xp_parse.specs.View.{name_of}
 use Rattle.xp_parse.specs.Reading.{left, BeginsTest, IsNext, IsNotNext}
 use Rattle.xp_parse.specs.declared.read.TestHead.{TestHead}
-use Rattle.xp_parse.proofs.Productions.{at_read, found, refused, any_read, in_namespace_read, named_read, named_read_alone, test_fail}
+use Rattle.xp_parse.proofs.Places.{at_read}
+use Rattle.xp_parse.proofs.NodeTests.{any_read, in_namespace_read, named_read, named_read_alone, test_fail}
+use Rattle.xp_parse.proofs.Calls.{found, refused}
 use Rattle.xp_parse.proofs.read.Parser.test.Goals as goal
 use Rattle.xp_parse.proofs.read.Parser.test.Goals.{in_default-via-in-Some+else-next_is, in_default-via-in_default}
 

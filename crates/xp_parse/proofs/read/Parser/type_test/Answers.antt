@@ -5,7 +5,9 @@ use Rattle.spec_expression.specs.Token.{Token, Name, Open, Close, Literal}
 use Rattle.spec_expression.specs.Syntax.{OfType, Instruction}
 use Rattle.spec_expression.specs.Grammar.{ReadsTest}
 use Rattle.xp_parse.specs.Reading.{left, Read, IsNext}
-use Rattle.xp_parse.proofs.Productions.{found, next_three, next_four, of_type_read, instruction_read}
+use Rattle.xp_parse.proofs.Places.{next_three, next_four}
+use Rattle.xp_parse.proofs.NodeTests.{of_type_read, instruction_read}
+use Rattle.xp_parse.proofs.Calls.{found}
 use Rattle.xp_parse.proofs.read.Parser.type_test.Goals as goal
 
 pub returns-then-next_is-clause-answer : goal.returns-then-next_is-clause-answer
