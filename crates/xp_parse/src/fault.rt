@@ -1,7 +1,12 @@
 // Why a text is no expression.
+ghost use Rattle.std.specs.Prelude.{◌≡◌};
+ghost use Rattle.xp_parse.specs.Code.{fault_code};
+ghost use Rattle.xp_parse.specs.declared.fault.ParseFault.TheVariants as faults;
+
 use spec_expression::Refusal;
 use std::alloc::{AllocError, AllocFailed};
 use thiserror::Error;
+use xt_base::StaticCode;
 use xt_text::Memory;
 
 /// Why `parse` answers no tree.
@@ -15,10 +20,22 @@ pub enum ParseFault {
     Refused(Refusal),
 }
 
-impl From<Memory> for ParseFault {
-    ghost use Rattle.std.specs.Prelude.{◌≡◌};
-    ghost use Rattle.xp_parse.specs.declared.fault.ParseFault.TheVariants as faults;
+impl ParseFault {
+    /// The code of the refusal; want of memory has none.
+    pub fn code(self) -> Option<StaticCode>
+        ensures { result ≡ fault_code self }
+    {
+        match self {
+            ParseFault::Memory => None,
+            ParseFault::Refused(Refusal::Syntax) => Some(StaticCode::BadExpression),
+            ParseFault::Refused(Refusal::Depth) => Some(StaticCode::TooManyBrackets),
+            ParseFault::Refused(Refusal::Number) => Some(StaticCode::BadNumber),
+            ParseFault::Refused(Refusal::Prefix) => Some(StaticCode::NoPrefix),
+        }
+    }
+}
 
+impl From<Memory> for ParseFault {
     ghost from_gives = { λ _ e. e ≡ faults.Memory };
 
     fn from(_error: Memory) -> Self {
@@ -27,9 +44,6 @@ impl From<Memory> for ParseFault {
 }
 
 impl From<AllocError> for ParseFault {
-    ghost use Rattle.std.specs.Prelude.{◌≡◌};
-    ghost use Rattle.xp_parse.specs.declared.fault.ParseFault.TheVariants as faults;
-
     ghost from_gives = { λ _ e. e ≡ faults.Memory };
 
     fn from(_error: AllocError) -> Self {
@@ -38,9 +52,6 @@ impl From<AllocError> for ParseFault {
 }
 
 impl<T: Drop> From<AllocFailed<T>> for ParseFault {
-    ghost use Rattle.std.specs.Prelude.{◌≡◌};
-    ghost use Rattle.xp_parse.specs.declared.fault.ParseFault.TheVariants as faults;
-
     ghost from_gives = { λ _ e. e ≡ faults.Memory };
 
     fn from(_error: AllocFailed<T>) -> Self {

@@ -25,9 +25,10 @@ mod tests {
     use super::*;
     use crate::cut::tokens;
     use crate::token::{Name, Token};
-    use spec_expression::{Operator, Refusal};
+    use spec_expression::Operator;
     use std::alloc::{AllocError, Global};
     use std::test::Fail;
+    use xt_base::StaticCode;
     use xt_names::Scope;
 
     fn written(operator: Operator) -> &'static str {
@@ -183,12 +184,13 @@ mod tests {
     fn outcome(alloc: Global, text: &str) -> Result<&'static str, Fail> {
         match parse(alloc, text, &scope(alloc)?) {
             Ok(_) => Ok("tree"),
-            Err(ParseFault::Memory) => Ok("memory"),
-            Err(ParseFault::Refused(refusal)) => Ok(match refusal {
-                Refusal::Syntax => "S10",
-                Refusal::Depth => "S12",
-                Refusal::Number => "S13",
-                Refusal::Prefix => "S14",
+            Err(fault) => Ok(match fault.code() {
+                None => "memory",
+                Some(StaticCode::BadExpression) => "S10",
+                Some(StaticCode::TooManyBrackets) => "S12",
+                Some(StaticCode::BadNumber) => "S13",
+                Some(StaticCode::NoPrefix) => "S14",
+                Some(_) => "another code",
             }),
         }
     }
