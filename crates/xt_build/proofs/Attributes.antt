@@ -24,6 +24,14 @@ pub kept_three : (found first second now : Option Fault) (xs ys zs rest : List F
     → now ≡ merged second (least zs) → merged now (least rest) ≡ merged found (least (((xs ++ ys) ++ zs) ++ rest))
 kept_three found first second now xs ys zs rest e h k = kept_one found now ((xs ++ ys) ++ zs) rest (k ∙ kept_two found first second xs ys zs e h)
 
+or_false : (a : Bool) → (a || false) ≡ a
+or_false true = refl
+or_false false = refl
+
+or_more : (a b c : Bool) → (a || (b || c)) ≡ ((a || b) || c)
+or_more true b c = refl
+or_more false b c = refl
+
 either_way : (p q a b r : Bool) → r ≡ (a || b) → ((p || q) || r) ≡ ((p || a) || (q || b))
 either_way true q a b r e = refl
 either_way false true true b r e = refl
@@ -37,6 +45,10 @@ double_is scope a [] = refl
 double_is scope a (b ∷ before) =
     either_way (bytes_eq b.name a.name) (same_expanded (expanded_by scope (use_of b.name)) (expanded_by scope (use_of a.name)))
     (list_any (λ b. bytes_eq b.name a.name) before) _ _ (double_is scope a before)
+
+pub any_behind : {X : Type 0} (p : X → Bool) (xs : List X) (x : X) → list_any p (xs ++ x ∷ []) ≡ (list_any p xs || p x)
+any_behind p [] x = or_false (p x)
+any_behind p (y ∷ xs) x = ap (λ b. p y || b) (any_behind p xs x) ∙ or_more (p y) (list_any p xs) (p x)
 
 -- one attribute more is gone through
 pub passed : (scope : Scope) (before more : List Written) (a : Written) (lines : List ℕ) (i line : ℕ) (wrong double : Bool) (found next now : Option Fault)

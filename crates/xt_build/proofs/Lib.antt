@@ -5,6 +5,7 @@ pub mod Building
 pub mod Counting
 pub mod Declared
 pub mod Fronts
+pub mod Keys
 pub mod Least
 pub mod Levels
 pub mod Making

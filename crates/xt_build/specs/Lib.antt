@@ -4,4 +4,5 @@ pub mod Least
 pub mod Left
 pub mod Names
 pub mod Piece
+pub mod Seen
 pub mod View

@@ -18,6 +18,7 @@ mod names;
 mod numbers;
 mod piece;
 mod read;
+mod seen;
 #[cfg(test)]
 mod tests;
 mod top;

@@ -18,6 +18,7 @@ ghost use Rattle.xt_build.specs.View.{found_of, piece_of, pieces_of};
 use crate::Fault;
 use crate::fault::keep_least;
 use crate::piece::Piece;
+use crate::seen::Seen;
 use std::alloc::Global;
 use std::rc::Rc;
 use xt_base::EditCode;
@@ -175,17 +176,15 @@ fn check_attributes(
 ) -> Result<(), Memory>
     ensures { OnOk result (found_of found.new ≡ merged (found_of found.old) (least (attribute_faults scope.now [] lines.now (map written_of attributes.now)))) }
 {
-    let mut names: Vec<Option<Expanded>> = Vec::new(alloc);
+    let mut seen = Seen::new(alloc);
     for (i, attribute) in attributes.iter().enumerate() {
         let line = line_at(lines, i);
         let usage = use_of(alloc, attribute.name.as_str())?;
         let name = expanded(alloc, scope, &usage)?;
         let is_wrong = is_wrong(&usage, name.as_ref(), &attribute.value);
         keep_if(found, is_wrong, EditCode::BadName, line);
-        let before = &attributes[..i];
-        let is_double = is_double(before, names.as_slice(), &attribute.name, name.as_ref());
+        let is_double = seen.insert(alloc, &attribute.name, name.as_ref())?;
         keep_if(found, is_double, EditCode::DoubleAttribute, line);
-        names.push(name)?;
     }
     Ok(())
 }
@@ -244,50 +243,4 @@ fn names_xmlns(prefix: &Text, uri: &Text) -> bool
     ensures { result ≡ (is_xmlns prefix.now || bytes_eq uri.now xmlns_uri) }
 {
     prefix.is("xmlns") || uri.is("http://www.w3.org/2000/xmlns/")
-}
-
-// Whether one of the attributes before, which have these expanded names, has the same name, as written or
-// expanded.
-fn is_double(
-    before: &[Written],
-    names: &[Option<Expanded>],
-    written: &Text,
-    name: Option<&Expanded>,
-) -> bool
-    ensures { result ≡ (list_any (λ b. bytes_eq b.name written.now) (map written_of before.now) || list_any (λ other. same_expanded other (option_copied name.entry)) names.now) }
-{
-    has_name(before, written) || has_expanded(names, name)
-}
-
-// Whether one of the attributes has this name as written.
-fn has_name(attributes: &[Written], name: &Text) -> bool
-    ensures { result ≡ list_any (λ b. bytes_eq b.name name.now) (map written_of attributes.now) }
-{
-    for attribute in attributes {
-        if attribute.name.same(name) {
-            return true;
-        }
-    }
-    false
-}
-
-// Whether one of the expanded names is this one.
-fn has_expanded(names: &[Option<Expanded>], name: Option<&Expanded>) -> bool
-    ensures { result ≡ list_any (λ other. same_expanded other (option_copied name.entry)) names.now }
-{
-    for other in names {
-        if is_same(other.as_ref(), name) {
-            return true;
-        }
-    }
-    false
-}
-
-fn is_same(first: Option<&Expanded>, second: Option<&Expanded>) -> bool
-    ensures { result ≡ same_expanded (option_copied first.entry) (option_copied second.entry) }
-{
-    match (first, second) {
-        (Some(first), Some(second)) => first.same(second),
-        _ => false,
-    }
 }
