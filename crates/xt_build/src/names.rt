@@ -6,7 +6,7 @@ ghost use Rattle.std.specs.Option.{option_copied};
 ghost use Rattle.spec_document.specs.Scope as spec;
 ghost use Rattle.spec_document.specs.Forest.{Forest};
 ghost use Rattle.spec_document.specs.Declaration.{declared_all, is_declaration as declares, is_barred, is_there, is_xml, is_xmlns, xmlns_uri, is_reserved_target};
-ghost use Rattle.spec_document.specs.Document.{Lines, least, fault_if, greatest_depth, is_wrong_element, is_wrong_target, is_wrong_use, expanded_by, same_expanded, attribute_faults, node_faults};
+ghost use Rattle.spec_document.specs.Document.{Lines, least, fault_if, greatest_depth, is_wrong_element, is_wrong_target, is_wrong_use, expanded_by, attribute_faults, node_faults};
 ghost use Rattle.xt_base.specs.Code.{edit_number};
 ghost use Rattle.xt_tree.specs.View.{written_of};
 ghost use Rattle.xt_build.specs.Least.{merged};
