@@ -9,7 +9,7 @@ use Rattle.spec_expression.specs.Syntax.{Test, AnyName, InNamespace, Named, OfTy
 use Rattle.spec_expression.specs.Grammar as g
 use Rattle.spec_expression.specs.Grammar.{type_of, uri_of, expanded, ReadsTest}
 use Rattle.spec_expression.specs.Rank.{head_rank}
-use Rattle.xp_parse.specs.Reading.{Read, Nothing, IsNotNext, NoTarget, begins_test}
+use Rattle.xp_parse.specs.Reading.{Read, Nothing, IsNotNext, begins_test}
 
 -- node tests
 any_only : {s : Scope} {ts ws : List Token} {y : Test} → ReadsTest s (Star ∷ ts) y ws → (AnyName ≡ y) × (ts ≡ ws)
@@ -66,19 +66,3 @@ test_none b p = let e = test_head p in cc
 
 pub test_fail : {s : Scope} {ts : List Token} → begins_test ts ≡ false → Nothing (ReadsTest s) 11 ts
 test_fail b = record { none = λ y ws p h. test_none b p }
-
-type_open : {s : Scope} {ts ws : List Token} {q : QName} {t : NodeType} {y : Test} → type_of q ≡ Some t → IsNotNext ts Close → (t ≡ ProcessingInstruction → ⊥) → ReadsTest s (Name q ∷ Open ∷ ts) y ws → head_rank ws < 11 → ⊥
-type_open n c d g.named h = omega arith
-type_open n c d (g.of_type e) h = c.different _ refl
-type_open n c d (g.instruction e) h = d (let i = e in cc)
-
-pub type_unclosed : {s : Scope} {ts : List Token} {q : QName} {t : NodeType} → type_of q ≡ Some t → IsNotNext ts Close → (t ≡ ProcessingInstruction → ⊥) → Nothing (ReadsTest s) 11 (Name q ∷ Open ∷ ts)
-type_unclosed n c d = record { none = λ y ws p h. type_open n c d p h }
-
-type_no_target : {s : Scope} {ts ws : List Token} {q : QName} {y : Test} → IsNotNext ts Close → NoTarget ts → ReadsTest s (Name q ∷ Open ∷ ts) y ws → head_rank ws < 11 → ⊥
-type_no_target c d g.named h = omega arith
-type_no_target c d (g.of_type e) h = c.different _ refl
-type_no_target c d (g.instruction e) h = d.none _ _ refl
-
-pub type_untargeted : {s : Scope} {ts : List Token} {q : QName} → IsNotNext ts Close → NoTarget ts → Nothing (ReadsTest s) 11 (Name q ∷ Open ∷ ts)
-type_untargeted c d = record { none = λ y ws p h. type_no_target c d p h }

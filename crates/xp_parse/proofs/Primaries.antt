@@ -10,8 +10,7 @@ use Rattle.spec_expression.specs.Grammar as g
 use Rattle.spec_expression.specs.Grammar.{type_of, expanded, value_of, Reads, ReadsFilter, ReadsPrimary, ReadsArguments, ReadsPredicates}
 use Rattle.spec_expression.specs.Rank.{head_rank}
 use Rattle.spec_expression.proofs.Ranks.{predicates_stop}
-use Rattle.xp_parse.specs.Reading.{Read, Nothing, IsNotNext, begins_primary}
-use Rattle.xp_parse.proofs.Begins.{primary_begins}
+use Rattle.xp_parse.specs.Reading.{Read, Nothing, IsNotNext}
 
 -- filters
 filter_only : {s : Scope} {ts us vs ws : List Token} {e y : Expr} {ps : List Expr} → Read (ReadsPrimary s) 11 ts e us → Read (ReadsPredicates s) 10 us ps vs → ReadsFilter s ts y ws → head_rank ws < 10 → (filtered e ps ≡ y) × (vs ≡ ws)
@@ -85,12 +84,6 @@ call_none n (g.of_call e p) h = n.none _ _ p h
 
 pub call_fail : {s : Scope} {ts : List Token} {q : QName} → Nothing (ReadsArguments s) 13 ts → Nothing (ReadsPrimary s) 11 (Name q ∷ Open ∷ ts)
 call_fail n = record { none = λ y ws p h. call_none n p (omega arith) }
-
-primary_none : {s : Scope} {ts ws : List Token} {y : Expr} → begins_primary ts ≡ false → ReadsPrimary s ts y ws → ⊥
-primary_none b p = let e = primary_begins p in cc
-
-pub primary_fail : {s : Scope} {ts : List Token} → begins_primary ts ≡ false → Nothing (ReadsPrimary s) 11 ts
-primary_fail b = record { none = λ y ws p h. primary_none b p }
 
 pub number_value : (o : Option ℕ) (w f : List ℕ) → MatchOption o (is_whole w f ≡ false) (λ n. (is_whole w f ≡ true) × (n ≡ decimal w)) → unwrap_or o 0 ≡ value_of w f
 number_value None w f h = ap (λ (b : Bool). cond b (decimal w) 0) (sym h)

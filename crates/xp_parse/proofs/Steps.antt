@@ -60,28 +60,11 @@ steps_over c d (g.descendant p) = absurd (d.different _ refl)
 pub steps_end : {s : Scope} {from ts : List Token} {done : List Step} → IsNotNext ts Slash → IsNotNext ts SlashSlash → Continues (ReadsSteps s) 9 from done ts → Read (ReadsSteps s) 9 from done ts
 steps_end {s = s} {from = from} {ts = ts} {done = done} c d k = ended (ReadsSteps s) 9 from ts ts done k g.no_step (λ ys vs p. steps_over c d p)
 
-relative_part : {s : Scope} {ts us vs ws : List Token} {x : Step} {ss ys : List Step} → Read (ReadsStep s) 10 ts x us → Read (ReadsSteps s) 9 us ss vs → ReadsRelative s ts ys ws → head_rank ws < 9 → (x ∷ ss ≡ ys) × (vs ≡ ws)
-relative_part {s = s} {ss = ss} r z (g.steps {vs = ws} {s = y} {ss = rs} p q) h =
-    let i = r.only _ _ p (steps_stop q h) in
-    let j = z.only rs ws (subst (λ (ts : List Token). ReadsSteps s ts rs ws) (sym i.1) q) h in
-    (ap (λ (k : Step). k ∷ ss) i.0 ∙ ap (λ (k : List Step). y ∷ k) j.0, j.1)
-
-pub steps_read : {s : Scope} {ts us vs : List Token} {x : Step} {ss : List Step} → Read (ReadsStep s) 10 ts x us → Read (ReadsSteps s) 9 us ss vs → Read (ReadsRelative s) 9 ts (x ∷ ss) vs
-steps_read r z = record { reads = g.steps r.reads z.reads; only = λ y ws p h. relative_part r z p h }
-
 steps_none : {s : Scope} {ts ws : List Token} {ys : List Step} → Nothing (ReadsStep s) 10 ts → ReadsRelative s ts ys ws → head_rank ws < 9 → ⊥
 steps_none n (g.steps p q) h = n.none _ _ p (steps_stop q h)
 
 pub steps_fail : {s : Scope} {ts : List Token} → Nothing (ReadsStep s) 10 ts → Nothing (ReadsRelative s) 9 ts
 steps_fail n = record { none = λ y ws p h. steps_none n p h }
-
-steps_none_later : {s : Scope} {ts us ws : List Token} {x : Step} {ys : List Step} → Read (ReadsStep s) 10 ts x us → Nothing (ReadsSteps s) 9 us → ReadsRelative s ts ys ws → head_rank ws < 9 → ⊥
-steps_none_later {s = s} r n (g.steps {vs = ws} {ss = rs} p q) h =
-    let i = r.only _ _ p (steps_stop q h) in
-    n.none rs ws (subst (λ (ts : List Token). ReadsSteps s ts rs ws) (sym i.1) q) h
-
-pub steps_fail_later : {s : Scope} {ts us : List Token} {x : Step} → Read (ReadsStep s) 10 ts x us → Nothing (ReadsSteps s) 9 us → Nothing (ReadsRelative s) 9 ts
-steps_fail_later r n = record { none = λ y ws p h. steps_none_later r n p h }
 
 -- steps, by their axis
 dot_only : {s : Scope} {ts ws : List Token} {y : Step} → ReadsStep s (Dot ∷ ts) y ws → (node_on Itself ≡ y) × (ts ≡ ws)

@@ -9,8 +9,8 @@ pub mod Keys
 pub mod Least
 pub mod Levels
 pub mod Making
-pub mod Opened
-pub mod Opening
+pub mod OpenFaults
+pub mod OpenNodes
 pub mod Reading
 pub mod RoundTrip
 pub mod RoundTripEvents

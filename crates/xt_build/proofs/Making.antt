@@ -10,7 +10,7 @@ use Rattle.spec_document.specs.Forest.{Forest, Empty, Node, Written, Content, El
 use Rattle.spec_document.specs.Document.{Lines, kept}
 use Rattle.xt_tree.specs.View.{content_of, followed}
 use Rattle.xt_build.specs.Piece.{node_before}
-use Rattle.xt_build.proofs.Opening.{close, close_all, behind, coming, whole, followed-empty, followed-assoc, close_all-append, level}
+use Rattle.xt_build.proofs.OpenNodes.{close, close_all, behind, coming, whole, followed-empty, followed-assoc, close_all-append, level}
 use Rattle.xt_build.proofs.Stacks.{is_element}
 use Rattle.xt_build.specs.Left.{kept_open, open_size, open_numbered, is_text}
 use Rattle.xt_build.specs.declared.make.Open.{Open}

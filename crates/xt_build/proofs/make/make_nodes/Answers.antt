@@ -9,7 +9,7 @@ use Rattle.xt_build.specs.View.{pieces_of}
 use Rattle.xt_build.specs.declared.make.Open.{Open}
 use Rattle.std.proofs.lemmas.List.{nil_from_length}
 use Rattle.xt_build.proofs.Stacks.{open-some, closed-rest, closed-element}
-use Rattle.xt_build.proofs.Opening.{whole, coming, level}
+use Rattle.xt_build.proofs.OpenNodes.{whole, coming, level}
 use Rattle.xt_build.proofs.Making.{whole-ends, size-ends, whole-leaf, whole-element, open_size-leaf, open_size-element, kept-dropped, text-no_element, length-leaf, test-dropped, test-kept, kind-element, whole-end}
 use denote.Enum.Bare.{sameb}
 use Rattle.spec_document.specs.contracts.kind.Kind.{the_type}

@@ -4,7 +4,7 @@ use Rattle.spec_document.specs.Document.{kept}
 use Rattle.xt_build.specs.Piece.{open_in, forest_in, AreClosed}
 use Rattle.xt_build.specs.Left.{kept_open, open_size}
 use Rattle.xt_build.specs.View.{pieces_of}
-use Rattle.xt_build.proofs.Opening.{whole, coming}
+use Rattle.xt_build.proofs.OpenNodes.{whole, coming}
 use Rattle.xt_build.proofs.make.make_nodes.Given as goal
 
 -- what is made so far and what is to come are the whole

@@ -7,7 +7,7 @@ use Rattle.xt_build.specs.Names.{scopes_in}
 use Rattle.xt_build.specs.Piece.{open_in}
 use Rattle.xt_build.specs.View.{found_of, pieces_of}
 use Rattle.xt_build.proofs.Least.{merged-none}
-use Rattle.xt_build.proofs.Opened.{whole_faults}
+use Rattle.xt_build.proofs.OpenFaults.{whole_faults}
 use Rattle.xt_build.proofs.names.check_nodes.Goals as goal
 
 pub returns : goal.returns

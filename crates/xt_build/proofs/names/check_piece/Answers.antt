@@ -9,7 +9,7 @@ use Rattle.xt_build.specs.Names.{scopes_in}
 use Rattle.xt_build.specs.Piece.{piece_before}
 use Rattle.xt_build.specs.View.{found_of, piece_of}
 use Rattle.xt_build.specs.declared.piece.Piece.TheVariants as code
-use Rattle.xt_build.proofs.Opened.{instructed, entered, scopes_more, scopes_length, last_innermost}
+use Rattle.xt_build.proofs.OpenFaults.{instructed, entered, scopes_more, scopes_length, last_innermost}
 use Rattle.xt_build.proofs.names.check_piece.Goals as goal
 
 pub returns-in-Instruction : goal.returns-in-Instruction
