@@ -43,7 +43,7 @@ pieces_before (piece ∷ pieces) behind = piece_before piece (pieces_before piec
 abbrev pub open_in : List Piece → List (Forest Lines)
 open_in pieces = pieces_before pieces (Empty ∷ [])
 
--- the forest of the pieces, and that nothing but it is there
+-- the forest of the pieces
 abbrev pub forest_in : List Piece → Forest Lines
 forest_in pieces = first_of (open_in pieces)
 
@@ -56,5 +56,6 @@ AreClosed (Begins lines (Text text) ∷ pieces) behind = AreClosed pieces behind
 AreClosed (Begins lines (Comment text) ∷ pieces) behind = AreClosed pieces behind
 AreClosed (Begins lines (Instruction target text) ∷ pieces) behind = AreClosed pieces behind
 
+-- nothing but that forest is there, and each element has its end
 abbrev pub IsWhole : List Piece → Type 0
 IsWhole pieces = (length (open_in pieces) ≡ 1) × AreClosed pieces (Empty ∷ [])

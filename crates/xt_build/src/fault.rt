@@ -1,6 +1,7 @@
 // Why lines make no document.
 ghost use Rattle.std.specs.Prelude.{◌≡◌, ◌||◌, ◌&&◌, ◌==◌, nat_lt, Some};
-ghost use Rattle.spec_document.specs.Document.{comes_first};
+ghost use Rattle.spec_document.specs.Document.{comes_first, fault_if, least};
+ghost use Rattle.xt_base.specs.Code.{edit_number};
 ghost use Rattle.xt_build.specs.Least.{merged};
 ghost use Rattle.xt_build.specs.View.{fault_of, found_of};
 ghost use Rattle.xt_build.specs.declared.fault.BuildFault.TheVariants.{Memory as OutOfMemory};
@@ -69,5 +70,14 @@ pub(crate) fn keep_least(found: &mut Option<Fault>, fault: Fault)
                 *found = Some(fault);
             }
         }
+    }
+}
+
+/// The same for a fault that stands only under this condition.
+pub(crate) fn keep_if(found: &mut Option<Fault>, stands: bool, code: EditCode, line: u64)
+    ensures { found_of found.new ≡ merged (found_of found.old) (least (fault_if stands (edit_number code) line)) }
+{
+    if stands {
+        keep_least(found, Fault { code, line });
     }
 }

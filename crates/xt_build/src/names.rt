@@ -6,8 +6,7 @@ ghost use Rattle.std.specs.Option.{option_copied};
 ghost use Rattle.spec_document.specs.Scope as spec;
 ghost use Rattle.spec_document.specs.Forest.{Forest};
 ghost use Rattle.spec_document.specs.Declaration.{declared_all, is_declaration as declares, is_barred, is_there, is_xml, is_xmlns, xmlns_uri, is_reserved_target};
-ghost use Rattle.spec_document.specs.Document.{Lines, least, fault_if, greatest_depth, is_wrong_element, is_wrong_target, is_wrong_use, expanded_by, attribute_faults, node_faults};
-ghost use Rattle.xt_base.specs.Code.{edit_number};
+ghost use Rattle.spec_document.specs.Document.{Lines, least, greatest_depth, is_wrong_element, is_wrong_target, is_wrong_use, expanded_by, attribute_faults, node_faults};
 ghost use Rattle.xt_tree.specs.View.{written_of};
 ghost use Rattle.xt_build.specs.Least.{merged};
 ghost use Rattle.xt_build.specs.Left.{open_faults};
@@ -16,7 +15,7 @@ ghost use Rattle.xt_build.specs.Piece.{forest_in, IsWhole, piece_before};
 ghost use Rattle.xt_build.specs.View.{found_of, piece_of, pieces_of};
 
 use crate::Fault;
-use crate::fault::keep_least;
+use crate::fault::keep_if;
 use crate::piece::Piece;
 use crate::seen::Seen;
 use std::alloc::Global;
@@ -95,15 +94,6 @@ fn check_piece(
             }
             Content::Text { .. } | Content::Comment { .. } => Ok(()),
         },
-    }
-}
-
-// Keeps a fault where it stands and is to be answered rather than the one that was found before.
-fn keep_if(found: &mut Option<Fault>, stands: bool, code: EditCode, line: u64)
-    ensures { found_of found.new ≡ merged (found_of found.old) (least (fault_if stands (edit_number code) line)) }
-{
-    if stands {
-        keep_least(found, Fault { code, line });
     }
 }
 

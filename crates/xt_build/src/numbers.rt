@@ -9,7 +9,7 @@ ghost use Rattle.xt_build.specs.View.{found_of, pieces_of};
 ghost use Rattle.xt_tree.specs.View.{content_of};
 
 use crate::Fault;
-use crate::fault::keep_least;
+use crate::fault::keep_if;
 use crate::piece::Piece;
 use xt_base::EditCode;
 use xt_tree::Content;
@@ -60,13 +60,6 @@ pub(crate) fn is_dropped(others: Option<u64>, level: usize, content: &Content) -
 pub(crate) fn check_number(number: u64, line: u64, found: &mut Option<Fault>)
     ensures { found_of found.new ≡ merged (found_of found.old) (least (number_faults number (line ∷ []))) }
 {
-    if number >= NUMBER_LIMIT {
-        keep_least(
-            found,
-            Fault {
-                code: EditCode::TooManyNodes,
-                line,
-            },
-        );
-    }
+    let is_beyond = number >= NUMBER_LIMIT;
+    keep_if(found, is_beyond, EditCode::TooManyNodes, line);
 }

@@ -8,7 +8,7 @@ ghost use Rattle.xt_build.specs.Piece.{forest_in, IsWhole};
 ghost use Rattle.xt_build.specs.View.{found_of, pieces_of};
 
 use crate::Fault;
-use crate::fault::keep_least;
+use crate::fault::keep_if;
 use crate::piece::Piece;
 use std::alloc::Global;
 use xt_base::EditCode;
@@ -64,19 +64,12 @@ fn element_lines(alloc: Global, pieces: &[Piece]) -> Result<Vec<u64>, Memory>
 fn check_elements(others: u64, lines: &[u64], found: &mut Option<Fault>)
     ensures { found_of found.new ≡ merged (found_of found.old) (least (element_faults others lines.now)) }
 {
-    if others.saturating_add(lines.len() as u64) != 1 {
-        let line = lines
-            .get(1_u64.saturating_sub(others) as usize)
-            .copied()
-            .unwrap_or(0);
-        keep_least(
-            found,
-            Fault {
-                code: EditCode::Unbalanced,
-                line,
-            },
-        );
-    }
+    let is_wrong = others.saturating_add(lines.len() as u64) != 1;
+    let line = lines
+        .get(1_u64.saturating_sub(others) as usize)
+        .copied()
+        .unwrap_or(0);
+    keep_if(found, is_wrong, EditCode::Unbalanced, line);
 }
 
 // Finds the texts at the top that are not white space.
@@ -105,15 +98,7 @@ fn check_texts(pieces: &[Piece], found: &mut Option<Fault>)
 fn check_text(text: &Text, line: u64, found: &mut Option<Fault>)
     ensures { found_of found.new ≡ merged (found_of found.old) (least (fault_if (not (list_all is_space text.now)) 9 line)) }
 {
-    if !is_white(text) {
-        keep_least(
-            found,
-            Fault {
-                code: EditCode::Unbalanced,
-                line,
-            },
-        );
-    }
+    keep_if(found, !is_white(text), EditCode::Unbalanced, line);
 }
 
 fn is_white(text: &Text) -> bool
