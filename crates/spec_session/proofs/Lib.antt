@@ -1,2 +1,4 @@
 pub mod Steps
 pub mod Reading
+pub mod FaultNumbers
+pub mod Answers

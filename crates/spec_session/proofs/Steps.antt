@@ -1,95 +1,60 @@
 -- The machine has a step at each command, and but for want of memory only one.
-use Rattle.std.proofs.Common.{◌≡◌, ◌⊎◌, ℕ, List, Option, None, Some, refl, sym, ◌∙◌, ap, arith, inl, inr}
-use Rattle.std.specs.Prelude.{◌≢◌}
-use Rattle.spec_document.specs.Forest.{Plain}
-use Rattle.spec_session.specs.declared.kinds.Refusal.{Refusal}
-use Rattle.spec_session.specs.Reply.{Reply, OkDone, OkRefused, Shown, ShowRefused, No}
-use Rattle.spec_session.specs.Machine.{Documents, Outcome, Done, Refused, outcome_of, HasResult, Request, SetSource, SetMain, Show, Other, Answers}
-
--- the machine has a step at each request, with a reply that is not for want of memory
-abbrev HasStep : Documents → Request → Type 0
-HasStep old request = (reply : Reply) × (new : Documents) × Answers old request reply new × (reply ≢ No 1)
-
-set_source : (old : Documents) (tree : Plain) (o : Outcome) → outcome_of (record old { source = Some tree }) ≡ o → HasStep old (SetSource tree)
-set_source old tree (Done result) e = (OkDone, record old { source = Some tree }, (refl, (result, e)), λ h. cc)
-set_source old tree (Refused why) e = (OkRefused why, record old { source = Some tree }, (refl, e), λ h. cc)
-
-set_main : (old : Documents) (tree : Plain) (o : Outcome) → outcome_of (record old { main = Some tree }) ≡ o → HasStep old (SetMain tree)
-set_main old tree (Done result) e = (OkDone, record old { main = Some tree }, (refl, (result, e)), λ h. cc)
-set_main old tree (Refused why) e = (OkRefused why, record old { main = Some tree }, (refl, e), λ h. cc)
-
-show : (old : Documents) (o : Outcome) → outcome_of old ≡ o → HasStep old Show
-show old (Done result) e = (Shown result, old, (e, refl), λ h. cc)
-show old (Refused why) e = (ShowRefused why, old, (e, refl), λ h. cc)
+use Rattle.std.proofs.Common.{◌≡◌, ℕ, refl, sym, ◌∙◌, ap, arith, inl, inr}
+use Rattle.std.specs.Prelude.{◌≢◌, ◌<◌}
+use Rattle.spec_session.specs.Command.{Command}
+use Rattle.spec_session.specs.Reply.{Reply, OkDone, OkRefused, Refused, Shown, No}
+use Rattle.spec_session.specs.Machine.{State, Outcome, Done, Failed, Answer, Refuses, Changes, ShowsResult, ShowsDocument, Gives, Step, answer_of, change_reply, result_reply, outcome_by, main_name}
 
 number_in : Reply → ℕ
-number_in (No n) = n
-number_in _ = 0
+number_in (No number) = number
+number_in OkDone = 0
+number_in (OkRefused why) = 0
+number_in (Refused why) = 0
+number_in (Shown lines) = 0
 
-apart : (n : ℕ) → n ≡ 13 → n ≡ 1 → ⊥
-apart n e f = omega arith
+-- what is given and is not for want of memory
+abbrev HasReply : State → Answer → Type 0
+HasReply old answer = (reply : Reply) × (new : State) × Gives old answer reply new × (reply ≢ No 1)
 
-differ : No 13 ≡ No 1 → ⊥
-unfolding number_in
-differ h = apart (number_in (No 13)) refl (ap number_in h)
+-- no answer refuses by the number of want of memory
+abbrev pub IsOther : Answer → Type 0
+IsOther (Refuses number) = 1 < number
+IsOther (Changes next) = Unit {0}
+IsOther ShowsResult = Unit {0}
+IsOther (ShowsDocument tree) = Unit {0}
 
-pub has_step : (old : Documents) (request : Request) → HasStep old request
-has_step old (SetSource tree) = set_source old tree _ refl
-has_step old (SetMain tree) = set_main old tree _ refl
-has_step old Show = show old _ refl
-has_step old Other = (No 13, old, (inr refl, refl), λ h. differ h)
+outcome : State → Outcome
+outcome state = outcome_by (state.modules main_name) state.source
 
--- the one step at a request that is not for want of memory
-abbrev reply_to_change : Outcome → Reply
-reply_to_change (Done result) = OkDone
-reply_to_change (Refused why) = OkRefused why
+above : (n : ℕ) → 1 < n → n ≡ 1 → ⊥
+above n h e = omega arith
 
-abbrev reply_to_show : Outcome → Reply
-reply_to_show (Done result) = Shown result
-reply_to_show (Refused why) = ShowRefused why
+change_differs : (o : Outcome) → change_reply o ≢ No 1
+change_differs (Done result) = λ h. cc
+change_differs (Failed why) = λ h. cc
 
-abbrev state_after : Documents → Request → Documents
-state_after old (SetSource tree) = record old { source = Some tree }
-state_after old (SetMain tree) = record old { main = Some tree }
-state_after old Show = old
-state_after old Other = old
+result_differs : (o : Outcome) → result_reply o ≢ No 1
+result_differs (Done result) = λ h. cc
+result_differs (Failed why) = λ h. cc
 
-abbrev reply_after : Documents → Request → Reply
-reply_after old (SetSource tree) = reply_to_change (outcome_of (state_after old (SetSource tree)))
-reply_after old (SetMain tree) = reply_to_change (outcome_of (state_after old (SetMain tree)))
-reply_after old Show = reply_to_show (outcome_of old)
-reply_after old Other = No 13
+pub gives : (old : State) (answer : Answer) → IsOther answer → HasReply old answer
+unfolding number_in outcome
+gives old (Refuses number) h = (No number, old, (refl, refl), λ e. above number h (ap number_in e))
+gives old (Changes next) h = (change_reply (outcome next), next, ((outcome next, refl, refl), refl), change_differs (outcome next))
+gives old ShowsResult h = (result_reply (outcome old), old, ((outcome old, refl, refl), refl), result_differs (outcome old))
+gives old (ShowsDocument tree) h = (Shown _, old, (refl, refl), λ e. cc)
 
-abbrev IsTheStep : Documents → Request → Reply → Documents → Type 0
-IsTheStep old request reply new = (reply ≡ reply_after old request) × (new ≡ state_after old request)
+-- what one answer gives is one reply and one state
+pub one : (old : State) (answer : Answer) (reply other : Reply) (new another : State) → Gives old answer reply new → Gives old answer other another → (reply ≡ other) × (new ≡ another)
+one old (Refuses number) reply other new another g h = (g.0 ∙ sym h.0, g.1 ∙ sym h.1)
+one old (Changes next) reply other new another g h =
+    (g.0.2 ∙ ap change_reply (g.0.1 ∙ sym h.0.1) ∙ sym h.0.2, g.1 ∙ sym h.1)
+one old ShowsResult reply other new another g h =
+    (g.0.2 ∙ ap result_reply (g.0.1 ∙ sym h.0.1) ∙ sym h.0.2, g.1 ∙ sym h.1)
+one old (ShowsDocument tree) reply other new another g h = (g.0 ∙ sym h.0, g.1 ∙ sym h.1)
 
-pub the_step : (old : Documents) (request : Request) (reply : Reply) (new : Documents) → Answers old request reply new → reply ≢ No 1 → IsTheStep old request reply new
-the_step old (SetSource tree) (No n) new s m = absurd (m (ap No s.0))
-the_step old (SetMain tree) (No n) new s m = absurd (m (ap No s.0))
-the_step old Show (No n) new s m = absurd (m (ap No s.0))
-the_step old Other (No n) new (inl e, k) m = absurd (m (ap No e))
-the_step old Other (No n) new (inr e, k) m = (ap No e, k)
-the_step old (SetSource tree) OkDone new (e, (result, h)) m = (sym (ap reply_to_change (sym (ap outcome_of e) ∙ h)), e)
-the_step old (SetSource tree) (OkRefused why) new (e, h) m = (sym (ap reply_to_change (sym (ap outcome_of e) ∙ h)), e)
-the_step old (SetMain tree) OkDone new (e, (result, h)) m = (sym (ap reply_to_change (sym (ap outcome_of e) ∙ h)), e)
-the_step old (SetMain tree) (OkRefused why) new (e, h) m = (sym (ap reply_to_change (sym (ap outcome_of e) ∙ h)), e)
-the_step old Show (Shown result) new (h, e) m = (sym (ap reply_to_show h), e)
-the_step old Show (ShowRefused why) new (h, e) m = (sym (ap reply_to_show h), e)
-the_step old (SetSource tree) (Shown result) new s m = absurd s
-the_step old (SetSource tree) (ShowRefused why) new s m = absurd s
-the_step old (SetMain tree) (Shown result) new s m = absurd s
-the_step old (SetMain tree) (ShowRefused why) new s m = absurd s
-the_step old Show OkDone new s m = absurd s
-the_step old Show (OkRefused why) new s m = absurd s
-the_step old Other OkDone new s m = absurd s
-the_step old Other (OkRefused why) new s m = absurd s
-the_step old Other (Shown result) new s m = absurd s
-the_step old Other (ShowRefused why) new s m = absurd s
-
--- so two such steps agree
-pub steps_agree_lem : (old : Documents) (request : Request) (reply other : Reply) (new another : Documents) → Answers old request reply new → Answers old request other another
-    → reply ≢ No 1 → other ≢ No 1 → (reply ≡ other) × (new ≡ another)
-steps_agree_lem old request reply other new another s t m n =
-    let a = the_step old request reply new s m in
-    let b = the_step old request other another t n in
-    (a.0 ∙ sym b.0, a.1 ∙ sym b.1)
+pub steps_agree_lem : (old : State) (command : Command) (reply other : Reply) (new another : State)
+    → Step old command reply new → Step old command other another → reply ≢ No 1 → other ≢ No 1 → (reply ≡ other) × (new ≡ another)
+steps_agree_lem old command reply other new another (inl g) (inl h) m n = one old (answer_of old command) reply other new another g h
+steps_agree_lem old command reply other new another (inr g) h m n = absurd (m g.0)
+steps_agree_lem old command reply other new another (inl g) (inr h) m n = absurd (n h.0)

@@ -1,5 +1,5 @@
 -- The commands that lines are, each with its body, and how the lines end.
-use Rattle.std.specs.Prelude.{ℕ, ◌≡◌, Bool, true, false, ◌||◌, List, [], ◌∷◌, ◌++◌, length, take, ◌==◌, bytes_eq, codes, if◌then◌else◌}
+use Rattle.std.specs.Prelude.{ℕ, Bool, true, false, ◌||◌, List, [], ◌∷◌, ◌++◌, length, take, ◌==◌, bytes_eq, codes, if◌then◌else◌}
 use Rattle.spec_session.specs.declared.kinds.LineKind.{LineKind}
 use Rattle.spec_session.specs.declared.kinds.LineKind.TheVariants.{Empty, Quit as QuitLine, WithBody, Alone}
 use Rattle.spec_session.specs.declared.kinds.Ending.{Ending}

@@ -1,6 +1,7 @@
 pub mod Lines
 pub mod Command
-pub mod Form
+pub mod Request
+pub mod Language
 pub mod Reply
 pub mod Machine
 pub mod Outside

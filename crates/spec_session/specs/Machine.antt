@@ -1,103 +1,143 @@
 -- The session machine. Its state is plain documents; a step relates state, command, reply and new state.
-use Rattle.std.specs.Prelude.{ℕ, ◌≡◌, ◌≢◌, ◌⊎◌, List, [], ◌∷◌, Option, None, Some, bytes_eq, codes, if◌then◌else◌}
-use Rattle.std.specs.Option.{option_and_then}
-use Rattle.std.specs.Str.{is_utf8, chars}
-use Rattle.spec_document.specs.declared.event.Event.{Event}
-use Rattle.spec_document.specs.Forest.{Plain, events_of, in_front}
-use Rattle.spec_session.specs.declared.kinds.Refusal.{Refusal}
-use Rattle.spec_session.specs.declared.kinds.Refusal.TheVariants.{NoMain, NoSource}
+use Rattle.std.specs.Prelude.{ℕ, ◌≡◌, ◌+◌, ◌⊎◌, List, [], ◌∷◌, Option, None, Some, Result, Ok, Err, bytes_eq, codes, if◌then◌else◌}
+use Rattle.spec_document.specs.Scope.{root_scope}
+use Rattle.spec_document.specs.Forest.{Plain, Document, plain, size, lines_of}
+use Rattle.spec_document.specs.Document.{Fault, document_of}
 use Rattle.spec_session.specs.Command.{Command}
-use Rattle.spec_session.specs.Form.{source_of, stylesheet_of, result_of}
-use Rattle.spec_session.specs.Reply.{Reply, OkDone, OkRefused, Shown, ShowRefused, No}
+use Rattle.spec_session.specs.Request.{DocumentName, SourceName, ModuleName, Request, SetSource, SetModule, DropModule, Insert, Delete, SetText, SetAttribute, RemoveAttribute, Rename, SetParameter, Show, Write, Messages, Dump, Statistics, request_of}
+use Rattle.spec_session.specs.Language.{stylesheet_of, document_element_from, result_of}
+use Rattle.spec_session.specs.Reply.{Static, Refusal, Reply, OkDone, OkRefused, Refused, Shown, No}
 
--- the documents that are held
-pub record Documents : Type 0 where
-  pub main : Option Plain
+-- the module of each name
+abbrev pub Modules : Type 0
+Modules = List ℕ → Option Plain
+
+-- what is held
+pub record State : Type 0 where
   pub source : Option Plain
+  pub modules : Modules
+  -- how many nodes the commands accepted so far have made: the next one has this number
+  pub made : ℕ
 
--- at the start none is held
-abbrev pub no_documents : Documents
-no_documents = record { main = None; source = None }
+-- at the start nothing is held
+abbrev pub initial : State
+initial = record { source = None; modules = λ name. None; made = 0 }
 
--- what the transformation of the documents gives
+abbrev pub document_named : State → DocumentName → Option Plain
+document_named state SourceName = state.source
+document_named state (ModuleName name) = state.modules name
+
+-- ---- What the transformation of the documents gives: its result, or why there is none
+
 pub data Outcome : Type 0 where
   Done : (result : Plain) → Outcome
-  Refused : (why : Refusal) → Outcome
+  Failed : (why : Refusal) → Outcome
+
+abbrev pub main_name : List ℕ
+main_name = codes "main"
+
+-- S01: there is no module `main`; S02: there is no source
+abbrev pub no_main : Refusal
+no_main = record { code = Static 1; place = None }
+
+abbrev pub no_source : Refusal
+no_source = record { code = Static 2; place = None }
+
+-- S90, at its document element: `main` is none of the stylesheets that are taken
+abbrev pub not_taken : Plain → Refusal
+not_taken main = record { code = Static 90; place = Some (record { name = main_name; positions = document_element_from 1 main ∷ [] }) }
 
 abbrev pub outcome_by : Option Plain → Option Plain → Outcome
-outcome_by None source = Refused NoMain
-outcome_by (Some main) None = Refused NoSource
-outcome_by (Some main) (Some source) = Done (result_of main source)
+outcome_by None source = Failed no_main
+outcome_by (Some main) None = Failed no_source
+outcome_by (Some main) (Some source) =
+    elim (stylesheet_of main) [ None ↦ Failed (not_taken main) | Some stylesheet ↦ Done (result_of stylesheet source) ]
 
-abbrev pub outcome_of : Documents → Outcome
-outcome_of documents = outcome_by documents.main documents.source
+abbrev pub IsOutcome : State → Outcome → Type 0
+IsOutcome state outcome = outcome ≡ outcome_by (state.modules main_name) state.source
 
-abbrev pub HasResult : Documents → Type 0
-HasResult documents = (result : Plain) × (outcome_of documents ≡ Done result)
+-- ---- What a command comes to in a state
 
--- the text of bytes that are UTF-8
-abbrev pub text_of_bytes : List ℕ → Option (List ℕ)
-text_of_bytes bytes = if is_utf8 bytes then Some (chars bytes) else None
+pub data Answer : Type 0 where
+  -- it is refused by this number
+  Refuses : (number : ℕ) → Answer
+  -- it is accepted, and this is held afterwards
+  Changes : (new : State) → Answer
+  -- the result is shown
+  ShowsResult : Answer
+  -- a document is shown
+  ShowsDocument : (tree : Plain) → Answer
 
-abbrev pub texts_of : List (List ℕ) → Option (List (List ℕ))
-texts_of [] = Some []
-texts_of (line ∷ lines) = in_front (text_of_bytes line) (texts_of lines)
+-- a new source, a new module of this name, whose nodes were made
+abbrev pub with_source : State → Document ℕ → State
+with_source old document = record { source = Some (plain document.nodes); modules = old.modules; made = old.made + 1 + size document.nodes }
 
--- the events of a body, where each line is UTF-8 and has one
-abbrev pub events_in : List (List ℕ) → Option (List (Event (List ℕ)))
-events_in body = option_and_then events_of (texts_of body)
+abbrev pub with_module : List ℕ → State → Document ℕ → State
+with_module name old document = record {
+  source = old.source;
+  modules = λ other. if bytes_eq other name then Some (plain document.nodes) else old.modules other;
+  made = old.made + 1 + size document.nodes;
+}
 
--- what a command asks
-pub data Request : Type 0 where
-  SetSource : (tree : Plain) → Request
-  SetMain : (tree : Plain) → Request
-  Show : Request
-  -- nothing that is taken so far
-  Other : Request
+-- the document of a body's lines is kept, or its least fault is the refusal
+abbrev pub kept_by : (Document ℕ → State) → Result (Document ℕ) Fault → Answer
+kept_by with_document (Err fault) = Refuses fault.number
+kept_by with_document (Ok document) = Changes (with_document document)
 
-abbrev pub set_by : (Plain → Request) → Option Plain → Request
-set_by make None = Other
-set_by make (Some tree) = make tree
+abbrev pub shows : Option Plain → Answer
+shows None = Refuses 5
+shows (Some tree) = ShowsDocument tree
 
-abbrev pub request_of : Command → Request
-request_of command =
-    if bytes_eq command.line (codes "source") then set_by SetSource (option_and_then source_of (events_in command.body))
-    else (if bytes_eq command.line (codes "module main") then set_by SetMain (option_and_then stylesheet_of (events_in command.body))
-    else (if bytes_eq command.line (codes "show") then Show else Other))
+abbrev pub answer_to : State → Request → Answer
+answer_to old (SetSource body) = kept_by (with_source old) (document_of root_scope old.made body)
+answer_to old (SetModule name body) = kept_by (with_module name old) (document_of root_scope old.made body)
+answer_to old Show = ShowsResult
+answer_to old (Dump document) = shows (document_named old document)
+-- whatever else a command may ask is not taken: its word is no command
+answer_to old (DropModule name) = Refuses 3
+answer_to old (Insert document path body) = Refuses 3
+answer_to old (Delete document path) = Refuses 3
+answer_to old (SetText document path value) = Refuses 3
+answer_to old (SetAttribute document path name value) = Refuses 3
+answer_to old (RemoveAttribute document path name) = Refuses 3
+answer_to old (Rename document path name) = Refuses 3
+answer_to old (SetParameter name value) = Refuses 3
+answer_to old Write = Refuses 3
+answer_to old Messages = Refuses 3
+answer_to old Statistics = Refuses 3
 
--- From old, the machine may give this reply to the request and go on to new.
-abbrev pub Answers : Documents → Request → Reply → Documents → Type 0
--- want of memory may come at any request, and 13 comes exactly where nothing is asked that is taken; neither changes anything
-Answers old (SetSource tree) (No number) new = (number ≡ 1) × (new ≡ old)
-Answers old (SetMain tree) (No number) new = (number ≡ 1) × (new ≡ old)
-Answers old Show (No number) new = (number ≡ 1) × (new ≡ old)
-Answers old Other (No number) new = ((number ≡ 1) ⊎ (number ≡ 13)) × (new ≡ old)
--- a document is set, and the reply says what the transformation then gives
-Answers old (SetSource tree) OkDone new = (new ≡ record old { source = Some tree }) × HasResult new
-Answers old (SetSource tree) (OkRefused why) new = (new ≡ record old { source = Some tree }) × (outcome_of new ≡ Refused why)
-Answers old (SetMain tree) OkDone new = (new ≡ record old { main = Some tree }) × HasResult new
-Answers old (SetMain tree) (OkRefused why) new = (new ≡ record old { main = Some tree }) × (outcome_of new ≡ Refused why)
--- the result is shown
-Answers old Show (Shown result) new = (outcome_of old ≡ Done result) × (new ≡ old)
-Answers old Show (ShowRefused why) new = (outcome_of old ≡ Refused why) × (new ≡ old)
--- no other reply is given
-Answers old (SetSource tree) (Shown result) new = ⊥
-Answers old (SetSource tree) (ShowRefused why) new = ⊥
-Answers old (SetMain tree) (Shown result) new = ⊥
-Answers old (SetMain tree) (ShowRefused why) new = ⊥
-Answers old Show OkDone new = ⊥
-Answers old Show (OkRefused why) new = ⊥
-Answers old Other OkDone new = ⊥
-Answers old Other (OkRefused why) new = ⊥
-Answers old Other (Shown result) new = ⊥
-Answers old Other (ShowRefused why) new = ⊥
+abbrev pub answer_by : State → Result Request ℕ → Answer
+answer_by old (Err number) = Refuses number
+answer_by old (Ok request) = answer_to old request
 
-abbrev pub Step : Documents → Command → Reply → Documents → Type 0
-Step old command reply new = Answers old (request_of command) reply new
+abbrev pub answer_of : State → Command → Answer
+answer_of old command = answer_by old (request_of command)
+
+-- ---- Steps
+
+-- the reply to an accepted change after which the transformation gives this, and to a request for the result
+abbrev pub change_reply : Outcome → Reply
+change_reply (Done result) = OkDone
+change_reply (Failed why) = OkRefused why
+
+abbrev pub result_reply : Outcome → Reply
+result_reply (Done result) = Shown (lines_of result)
+result_reply (Failed why) = Refused why
+
+-- from old, with this answer, the machine gives this reply and goes on to new
+abbrev pub Gives : State → Answer → Reply → State → Type 0
+Gives old (Refuses number) reply new = (reply ≡ No number) × (new ≡ old)
+Gives old (Changes next) reply new = ((outcome : Outcome) × IsOutcome next outcome × (reply ≡ change_reply outcome)) × (new ≡ next)
+Gives old ShowsResult reply new = ((outcome : Outcome) × IsOutcome old outcome × (reply ≡ result_reply outcome)) × (new ≡ old)
+Gives old (ShowsDocument tree) reply new = (reply ≡ Shown (lines_of tree)) × (new ≡ old)
+
+-- Each command gets its answer. Want of memory, which changes nothing, may come in its place at any command
+abbrev pub Step : State → Command → Reply → State → Type 0
+Step old command reply new = Gives old (answer_of old command) reply new ⊎ ((reply ≡ No 1) × (new ≡ old))
 
 -- the machine may give these replies to these commands, one step after another
-abbrev pub Run : Documents → List Command → List Reply → Documents → Type 0
+abbrev pub Run : State → List Command → List Reply → State → Type 0
 Run old [] [] new = new ≡ old
-Run old (command ∷ commands) (reply ∷ replies) new = (between : Documents) × Step old command reply between × Run between commands replies new
+Run old (command ∷ commands) (reply ∷ replies) new = (between : State) × Step old command reply between × Run between commands replies new
 Run old [] (reply ∷ replies) new = ⊥
 Run old (command ∷ commands) [] new = ⊥

@@ -1,39 +1,66 @@
 -- Replies and their bytes.
-use Rattle.std.specs.Prelude.{ℕ, List, [], ◌∷◌, ◌++◌, codes, decimal}
+use Rattle.std.specs.Prelude.{ℕ, List, [], ◌∷◌, ◌++◌, nat_lt, codes, decimal, Option, None, Some, if◌then◌else◌}
 use Rattle.std.specs.List.{flat_map}
 use Rattle.std.specs.Str.{encode_utf8_all}
 use Rattle.spec_document.specs.Pyx.{Line}
-use Rattle.spec_document.specs.Forest.{Plain, lines_of}
-use Rattle.spec_session.specs.declared.kinds.Refusal.{Refusal}
-use Rattle.spec_session.specs.declared.kinds.Refusal.TheVariants.{NoMain, NoSource}
+
+-- the code of a refusal: S and a number where the stylesheet is refused, D and a number where its run is
+pub data Code : Type 0 where
+  Static : (number : ℕ) → Code
+  Dynamic : (number : ℕ) → Code
+
+-- a node of a module, by the positions of raw children on the way from its root
+pub record ModulePlace : Type 0 where
+  pub name : List ℕ
+  pub positions : List ℕ
+
+-- why the transformation is refused, and where, unless it is at no node
+pub record Refusal : Type 0 where
+  pub code : Code
+  pub place : Option ModulePlace
 
 pub data Reply : Type 0 where
   -- to an accepted change: the transformation has a result, or is refused
   OkDone : Reply
   OkRefused : (why : Refusal) → Reply
-  -- to `show`: the result, or why there is none
-  Shown : (result : Plain) → Reply
-  ShowRefused : (why : Refusal) → Reply
+  -- to a request for the result, while the transformation is refused
+  Refused : (why : Refusal) → Reply
+  -- the lines of a result or a document
+  Shown : (lines : List Line) → Reply
   -- to a refused command
   No : (number : ℕ) → Reply
 
--- the code of a refusal and its place; no element of a module has these
+-- a number in two digits at least
+abbrev pub two_digits : ℕ → List ℕ
+two_digits number = if nat_lt number 10 then 0x30 ∷ decimal number else decimal number
+
+abbrev pub code_text : Code → List ℕ
+code_text (Static number) = 0x53 ∷ two_digits number
+code_text (Dynamic number) = 0x44 ∷ two_digits number
+
+-- a module and a path in it, as `main/1/2`, or `-`
+abbrev pub place_text : Option ModulePlace → List ℕ
+place_text None = codes "-"
+place_text (Some place) = place.name ++ flat_map (λ position. 0x2F ∷ decimal position) place.positions
+
 abbrev pub refusal_text : Refusal → List ℕ
-refusal_text NoMain = codes "S01 -"
-refusal_text NoSource = codes "S02 -"
+refusal_text why = code_text why.code ++ 0x20 ∷ place_text why.place
 
 -- the lines of a reply
 abbrev pub reply_lines : Reply → List Line
 reply_lines OkDone = codes "ok done" ∷ []
 reply_lines (OkRefused why) = (codes "ok refused " ++ refusal_text why) ∷ []
-reply_lines (Shown result) = lines_of result ++ codes "." ∷ []
-reply_lines (ShowRefused why) = (codes "refused " ++ refusal_text why) ∷ []
+reply_lines (Refused why) = (codes "refused " ++ refusal_text why) ∷ []
+reply_lines (Shown lines) = lines ++ codes "." ∷ []
 reply_lines (No number) = (codes "no " ++ decimal number) ∷ []
 
 -- each line ends with an LF
 abbrev pub with_newline : Line → List ℕ
 with_newline line = line ++ 0xA ∷ []
 
--- the bytes of a reply: its lines in UTF-8
+-- the text of a reply, and its bytes in UTF-8
+abbrev pub reply_text : Reply → List ℕ
+reply_text reply = flat_map with_newline (reply_lines reply)
+
 abbrev pub reply_bytes : Reply → List ℕ
-reply_bytes reply = encode_utf8_all (flat_map with_newline (reply_lines reply))
+reply_bytes reply = encode_utf8_all (reply_text reply)

@@ -1,17 +1,17 @@
 -- What a call that serves a session has done, by the status that it answers.
-use Rattle.std.specs.Prelude.{ℕ, ◌≡◌, ◌≤◌, ◌+◌, ◌^◌, ◌⊎◌, Bool, false, List, [], ◌∷◌, ◌++◌, length, nat_lt, bytes_eq, codes, Option, IfSome, IsSomeAnd}
+use Rattle.std.specs.Prelude.{ℕ, ◌≡◌, ◌≤◌, ◌+◌, ◌⊎◌, Bool, false, List, [], ◌∷◌, ◌++◌, length, nat_lt, bytes_eq, codes, Option, IfSome, IsSomeAnd}
 use Rattle.std.specs.List.{flat_map}
 use Rattle.spec_session.specs.Lines.{lines_within, ended_lines}
 use Rattle.spec_session.specs.Command.{Command, Session, session_of, status_of}
 use Rattle.spec_session.specs.Reply.{Reply, reply_bytes}
 use Rattle.spec_session.specs.Outside.{Appends}
-use Rattle.spec_session.specs.Machine.{Documents, no_documents, Run}
+use Rattle.spec_session.specs.Machine.{State, initial, Run}
 
 -- the text is the bytes of the replies of a run of the machine over the commands, and nothing else
 pub record AreReplies (commands : List Command) (text : List ℕ) : Type 0 where
   pub replies : List Reply
-  pub documents : Documents
-  pub run : Run no_documents commands replies documents
+  pub state : State
+  pub run : Run initial commands replies state
   pub bytes : text ≡ flat_map reply_bytes replies
 
 -- the session that bytes are, of which `limit` may be taken

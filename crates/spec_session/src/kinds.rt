@@ -23,12 +23,3 @@ pub enum Ending {
     /// Inside a body, whose line `.` is not there.
     Unfinished,
 }
-
-/// Why there is no result of the transformation.
-#[derive(Clone, Copy, Debug, PartialEq, Eq)]
-pub enum Refusal {
-    /// S01: there is no module `main`.
-    NoMain,
-    /// S02: there is no source.
-    NoSource,
-}

@@ -1,17 +1,17 @@
 // Laws of the machine, which hold of the definitions alone.
 ghost use Rattle.std.specs.Prelude.{◌≡◌, ◌≢◌};
 ghost use Rattle.spec_session.specs.Command.{Command};
-ghost use Rattle.spec_session.specs.Machine.{Documents, Step};
+ghost use Rattle.spec_session.specs.Machine.{State, Step};
 ghost use Rattle.spec_session.specs.Reply.{Reply};
 ghost use Rattle.spec_session.specs.Reply.{No};
 
 /// Each command has a step from each state, other than for want of memory.
 pub fn each_command_has_a_step()
-    ensures { (old : Documents) (command : Command) → (reply : Reply) × (new : Documents) × Step old command reply new × (reply ≢ No 1) }
+    ensures { (old : State) (command : Command) → (reply : Reply) × (new : State) × Step old command reply new × (reply ≢ No 1) }
 {}
 
 /// Two steps of one state and command, neither for want of memory, have one reply and one new state.
 pub fn steps_agree()
-    ensures { (old : Documents) (command : Command) (reply other : Reply) (new another : Documents) →
+    ensures { (old : State) (command : Command) (reply other : Reply) (new another : State) →
         Step old command reply new → Step old command other another → reply ≢ No 1 → other ≢ No 1 → (reply ≡ other) × (new ≡ another) }
 {}

@@ -1,6 +1,8 @@
-use Rattle.spec_session.specs.Machine.{request_of}
-use Rattle.spec_session.proofs.Steps.{has_step}
+use Rattle.std.proofs.Common.{inl}
+use Rattle.spec_session.specs.Machine.{answer_of}
+use Rattle.spec_session.proofs.Steps.{gives}
+use Rattle.spec_session.proofs.Answers.{is_other}
 use Rattle.spec_session.proofs.laws.each_command_has_a_step.Goals as goal
 
 pub returns : goal.returns
-returns c = λ old command. has_step old (request_of command)
+returns c = λ old command. let g = gives old (answer_of old command) (is_other old command) in (g.0, g.1, inl g.2, g.3)

@@ -1,6 +1,5 @@
-use Rattle.spec_session.specs.Machine.{request_of}
 use Rattle.spec_session.proofs.Steps.{steps_agree_lem}
 use Rattle.spec_session.proofs.laws.steps_agree.Goals as goal
 
 pub returns : goal.returns
-returns c = λ old command reply other new another s t m n. steps_agree_lem old (request_of command) reply other new another s t m n
+returns c = λ old command reply other new another s t m n. steps_agree_lem old command reply other new another s t m n
