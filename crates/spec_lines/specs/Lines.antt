@@ -39,6 +39,10 @@ last_line (b ∷ bs) = (b ∷ bs) ∷ []
 abbrev pub lines_within : ℕ → List ℕ → List (List ℕ)
 lines_within limit bytes = if nat_le (length bytes) limit then ended_lines bytes ++ last_line (pieces bytes).last else ended_lines (take limit bytes)
 
+-- what is known of a line without memory for it: its first 7 bytes, and so how many of them it has
+abbrev pub head_of : List ℕ → List ℕ
+head_of line = take 7 line
+
 -- no byte of these ends a line
 abbrev pub HasNoNewline : List ℕ → Type 0
 HasNoNewline bytes = IsTrue (not (list_any is_newline bytes))

@@ -1,11 +1,10 @@
 -- What is ahead of a reader, line by line: how the lines of bytes begin.
-use Rattle.std.proofs.Common.{◌≡◌, ℕ, suc, ◌+◌, ◌-◌, ◌<◌, ◌≤◌, Bool, true, false, cond, List, [], ◌∷◌, ◌++◌, length, take, eqb, ltb, leb, refl, sym, ◌∙◌, ap, subst, arith, append_assoc, length-append, inl, inr}
-use Rattle.std.specs.Prelude.{map, not, nat_le, nat_lt, ◌==◌, IsTrue, if◌then◌else◌, ◌||◌}
+use Rattle.std.proofs.Common.{◌≡◌, ℕ, suc, ◌+◌, ◌-◌, ◌<◌, ◌≤◌, Bool, true, false, List, [], ◌∷◌, ◌++◌, length, take, refl, ◌∙◌, ap, arith, length-append}
+use Rattle.std.specs.Prelude.{map, not, nat_le, ◌||◌}
 use Rattle.std.specs.List.{list_any}
 use Rattle.std.specs.Str.Lines.{strip_carriage_return}
 use Rattle.std.proofs.lemmas.Bool.Decides.{nat_tests}
-use Rattle.std.proofs.lemmas.Grind.{common_steps}
-use Rattle.spec_session.specs.Lines.{is_newline, Pieces, pieces, with_byte, joined, ended_lines, last_line, lines_within, HasNoNewline, BeginsWith, BeginsWithEnded, IsLastLine}
+use Rattle.spec_lines.specs.Lines.{is_newline, Pieces, pieces, with_byte, joined, ended_lines, last_line, lines_within, HasNoNewline}
 
 neither : (x y : Bool) → not (x || y) ≡ true → (x ≡ false) × (not y ≡ true)
 neither true y e = absurd (cc)
