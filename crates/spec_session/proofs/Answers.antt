@@ -4,7 +4,7 @@ use Rattle.std.specs.Prelude.{Result, Ok, Err, if◌then◌else◌}
 use Rattle.std.specs.Str.{chars}
 use Rattle.spec_document.specs.Scope.{root_scope}
 use Rattle.spec_document.specs.Forest.{Plain, Document}
-use Rattle.spec_document.specs.Document.{Fault}
+use Rattle.spec_document.specs.Fault.{Fault}
 use Rattle.spec_session.specs.Command.{Command}
 use Rattle.spec_session.specs.Request.{Request, SetSource, SetModule, DropModule, Insert, Delete, SetText, SetAttribute, RemoveAttribute, Rename, SetParameter, Show, Write, Messages, Dump, Statistics, request_by, Words, is_text, is_taken, or_number, asked_by, words_of}
 use Rattle.spec_session.specs.Machine.{State, answer_of, answer_by, answer_to, kept_by, shows, document_named}

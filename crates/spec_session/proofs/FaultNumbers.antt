@@ -8,7 +8,13 @@ use Rattle.spec_document.specs.Scope.{Scope}
 use Rattle.spec_document.specs.Pyx.{Line}
 use Rattle.spec_document.specs.Forest.{Written, Content, Element, Text, Comment, Instruction, Forest, Empty, Node, Document, labels}
 use Rattle.spec_document.specs.Declaration.{use_of, within}
-use Rattle.spec_document.specs.Document.{Fault, without_texts, lesser, comes_first, least, answer_of, fault_if, not_utf8, no_event, is_bad, texts_of, events_at, Lines, elements_at_top, element_faults, text_faults, is_wrong_use, is_wrong_element, is_wrong_target, is_same_attribute, attribute_faults, content_faults, node_faults, number_limit, document_by, forest_of, unbalanced_line, document_of}
+use Rattle.spec_document.specs.Fault.{Fault, lesser, comes_first, least, answer_of, fault_if}
+use Rattle.spec_document.specs.Body.{not_utf8, no_event, is_bad, texts_of, events_at}
+use Rattle.spec_document.specs.Balance.{LineNumbers, forest_of, unbalanced_line}
+use Rattle.spec_document.specs.Top.{elements_at_top, element_faults, text_faults, without_texts}
+use Rattle.spec_document.specs.NodeFaults.{is_wrong_use, is_wrong_element, is_wrong_target, is_same_attribute, attribute_faults, content_faults, node_faults}
+use Rattle.spec_document.specs.Numbering.{number_limit}
+use Rattle.spec_document.specs.Document.{document_by, document_of}
 
 -- the numbers of all of them, the number of the one, where there is one, are above 1
 abbrev Above : List Fault → Type 0
@@ -58,7 +64,7 @@ no_event-above : (lines : List (ℕ × Line)) → Above (no_event lines)
 no_event-above [] = tt
 no_event-above (l ∷ ls) = both _ _ (one_if (is_bad l.1) 8 l.0 (lit< tt)) (no_event-above ls)
 
-text-above : (f : Forest Lines) → Above (text_faults f)
+text-above : (f : Forest LineNumbers) → Above (text_faults f)
 text-above Empty = tt
 text-above (Node l (Text text) c s) = both _ _ (one_if (not (list_all is_space text)) 9 l.first (lit< tt)) (text-above s)
 text-above (Node l (Element name attributes) c s) = text-above s
@@ -75,7 +81,7 @@ attribute-above scope before lines (a ∷ more) =
     (one_if (list_any (λ b. is_same_attribute scope b a) before) 14 (slice_index lines 0) (lit< tt)))
     (attribute-above scope (before ++ a ∷ []) (drop 1 lines) more)
 
-content-above : (scope : Scope) (depth : ℕ) (lines : Lines) (c : Content) → Above (content_faults scope depth lines c)
+content-above : (scope : Scope) (depth : ℕ) (lines : LineNumbers) (c : Content) → Above (content_faults scope depth lines c)
 content-above scope depth lines (Element name more) =
     both _ _ (both _ _ (one_if (is_wrong_element scope name) 10 lines.first (lit< tt)) (one_if _ 11 lines.first (lit< tt)))
     (attribute-above scope [] lines.attributes more)
@@ -83,7 +89,7 @@ content-above scope depth lines (Text text) = tt
 content-above scope depth lines (Comment text) = tt
 content-above scope depth lines (Instruction target text) = one_if (is_wrong_target target) 10 lines.first (lit< tt)
 
-node-above : (scope : Scope) (depth : ℕ) (f : Forest Lines) → Above (node_faults scope depth f)
+node-above : (scope : Scope) (depth : ℕ) (f : Forest LineNumbers) → Above (node_faults scope depth f)
 node-above scope depth Empty = tt
 node-above scope depth (Node lines c below after) =
     both _ _ (both _ _ (content-above (within c scope) depth lines c) (node-above (within c scope) (depth + 1) below)) (node-above scope depth after)
@@ -92,7 +98,7 @@ number-above : (lines : List ℕ) → Above (map (λ line. record { number = 12;
 number-above [] = tt
 number-above (l ∷ ls) = (lit< tt, number-above ls)
 
-document-above : (scope : Scope) (first : ℕ) (f : Forest Lines) → FaultIsAbove (document_by scope first f)
+document-above : (scope : Scope) (first : ℕ) (f : Forest LineNumbers) → FaultIsAbove (document_by scope first f)
 document-above scope first f =
     answer-above _ _ (both _ _ (both _ _ (both _ _ (element-above 0 (elements_at_top f)) (text-above f)) (node-above scope 1 f))
     (number-above (drop (number_limit - first) (0 ∷ map (λ l. l.first) (labels (without_texts f)))))) tt
@@ -102,7 +108,7 @@ pub fault-above : (scope : Scope) (first : ℕ) (body : List (List ℕ)) → Fau
 fault-above scope first body =
     answer-above _ _ (both _ _ (not_utf8-above (enumerate_from 1 body)) (no_event-above (texts_of body))) (made (forest_of (events_at body)))
   where
-    made : (o : Option (Forest Lines)) → FaultIsAbove {A = Document ℕ}
+    made : (o : Option (Forest LineNumbers)) → FaultIsAbove {A = Document ℕ}
         (elim o [ None ↦ Err (record { number = 9; line = unbalanced_line None [] (events_at body) }) | Some forest ↦ document_by scope first forest ])
     made None = lit< tt
     made (Some f) = document-above scope first f

@@ -6,24 +6,11 @@ use lib.Utf8.{encode}
 use Rattle.spec_document.specs.Character.{is_name_start, is_name_part}
 use Rattle.spec_document.specs.Forest.{Plain, Empty, Node, Element, Text, Comment, lines_of}
 use Rattle.spec_session.specs.declared.kinds.Ending.TheVariants.{Finished, Quit, Unfinished}
-use Rattle.spec_session.specs.Lines.{lines_within}
 use Rattle.spec_session.specs.Command.{session_of, status_of}
 use Rattle.spec_session.specs.Request.{Request, SetSource, SetModule, SetText, SetAttribute, Rename, SetParameter, Dump, SourceName, ModuleName, words_of, asked_by, request_of, path_of}
 use Rattle.spec_session.specs.Language.{attribute, stylesheet_attributes, template_attributes, stylesheet_of}
 use Rattle.spec_session.specs.Reply.{Static, Dynamic, OkRefused, Refused, Shown, No, reply_bytes}
 use Rattle.spec_session.specs.Machine.{Failed, no_main, no_source, outcome_by}
-
--- a CR before an LF is no part of a line; an empty line is one; the last line may lack its LF
-pub lines_end_with_newlines : lines_within 100 (codes "a\r\n\nb") ≡ codes "a" ∷ [] ∷ codes "b" ∷ []
-lines_end_with_newlines = refl
-
--- the last line without LF keeps its CR
-pub last_line_keeps_return : lines_within 100 (codes "a\r") ≡ codes "a\r" ∷ []
-last_line_keeps_return = refl
-
--- a line that is not whole within the limit is none
-pub lines_within_a_limit : lines_within 3 (codes "a\nbc\n") ≡ codes "a" ∷ []
-lines_within_a_limit = refl
 
 -- a body goes up to a line `.`; empty lines between commands are skipped; `quit` ends the session
 pub commands_with_bodies : session_of (codes "source x" ∷ codes "(a" ∷ [] ∷ codes "." ∷ [] ∷ codes "show" ∷ codes "quit" ∷ codes "show" ∷ [])

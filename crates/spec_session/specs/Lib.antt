@@ -1,9 +1,7 @@
-pub mod Lines
 pub mod Command
 pub mod Request
 pub mod Language
 pub mod Reply
 pub mod Machine
-pub mod Outside
 pub mod Served
 pub mod Examples

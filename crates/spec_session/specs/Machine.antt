@@ -2,7 +2,8 @@
 use Rattle.std.specs.Prelude.{ℕ, ◌≡◌, ◌+◌, ◌⊎◌, List, [], ◌∷◌, Option, None, Some, Result, Ok, Err, bytes_eq, codes, if◌then◌else◌}
 use Rattle.spec_document.specs.Scope.{root_scope}
 use Rattle.spec_document.specs.Forest.{Plain, Document, plain, size, lines_of}
-use Rattle.spec_document.specs.Document.{Fault, document_of}
+use Rattle.spec_document.specs.Fault.{Fault}
+use Rattle.spec_document.specs.Document.{document_of}
 use Rattle.spec_session.specs.Command.{Command}
 use Rattle.spec_session.specs.Request.{DocumentName, SourceName, ModuleName, Request, SetSource, SetModule, DropModule, Insert, Delete, SetText, SetAttribute, RemoveAttribute, Rename, SetParameter, Show, Write, Messages, Dump, Statistics, request_of}
 use Rattle.spec_session.specs.Language.{stylesheet_of, document_element_from, result_of}

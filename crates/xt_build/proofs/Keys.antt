@@ -15,7 +15,7 @@ use Rattle.std.proofs.lemmas.Str.{IsUtf8-string_bytes}
 use Rattle.std.proofs.lemmas.Bool.Decides.{same_from_decides}
 use Rattle.std.proofs.lemmas.Slice.Eq.{bytes_eq-Decides}
 use Rattle.spec_document.specs.Name.{Expanded}
-use Rattle.spec_document.specs.Document.{same_expanded}
+use Rattle.spec_document.specs.Name.{same_expanded}
 use Rattle.xt_text.proofs.Chars.{same_chars}
 use Rattle.xt_build.specs.Seen.{text_in, name_in, has_text, has_pair}
 

@@ -5,7 +5,7 @@ use Rattle.std.specs.Str.{chars}
 use Rattle.std.specs.declared.alloc.Global.{Global}
 use Rattle.std.specs.declared.string.String.{String}
 use Rattle.spec_document.specs.Name.{Expanded}
-use Rattle.spec_document.specs.Document.{same_expanded}
+use Rattle.spec_document.specs.Name.{same_expanded}
 use Rattle.xt_build.specs.declared.seen.Seen.{Seen}
 
 abbrev pub text_in : String Global → List ℕ

@@ -19,8 +19,6 @@ mod numbers;
 mod piece;
 mod read;
 mod seen;
-#[cfg(test)]
-mod tests;
 mod top;
 mod write;
 

@@ -6,7 +6,9 @@ ghost use Rattle.std.specs.Option.{option_copied};
 ghost use Rattle.spec_document.specs.Scope as spec;
 ghost use Rattle.spec_document.specs.Forest.{Forest};
 ghost use Rattle.spec_document.specs.Declaration.{declared_all, is_declaration as declares, is_barred, is_there, is_xml, is_xmlns, xmlns_uri, is_reserved_target};
-ghost use Rattle.spec_document.specs.Document.{Lines, least, greatest_depth, is_wrong_element, is_wrong_target, is_wrong_use, expanded_by, attribute_faults, node_faults};
+ghost use Rattle.spec_document.specs.Fault.{least};
+ghost use Rattle.spec_document.specs.Balance.{LineNumbers};
+ghost use Rattle.spec_document.specs.NodeFaults.{greatest_depth, is_wrong_element, is_wrong_target, is_wrong_use, expanded_by, attribute_faults, node_faults};
 ghost use Rattle.xt_tree.specs.View.{written_of};
 ghost use Rattle.xt_build.specs.Least.{merged};
 ghost use Rattle.xt_build.specs.Left.{open_faults};
@@ -57,7 +59,7 @@ fn check_piece(
     scopes: &mut Vec<Rc<Scope>>,
     found: &mut Option<Fault>,
 ) -> Result<(), Memory>
-    ensures { OnOk result ((behind : List (Forest Lines))
+    ensures { OnOk result ((behind : List (Forest LineNumbers))
         → merged (found_of found.new) (least (open_faults outside.now.value (depth + 1) (scopes_in scopes.new.items) behind))
         ≡ merged (found_of found.old) (least (open_faults outside.now.value (depth + 1) (scopes_in scopes.old.items) (piece_before (piece_of piece.now) behind)))) }
 {

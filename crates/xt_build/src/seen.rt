@@ -2,7 +2,7 @@
 ghost use Rattle.std.specs.Prelude.{◌≡◌, ◌||◌, ℕ, List, Option, Some, false, bytes_eq, IfOk, OnOk};
 ghost use Rattle.std.specs.Option.{option_copied};
 ghost use Rattle.spec_document.specs.Name as spec;
-ghost use Rattle.spec_document.specs.Document.{same_expanded};
+ghost use Rattle.spec_document.specs.Name.{same_expanded};
 ghost use Rattle.xt_build.specs.Seen.{has_text, has_pair, has_written, has_expanded};
 
 use std::alloc::Global;

@@ -4,7 +4,9 @@ use Rattle.std.specs.List.{list_any}
 use Rattle.std.specs.Option.{option_copied}
 use Rattle.std.proofs.lemmas.List.{take_more, map-append, at_drop_more}
 use Rattle.spec_document.specs.Declaration.{use_of}
-use Rattle.spec_document.specs.Document.{least, attribute_faults, expanded_by, same_expanded, is_wrong_use, is_same_attribute}
+use Rattle.spec_document.specs.Name.{same_expanded}
+use Rattle.spec_document.specs.Fault.{least}
+use Rattle.spec_document.specs.NodeFaults.{attribute_faults, expanded_by, is_wrong_use, is_same_attribute}
 use Rattle.xt_tree.specs.View.{written_of}
 use Rattle.xt_build.specs.Least.{merged}
 use Rattle.xt_build.specs.Names.{expanded_names}

@@ -1,7 +1,9 @@
 use Rattle.std.proofs.Common.{◌≡◌, ℕ, List, [], map, take, drop, Option, bytes_eq}
 use Rattle.std.specs.List.{list_any}
 use Rattle.spec_document.specs.Name.{Expanded}
-use Rattle.spec_document.specs.Document.{least, attribute_faults, same_expanded}
+use Rattle.spec_document.specs.Name.{same_expanded}
+use Rattle.spec_document.specs.Fault.{least}
+use Rattle.spec_document.specs.NodeFaults.{attribute_faults}
 use Rattle.xt_tree.specs.View.{written_of}
 use Rattle.xt_build.specs.Least.{merged}
 use Rattle.xt_build.specs.Names.{expanded_names}
