@@ -25,7 +25,7 @@ mod read;
 mod write;
 
 pub use bad_line::BadLine;
-pub use escape::push_escaped;
+pub use escape::{push_escaped, unescape};
 pub use read::read_event;
 pub use write::write_event;
 use xt_text::Text;

@@ -1,0 +1,5 @@
+pub mod Texts
+pub mod FirstWords
+pub mod Taken
+pub mod Written
+pub mod Paths

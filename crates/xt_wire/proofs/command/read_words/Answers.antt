@@ -1,0 +1,40 @@
+use Rattle.std.proofs.Common.{refl}
+use Rattle.std.specs.Prelude.{codes}
+use Rattle.xt_wire.specs.View.{words_in}
+use Rattle.xt_wire.proofs.Taken.{asked_with, not_asked, reads_as}
+use Rattle.xt_wire.proofs.Texts.{compared}
+use Rattle.xt_wire.proofs.command.read_words.Goals as goal
+
+pub returns-then-is_word : goal.returns-then-is_word
+returns-then-is_word c =
+    reads_as (words_in c.args.words) c.args.body.items (codes "source") c.read_source.result
+    (compared c.args.words.first.now (codes "source") c.is_word.result _ refl c.is_word.ensures c.if-is_word.true) c.read_source.ensures
+
+pub returns-then-is_word-2 : goal.returns-then-is_word-2
+returns-then-is_word-2 c =
+    reads_as (words_in c.args.words) c.args.body.items (codes "module") c.read_module.result
+    (compared c.args.words.first.now (codes "module") c.is_word-else-is_word.result _ refl c.is_word-else-is_word.ensures c.if-is_word-2.true) c.read_module.ensures
+
+pub returns-then-is_word-3 : goal.returns-then-is_word-3
+returns-then-is_word-3 c =
+    reads_as (words_in c.args.words) c.args.body.items (codes "show") c.read_show.result
+    (compared c.args.words.first.now (codes "show") c.is_word-else-is_word-2.result _ refl c.is_word-else-is_word-2.ensures c.if-is_word-3.true) c.read_show.ensures
+
+pub returns-then-is_word-4 : goal.returns-then-is_word-4
+returns-then-is_word-4 c =
+    reads_as (words_in c.args.words) c.args.body.items (codes "dump") c.read_dump.result
+    (compared c.args.words.first.now (codes "dump") c.is_word-else-is_word-3.result _ refl c.is_word-else-is_word-3.ensures c.if-is_word-4.true) c.read_dump.ensures
+
+pub returns-then-is_word-5 : goal.returns-then-is_word-5
+returns-then-is_word-5 c =
+    asked_with (words_in c.args.words) c.args.body.items (codes "quit") _
+    (compared c.args.words.first.now (codes "quit") c.is_word-else-is_word-4.result _ refl c.is_word-else-is_word-4.ensures c.if-is_word-5.true) refl
+
+pub returns : goal.returns
+returns c =
+    not_asked (words_in c.args.words) c.args.body.items
+    (compared c.args.words.first.now (codes "source") c.is_word.result _ refl c.is_word.ensures c.if-is_word.false)
+    (compared c.args.words.first.now (codes "module") c.is_word-else-is_word.result _ refl c.is_word-else-is_word.ensures c.if-is_word-2.false)
+    (compared c.args.words.first.now (codes "show") c.is_word-else-is_word-2.result _ refl c.is_word-else-is_word-2.ensures c.if-is_word-3.false)
+    (compared c.args.words.first.now (codes "dump") c.is_word-else-is_word-3.result _ refl c.is_word-else-is_word-3.ensures c.if-is_word-4.false)
+    (compared c.args.words.first.now (codes "quit") c.is_word-else-is_word-4.result _ refl c.is_word-else-is_word-4.ensures c.if-is_word-5.false)

@@ -1,0 +1,87 @@
+-- What the types of this crate stand for.
+use Rattle.std.specs.Prelude.{ℕ, ◌≡◌, List, Option, Result, Ok, Err}
+use Rattle.std.specs.Option.{option_map}
+use Rattle.std.specs.Str.{chars}
+use Rattle.spec_session.specs.Request as spec
+use Rattle.spec_session.specs.Request.{Request, or_number}
+use Rattle.spec_session.specs.Reply as written
+use Rattle.xt_base.specs.Code.{edit_number, static_number, dynamic_number}
+use Rattle.xt_base.specs.declared.codes.EditCode.{EditCode}
+use Rattle.xt_base.specs.declared.codes.EditCode.TheVariants as edit
+use Rattle.xt_base.specs.declared.place.Place.{Place}
+use Rattle.xt_wire.specs.declared.command.Command.{Command}
+use Rattle.xt_wire.specs.declared.command.Command.TheVariants.{SetSource, SetModule, Show, Dump}
+use Rattle.xt_wire.specs.declared.document.DocumentName.{DocumentName}
+use Rattle.xt_wire.specs.declared.document.DocumentName.TheVariants.{Source, Module}
+use Rattle.xt_wire.specs.declared.fault.WireFault.{WireFault}
+use Rattle.xt_wire.specs.declared.fault.WireFault.TheVariants as variant
+use Rattle.xt_wire.specs.declared.replies.Code.{Code}
+use Rattle.xt_wire.specs.declared.replies.Code.TheVariants.{Static, Dynamic}
+use Rattle.xt_wire.specs.declared.replies.Refusal.{Refusal}
+use Rattle.xt_wire.specs.declared.replies.Reply.{Reply}
+use Rattle.xt_wire.specs.declared.replies.Reply.TheVariants.{OkDone, OkRefused, Refused, Shown, No}
+use Rattle.xt_wire.specs.declared.word.Words.{Words}
+use denote.Ref.{Bor}
+
+-- ---- Words
+
+abbrev pub characters : Bor (List ℕ) → List ℕ
+characters text = chars text.now
+
+-- what stands behind a word, where there is a space
+abbrev pub rest_of : Option (Bor (List ℕ)) → Option (List ℕ)
+rest_of rest = option_map characters rest
+
+abbrev pub words_in : Words → spec.Words
+words_in words = record { first = characters words.first; rest = rest_of words.rest }
+
+-- ---- Commands
+
+abbrev pub name_of : DocumentName → spec.DocumentName
+name_of Source = spec.SourceName
+name_of (Module name) = spec.ModuleName name
+
+-- what a command asks
+abbrev pub asked_of : Command → Request
+asked_of (SetSource body) = spec.SetSource body.items
+asked_of (SetModule name body) = spec.SetModule name body.items
+asked_of Show = spec.Show
+asked_of (Dump document) = spec.Dump (name_of document)
+
+-- the call gives the defined answer, a command or the number of a refusal. Want of memory is free
+abbrev pub Reads : Result Command WireFault → Result Request ℕ → Type 0
+Reads (Ok command) answer = answer ≡ Ok (asked_of command)
+Reads (Err variant.Memory) answer = Unit {0}
+Reads (Err variant.NotUtf8) answer = answer ≡ Err 2
+Reads (Err variant.UnknownCommand) answer = answer ≡ Err 3
+Reads (Err variant.BadArguments) answer = answer ≡ Err 4
+
+-- the same where the word is a command: what its arguments ask, or that they do not have its form
+abbrev pub HasForm : Result Command WireFault → Option Request → Type 0
+HasForm result asked = Reads result (or_number asked 4)
+
+abbrev pub code_of_fault : WireFault → EditCode
+code_of_fault variant.Memory = edit.Memory
+code_of_fault variant.NotUtf8 = edit.NotUtf8
+code_of_fault variant.UnknownCommand = edit.UnknownCommand
+code_of_fault variant.BadArguments = edit.BadArguments
+
+-- ---- Replies
+
+abbrev pub code_of : Code → written.Code
+code_of (Static code) = written.Static (static_number code)
+code_of (Dynamic code) = written.Dynamic (dynamic_number code)
+
+-- a place is a node's exactly where it has a module
+abbrev pub place_of : Place → Option written.ModulePlace
+place_of place = option_map (λ name. record { name = name; positions = place.path }) place.module
+
+abbrev pub refusal_of : Refusal → written.Refusal
+refusal_of why = record { code = code_of why.code; place = place_of why.place }
+
+abbrev pub reply_of : Reply → written.Reply
+reply_of OkDone = written.OkDone
+reply_of (OkRefused why) = written.OkRefused (refusal_of why)
+reply_of (Refused why) = written.Refused (refusal_of why)
+reply_of (Shown lines) = written.Shown lines.items
+reply_of (No code) = written.No (edit_number code)

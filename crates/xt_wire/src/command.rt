@@ -1,0 +1,111 @@
+// From lines to commands.
+ghost use Rattle.std.specs.Prelude.{◌≡◌, []};
+ghost use Rattle.std.specs.List.{list_all};
+ghost use Rattle.std.specs.Str.{is_utf8};
+ghost use Rattle.spec_session.specs.Request.{dump_form, module_form, request_by, request_of, source_form, word_form, Show};
+ghost use Rattle.xt_wire.specs.View.{HasForm, Reads, rest_of, words_in};
+
+use crate::WireFault;
+use crate::document::{DocumentName, module_name, read_document};
+use crate::word::{Words, first_word, is_word, only_word};
+use std::alloc::Global;
+use xt_io::Line;
+use xt_text::Text;
+
+/// What a command asks.
+#[derive(Drop)]
+pub enum Command {
+    /// `source` and a body: a new source of these lines.
+    SetSource(Vec<Line>),
+    /// `module NAME` and a body: the module of this name, of these lines. The name is one or more characters
+    /// without a space, and not `source`.
+    SetModule(Text, Vec<Line>),
+    /// `show`: the result.
+    Show,
+    /// `dump DOC`: the lines of a document.
+    Dump(DocumentName),
+}
+
+impl Command {
+    /// The command of this line, which is given without its end, and the lines of its body. Else the least of
+    /// its faults: `NotUtf8` where the line or a line of the body is not UTF-8, else `UnknownCommand` where the
+    /// first word is no command that is taken, else `BadArguments` where what stands behind it does not have
+    /// the command's form. The lines of the body are kept as they are.
+    pub fn read(alloc: Global, line: &[u8], body: Vec<Line>) -> Result<Command, WireFault>
+        ensures { Reads result (request_of (record { line = line.now; body = body.items })) }
+    {
+        match str::from_utf8(line) {
+            Ok(text) if are_texts(body.as_slice()) => read_words(alloc, first_word(text), body),
+            _ => Err(WireFault::NotUtf8),
+        }
+    }
+}
+
+// Whether each line is UTF-8.
+fn are_texts(lines: &[Line]) -> bool
+    ensures { result ≡ list_all is_utf8 lines.now }
+{
+    lines.iter().all(|line| is_text(line.as_bytes()))
+}
+
+fn is_text(bytes: &[u8]) -> bool
+    ensures { result ≡ is_utf8 bytes.now }
+{
+    str::from_utf8(bytes).is_ok()
+}
+
+// The command of these words and this body, all of them UTF-8.
+fn read_words(alloc: Global, words: Words, body: Vec<Line>) -> Result<Command, WireFault>
+    ensures { Reads result (request_by (words_in words.entry) body.items) }
+{
+    if is_word(words.first, "source") {
+        read_source(words.rest, body)
+    } else if is_word(words.first, "module") {
+        read_module(alloc, words.rest, body)
+    } else if is_word(words.first, "show") {
+        read_show(words.rest)
+    } else if is_word(words.first, "dump") {
+        read_dump(alloc, words.rest)
+    } else if is_word(words.first, "quit") {
+        // Alone it ends the session and is no command.
+        Err(WireFault::BadArguments)
+    } else {
+        Err(WireFault::UnknownCommand)
+    }
+}
+
+fn read_source(rest: Option<&str>, body: Vec<Line>) -> Result<Command, WireFault>
+    ensures { HasForm result (source_form (rest_of rest.entry) body.items) }
+{
+    if rest.is_some() {
+        return Err(WireFault::BadArguments);
+    }
+    Ok(Command::SetSource(body))
+}
+
+fn read_module(alloc: Global, rest: Option<&str>, body: Vec<Line>) -> Result<Command, WireFault>
+    ensures { HasForm result (module_form (rest_of rest.entry) body.items) }
+{
+    let Some(name) = module_name(rest) else {
+        return Err(WireFault::BadArguments);
+    };
+    Ok(Command::SetModule(Text::from_str(alloc, name)?, body))
+}
+
+fn read_show(rest: Option<&str>) -> Result<Command, WireFault>
+    ensures { HasForm result (word_form Show (rest_of rest.entry) []) }
+{
+    if rest.is_some() {
+        return Err(WireFault::BadArguments);
+    }
+    Ok(Command::Show)
+}
+
+fn read_dump(alloc: Global, rest: Option<&str>) -> Result<Command, WireFault>
+    ensures { HasForm result (dump_form (rest_of rest.entry) []) }
+{
+    let Some(word) = only_word(rest) else {
+        return Err(WireFault::BadArguments);
+    };
+    Ok(Command::Dump(read_document(alloc, word)?))
+}

@@ -1,0 +1,36 @@
+// Replies.
+use xt_base::{DynCode, EditCode, Place, StaticCode};
+use xt_text::Text;
+
+/// The code of a refusal.
+#[derive(Clone, Copy, Debug, PartialEq, Eq)]
+pub enum Code {
+    /// The stylesheet is refused.
+    Static(StaticCode),
+    /// Its run is refused.
+    Dynamic(DynCode),
+}
+
+/// Why the transformation is refused, and where.
+#[derive(Drop)]
+pub struct Refusal {
+    /// Why.
+    pub code: Code,
+    /// Where.
+    pub place: Place,
+}
+
+/// A reply to one command.
+#[derive(Drop)]
+pub enum Reply {
+    /// An accepted change; the transformation has a result.
+    OkDone,
+    /// An accepted change; the transformation is refused.
+    OkRefused(Refusal),
+    /// There is no result to show: the transformation is refused.
+    Refused(Refusal),
+    /// The lines of a result or a document.
+    Shown(Vec<Text>),
+    /// The command is refused.
+    No(EditCode),
+}

@@ -1,0 +1,108 @@
+// From replies to their text.
+ghost use Rattle.std.specs.Prelude.{◌≡◌, ◌++◌, ◌∷◌, [], IfOk, OnOk, decimal, codes};
+ghost use Rattle.std.specs.List.{flat_map};
+ghost use Rattle.std.specs.Str.{chars};
+ghost use Rattle.spec_session.specs.Reply.{code_text, place_text, refusal_text, reply_text, two_digits, with_newline};
+ghost use Rattle.xt_base.specs.Code.{edit_number};
+ghost use Rattle.xt_wire.specs.View.{code_of, place_of, refusal_of, reply_of};
+
+use crate::replies::{Code, Refusal, Reply};
+use itoa::Buffer;
+use std::alloc::Global;
+use xt_base::{EditCode, Place};
+use xt_text::{Memory, Text};
+
+/// The text of a reply: its lines, each with an LF.
+pub fn reply(alloc: Global, reply: &Reply) -> Result<Text, Memory>
+    ensures { IfOk result (λ text. text ≡ reply_text (reply_of reply.now)) }
+{
+    match reply {
+        Reply::OkDone => Text::from_str(alloc, "ok done\n"),
+        Reply::OkRefused(why) => refused(alloc, "ok refused ", why),
+        Reply::Refused(why) => refused(alloc, "refused ", why),
+        Reply::Shown(lines) => shown(alloc, lines.as_slice()),
+        Reply::No(code) => no(alloc, *code),
+    }
+}
+
+// These words and the refusal, as a line.
+fn refused(alloc: Global, words: &str, why: &Refusal) -> Result<Text, Memory>
+    ensures { IfOk result (λ text. text ≡ with_newline (chars words.now ++ refusal_text (refusal_of why.now))) }
+{
+    let mut text = Text::from_str(alloc, words)?;
+    push_code(&mut text, why.code)?;
+    text.push(' ')?;
+    push_place(&mut text, &why.place)?;
+    text.push('\n')?;
+    Ok(text)
+}
+
+// These lines, and the line that ends them.
+fn shown(alloc: Global, lines: &[Text]) -> Result<Text, Memory>
+    ensures { IfOk result (λ text. text ≡ flat_map with_newline (lines.now ++ codes "." ∷ [])) }
+{
+    let mut text = Text::new(alloc);
+    for line in lines {
+        text.push_str(line.as_str())?;
+        text.push('\n')?;
+    }
+    text.push_str(".\n")?;
+    Ok(text)
+}
+
+// The line of a refused command.
+fn no(alloc: Global, code: EditCode) -> Result<Text, Memory>
+    ensures { IfOk result (λ text. text ≡ with_newline (codes "no " ++ decimal (edit_number code))) }
+{
+    let mut text = Text::from_str(alloc, "no ")?;
+    push_number(&mut text, u64::from(code.number()))?;
+    text.push('\n')?;
+    Ok(text)
+}
+
+// Adds the code: its letter, and its number in two digits.
+fn push_code(text: &mut Text, code: Code) -> Result<(), Memory>
+    ensures { OnOk result (text.new ≡ text.old ++ code_text (code_of code)) }
+{
+    match code {
+        Code::Static(code) => {
+            text.push('S')?;
+            push_two_digits(text, code.number())
+        }
+        Code::Dynamic(code) => {
+            text.push('D')?;
+            push_two_digits(text, code.number())
+        }
+    }
+}
+
+fn push_two_digits(text: &mut Text, number: u8) -> Result<(), Memory>
+    ensures { OnOk result (text.new ≡ text.old ++ two_digits number) }
+{
+    if number < 10 {
+        text.push('0')?;
+    }
+    push_number(text, u64::from(number))
+}
+
+// Adds the module and the positions, each behind a slash, or `-` where there is no module.
+fn push_place(text: &mut Text, place: &Place) -> Result<(), Memory>
+    ensures { OnOk result (text.new ≡ text.old ++ place_text (place_of place.now)) }
+{
+    let Some(module) = &place.module else {
+        return text.push('-');
+    };
+    text.push_str(module.as_str())?;
+    for position in place.path.positions() {
+        text.push('/')?;
+        push_number(text, *position)?;
+    }
+    Ok(())
+}
+
+// Adds the decimal digits of a number.
+fn push_number(text: &mut Text, number: u64) -> Result<(), Memory>
+    ensures { OnOk result (text.new ≡ text.old ++ decimal number) }
+{
+    text.push_str(Buffer::new().format(number))
+}
