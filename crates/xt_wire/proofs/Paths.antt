@@ -1,5 +1,5 @@
 -- Paths, read from the bytes of their words.
-use Rattle.std.proofs.Common.{◌≡◌, ◌≢◌, ℕ, ◌+◌, ◌^◌, ◌<◌, ◌≤◌, nat_le, ◌==◌, Bool, true, false, ◌&&◌, if◌then◌else◌, List, [], ◌∷◌, ◌++◌, length, map, get_or, drop, Option, None, Some, Result, Ok, refl, sym, ap, ◌∙◌, arith, append-nil, append_assoc, rules}
+use Rattle.std.proofs.Common.{◌≡◌, ◌≢◌, ℕ, ◌+◌, ◌^◌, ◌<◌, ◌≤◌, nat_le, ◌==◌, Bool, true, false, ◌&&◌, if◌then◌else◌, List, [], ◌∷◌, ◌++◌, length, map, get_or, drop, Option, None, Some, Result, refl, sym, ap, ◌∙◌, arith, append-nil, append_assoc, rules}
 use Rattle.std.specs.Prelude.{is_some}
 use Rattle.std.specs.List.{list_all, slice_split}
 use Rattle.std.specs.List as std

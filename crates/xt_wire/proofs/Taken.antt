@@ -1,9 +1,9 @@
 -- What a command's word asks.
-use Rattle.std.proofs.Common.{◌≡◌, ℕ, Bool, true, false, List, Result, Ok, Err, refl, sym, ap, ◌∙◌, subst, bytes_eq}
+use Rattle.std.proofs.Common.{◌≡◌, ℕ, true, false, List, Result, Err, refl, sym, subst, bytes_eq}
 use Rattle.std.specs.Prelude.{codes}
 use Rattle.std.specs.List.{list_all}
 use Rattle.std.specs.Str.{is_utf8, chars}
-use Rattle.spec_session.specs.Request.{Request, Words, words_of, request_by, request_of, is_text}
+use Rattle.spec_session.specs.Request.{Request, Words, words_of, request_by, request_of}
 use Rattle.xt_wire.specs.declared.command.Command.{Command}
 use Rattle.xt_wire.specs.declared.fault.WireFault.{WireFault}
 use Rattle.xt_wire.specs.View.{Reads}

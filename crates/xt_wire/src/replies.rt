@@ -16,7 +16,7 @@ pub enum Code {
 pub struct Refusal {
     /// Why.
     pub code: Code,
-    /// Where.
+    /// At which node of a module, or at none.
     pub place: Place,
 }
 

@@ -18,15 +18,15 @@ pub fn reply(alloc: Global, reply: &Reply) -> Result<Text, Memory>
 {
     match reply {
         Reply::OkDone => Text::from_str(alloc, "ok done\n"),
-        Reply::OkRefused(why) => refused(alloc, "ok refused ", why),
-        Reply::Refused(why) => refused(alloc, "refused ", why),
-        Reply::Shown(lines) => shown(alloc, lines.as_slice()),
-        Reply::No(code) => no(alloc, *code),
+        Reply::OkRefused(why) => refusal_line(alloc, "ok refused ", why),
+        Reply::Refused(why) => refusal_line(alloc, "refused ", why),
+        Reply::Shown(lines) => shown_lines(alloc, lines.as_slice()),
+        Reply::No(code) => no_line(alloc, *code),
     }
 }
 
 // These words and the refusal, as a line.
-fn refused(alloc: Global, words: &str, why: &Refusal) -> Result<Text, Memory>
+fn refusal_line(alloc: Global, words: &str, why: &Refusal) -> Result<Text, Memory>
     ensures { IfOk result (λ text. text ≡ with_newline (chars words.now ++ refusal_text (refusal_of why.now))) }
 {
     let mut text = Text::from_str(alloc, words)?;
@@ -38,7 +38,7 @@ fn refused(alloc: Global, words: &str, why: &Refusal) -> Result<Text, Memory>
 }
 
 // These lines, and the line that ends them.
-fn shown(alloc: Global, lines: &[Text]) -> Result<Text, Memory>
+fn shown_lines(alloc: Global, lines: &[Text]) -> Result<Text, Memory>
     ensures { IfOk result (λ text. text ≡ flat_map with_newline (lines.now ++ codes "." ∷ [])) }
 {
     let mut text = Text::new(alloc);
@@ -51,7 +51,7 @@ fn shown(alloc: Global, lines: &[Text]) -> Result<Text, Memory>
 }
 
 // The line of a refused command.
-fn no(alloc: Global, code: EditCode) -> Result<Text, Memory>
+fn no_line(alloc: Global, code: EditCode) -> Result<Text, Memory>
     ensures { IfOk result (λ text. text ≡ with_newline (codes "no " ++ decimal (edit_number code))) }
 {
     let mut text = Text::from_str(alloc, "no ")?;

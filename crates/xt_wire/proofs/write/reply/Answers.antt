@@ -1,6 +1,5 @@
-use Rattle.std.proofs.Common.{◌≡◌, ap, refl, sym, ◌∙◌}
+use Rattle.std.proofs.Common.{ap, refl, sym, ◌∙◌}
 use Rattle.std.specs.Prelude.{codes}
-use Rattle.spec_session.specs.Reply as spec
 use Rattle.spec_session.specs.Reply.{reply_text}
 use Rattle.xt_wire.specs.View.{refusal_of, reply_of}
 use Rattle.xt_wire.proofs.Written.{written, written_words, written_refusal}
@@ -12,10 +11,10 @@ returns-in-OkDone c =
 
 pub returns-in-OkRefused : goal.returns-in-OkRefused
 returns-in-OkRefused c =
-    written c.refused.result _ (reply_text (reply_of c.args.reply.now))
-    (written_refusal (codes "ok refused ") (refusal_of c.in-OkRefused.why) refl ∙ sym (ap (λ r. reply_text (reply_of r)) c.in-OkRefused.is)) c.refused.ensures
+    written c.refusal_line.result _ (reply_text (reply_of c.args.reply.now))
+    (written_refusal (codes "ok refused ") (refusal_of c.in-OkRefused.why) refl ∙ sym (ap (λ r. reply_text (reply_of r)) c.in-OkRefused.is)) c.refusal_line.ensures
 
 pub returns-in-Refused : goal.returns-in-Refused
 returns-in-Refused c =
-    written c.refused-in-Refused.result _ (reply_text (reply_of c.args.reply.now))
-    (written_refusal (codes "refused ") (refusal_of c.in-Refused.why) refl ∙ sym (ap (λ r. reply_text (reply_of r)) c.in-Refused.is)) c.refused-in-Refused.ensures
+    written c.refusal_line-in-Refused.result _ (reply_text (reply_of c.args.reply.now))
+    (written_refusal (codes "refused ") (refusal_of c.in-Refused.why) refl ∙ sym (ap (λ r. reply_text (reply_of r)) c.in-Refused.is)) c.refusal_line-in-Refused.ensures

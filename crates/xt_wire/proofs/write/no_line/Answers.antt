@@ -1,7 +1,7 @@
-use Rattle.std.proofs.Common.{◌≡◌, ◌++◌, ◌∷◌, [], ℕ, List, refl, ap, ◌∙◌}
+use Rattle.std.proofs.Common.{◌++◌, ◌∷◌, [], ℕ, List, refl, ap, ◌∙◌}
 use Rattle.std.specs.Prelude.{codes, decimal}
 use Rattle.xt_wire.proofs.Written.{begun}
-use Rattle.xt_wire.proofs.write.no.Goals as goal
+use Rattle.xt_wire.proofs.write.no_line.Goals as goal
 
 pub returns : goal.returns
 returns c =
