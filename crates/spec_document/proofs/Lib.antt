@@ -4,3 +4,4 @@ pub mod DocumentExamples
 pub mod Prefixes
 pub mod Reading
 pub mod Written
+pub mod Ways

@@ -7,3 +7,5 @@ pub mod Declaration
 pub mod Place
 pub mod Document
 pub mod Examples
+pub mod Order
+pub mod Axis
