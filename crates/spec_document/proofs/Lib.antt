@@ -5,3 +5,4 @@ pub mod Prefixes
 pub mod Reading
 pub mod Written
 pub mod Ways
+pub mod Listed

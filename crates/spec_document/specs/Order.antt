@@ -1,5 +1,5 @@
 -- Document order (XPath 1.0, section 5), and the nodes of a document in it.
-use Rattle.std.specs.Prelude.{ℕ, ◌+◌, Bool, List, [], ◌∷◌, ◌++◌, map}
+use Rattle.std.specs.Prelude.{ℕ, ◌+◌, Bool, List, [], ◌∷◌, ◌++◌, map, IsTrue}
 use Rattle.std.specs.Ordering.{nat_cmp, is_lt}
 use Rattle.std.specs.declared.cmp.Ordering.{Ordering}
 use Rattle.std.specs.declared.cmp.Ordering.TheVariants.{Less, Greater}
@@ -83,3 +83,15 @@ entries_in above parent position (Node label content children siblings) =
 -- all nodes of a document, in document order
 abbrev pub entries_of : {L : Type 0} → Document L → List (Entry L)
 entries_of document = own_entries [] (root_of document) ++ entries_in [] [] 1 document.nodes
+
+abbrev pub ways_of : {L : Type 0} → List (Entry L) → List (List Way)
+ways_of entries = map (λ e. way_to e.place) entries
+
+-- each place comes before all that stand after it in the list
+abbrev pub ComesBeforeAll : List Way → List (List Way) → Type 0
+ComesBeforeAll p [] = Unit {0}
+ComesBeforeAll p (q ∷ more) = IsTrue (precedes p q) × ComesBeforeAll p more
+
+abbrev pub AreInOrder : List (List Way) → Type 0
+AreInOrder [] = Unit {0}
+AreInOrder (p ∷ more) = ComesBeforeAll p more × AreInOrder more

@@ -20,5 +20,5 @@ pub use laws::{
     escapes_read_back, events_have_one_forest, forests_are_computed, written_forests_read_back,
     written_lines_read_back,
 };
-pub use order::{axes_part_the_tree, document_order_is_total};
+pub use order::{axes_part_the_tree, document_order_is_total, nodes_stand_in_order};
 pub use usage::Use;

@@ -3,8 +3,9 @@ ghost use Rattle.std.specs.Prelude.{◌≡◌, ℕ, List, [], ◌∷◌, IsTrue,
 ghost use Rattle.std.specs.declared.cmp.Ordering.TheVariants.{Equal};
 ghost use Rattle.std.specs.Cmp.{IsTotalOrder};
 ghost use Rattle.spec_document.specs.declared.axis.Axis.TheVariants as axes;
+ghost use Rattle.spec_document.specs.Forest.{Document};
 ghost use Rattle.spec_document.specs.Axis.{is_on, is_in_tree};
-ghost use Rattle.spec_document.specs.Order.{Way, document_cmp};
+ghost use Rattle.spec_document.specs.Order.{Way, document_cmp, entries_of, ways_of, AreInOrder};
 
 /// Document order is a strict total order of places (XPath 1.0, section 5): of two places one comes
 /// first, unless they are one.
@@ -18,4 +19,9 @@ pub fn document_order_is_total()
 pub fn axes_part_the_tree()
     ensures { (p q : List Way) → IsTrue (is_in_tree p) → IsTrue (is_in_tree q) →
         count_by (λ axis. is_on axis p q) (axes.Itself ∷ axes.Ancestor ∷ axes.Descendant ∷ axes.Following ∷ axes.Preceding ∷ []) ≡ 1 }
+{}
+
+/// The nodes of a document are listed in document order, so each is listed once.
+pub fn nodes_stand_in_order()
+    ensures { (document : Document ℕ) → AreInOrder (ways_of (entries_of document)) }
 {}
