@@ -2,11 +2,10 @@
 ghost use Rattle.std.specs.Prelude.{◌≡◌, ◌++◌, [], ◌∷◌, ◌&&◌, ◌==◌, not, length, IfOk, OnOk, option_to_list, if◌then◌else◌};
 ghost use Rattle.std.specs.List.{concat};
 ghost use Rattle.std.specs.Str.{chars};
-ghost use Rattle.spec_document.specs.Character.{is_space};
 ghost use Rattle.spec_expression.specs.Strings.{normalized, translation_of, translated};
 
 use std::alloc::Global;
-use xt_text::{Memory, Text};
+use xt_text::{Memory, Text, is_space};
 
 /// The parts one after another (`concat`).
 pub fn concat(alloc: Global, parts: &[Text]) -> Result<Text, Memory>
@@ -44,12 +43,6 @@ fn push_word_part(normal: &mut Text, is_apart: bool, character: char) -> Result<
         normal.push(' ')?;
     }
     normal.push(character)
-}
-
-fn is_space(character: char) -> bool
-    ensures { result ≡ is_space character }
-{
-    matches!(character, ' ' | '\t' | '\r' | '\n')
 }
 
 /// The text with each character replaced (`translate`): by the one of `to` at the first place that it has in

@@ -18,7 +18,6 @@ mod names;
 mod numbers;
 mod piece;
 mod read;
-mod seen;
 mod top;
 mod write;
 

@@ -9,8 +9,8 @@ use Rattle.std.proofs.lemmas.Str.{chars-IsAscii, encodes-chars, encodes-IsAscii}
 use Rattle.std.proofs.lemmas.Str.Ascii.{IsAscii-nil, IsAscii-cons}
 use lib.Utf8.{encodes}
 use mathlib.Core.Bool.{beq}
-use Rattle.spec_document.specs.Scope.{xml_uri}
-use Rattle.spec_document.specs.Declaration.{is_either, is_reserved_target, xmlns_uri}
+use Rattle.spec_document.specs.Scope.{xml_uri, xmlns_uri}
+use Rattle.spec_document.specs.Declaration.{is_either, is_reserved_target}
 
 pub xml_chars : chars (codes "xml") ≡ codes "xml"
 unfolding chars

@@ -1,5 +1,5 @@
 -- Keys of ordered sets, and the names that they stand for.
-use Rattle.std.proofs.Common.{◌≡◌, ℕ, Bool, true, false, not, List, [], ◌∷◌, bytes_eq, string_bytes, Option, None, Some, refl, sym, ap, ◌∙◌}
+use Rattle.std.proofs.Common.{◌≡◌, ℕ, Bool, true, false, not, List, [], ◌∷◌, bytes_eq, string_bytes, map, Option, None, Some, refl, sym, ap, ◌∙◌}
 use Rattle.std.specs.Prelude.{◌||◌, ◌&&◌}
 use Rattle.std.specs.List.{list_any}
 use Rattle.std.specs.Ordering.{is_eq, ordering_then, match_ordering}
@@ -14,10 +14,9 @@ use Rattle.std.proofs.lemmas.Map.Text.{is_eq-slice_cmp}
 use Rattle.std.proofs.lemmas.Str.{IsUtf8-string_bytes}
 use Rattle.std.proofs.lemmas.Bool.Decides.{same_from_decides}
 use Rattle.std.proofs.lemmas.Slice.Eq.{bytes_eq-Decides}
-use Rattle.spec_document.specs.Name.{Expanded}
-use Rattle.spec_document.specs.Name.{same_expanded}
+use Rattle.spec_document.specs.Name.{Expanded, same_expanded}
 use Rattle.xt_text.proofs.Chars.{same_chars}
-use Rattle.xt_build.specs.Seen.{text_in, name_in, has_text, has_pair}
+use Rattle.xt_names.specs.NamesSoFar.{text_in, name_in, texts_in, names_in, is_written, is_expanded}
 
 swapped : (a b c : Bool) → (a || (b || c)) ≡ (b || (a || c))
 swapped true true c = refl
@@ -74,20 +73,28 @@ text_order x y = is_eq-slice_cmp (string_bytes x) (string_bytes y) ∙ same_char
 same_text : (x y : String Global) → string_cmp x y ≡ Equal → text_in x ≡ text_in y
 same_text x y e = (bytes_eq-Decides (text_in x) (text_in y)).0 (sym (text_order x y) ∙ ap is_eq e)
 
+-- what passes among the values of a list
+any_of : {K V : Type 0} (p : V → Bool) (f : K → V) (keys : List K) → list_any p (map f keys) ≡ list_any (λ key. p (f key)) keys
+any_of p f [] = refl
+any_of p f (key ∷ keys) = ap (λ b. p (f key) || b) (any_of p f keys)
+
 -- ---- Texts
 
 pub text_before : (keys : List (String Global)) (key : String Global) (text : List ℕ) → text_in key ≡ text
-    → list_any (is_at (string_cmp key)) keys ≡ has_text keys text
+    → list_any (is_at (string_cmp key)) keys ≡ is_written (texts_in keys) text
 text_before keys key text e =
     any_alike (is_at (string_cmp key)) (λ x. bytes_eq (text_in x) text)
     (λ x. text_order key x ∙ bytes_turned (text_in key) (text_in x) ∙ ap (bytes_eq (text_in x)) e) keys
+    ∙ sym (any_of (λ t. bytes_eq t text) text_in keys)
 
 pub text_kept : (keys : List (String Global)) (key : String Global) (text other : List ℕ) → text_in key ≡ text
-    → has_text (insert_key string_cmp keys key) other ≡ (has_text keys other || bytes_eq text other)
+    → is_written (texts_in (insert_key string_cmp keys key)) other ≡ (is_written (texts_in keys) other || bytes_eq text other)
 text_kept keys key text other e =
-    any_inserted string_cmp (λ x. bytes_eq (text_in x) other) (λ x y h. ap (λ t. bytes_eq t other) (same_text x y h)) keys key
-    ∙ turned (bytes_eq (text_in key) other) (has_text keys other)
-    ∙ ap (λ t. has_text keys other || bytes_eq t other) e
+    any_of (λ t. bytes_eq t other) text_in (insert_key string_cmp keys key)
+    ∙ any_inserted string_cmp (λ x. bytes_eq (text_in x) other) (λ x y h. ap (λ t. bytes_eq t other) (same_text x y h)) keys key
+    ∙ turned (bytes_eq (text_in key) other) (list_any (λ x. bytes_eq (text_in x) other) keys)
+    ∙ ap (λ t. list_any (λ x. bytes_eq (text_in x) other) keys || bytes_eq t other) e
+    ∙ ap (λ b. b || bytes_eq text other) (sym (any_of (λ t. bytes_eq t other) text_in keys))
 
 -- ---- Expanded names
 
@@ -125,26 +132,30 @@ of_parts uri local = record { uri = uri; local = local }
 pub parts_same : (uri local : List ℕ) (name : Expanded) → uri ≡ name.uri → local ≡ name.local → of_parts uri local ≡ name
 parts_same uri local name e h = ap (λ u. of_parts u local) e ∙ ap (of_parts name.uri) h
 
-same_name : (x y : String Global × String Global) → pair_cmp x y ≡ Equal → name_in x ≡ name_in y
-same_name x y e =
+alike : (x y : String Global × String Global) → pair_cmp x y ≡ Equal → name_in x ≡ name_in y
+alike x y e =
     let uri = same_text x.0 y.0 (first_equal (string_cmp x.0 y.0) (string_cmp x.1 y.1) e) in
     let local = same_text x.1 y.1 (second_equal (string_cmp x.0 y.0) (string_cmp x.1 y.1) e) in
     parts_same (text_in x.0) (text_in x.1) (name_in y) uri local
 
 pub pair_before : (keys : List (String Global × String Global)) (key : String Global × String Global) (name : Expanded) → name_in key ≡ name
-    → list_any (is_at (pair_cmp key)) keys ≡ has_pair keys (Some name)
+    → list_any (is_at (pair_cmp key)) keys ≡ is_expanded (names_in keys) (Some name)
 pair_before keys key name e =
     any_alike (is_at (pair_cmp key)) (λ x. same_expanded (Some (name_in x)) (Some name))
     (λ x. pair_order key x ∙ expanded_turned (name_in key) (name_in x) ∙ ap (λ n. same_expanded (Some (name_in x)) (Some n)) e) keys
+    ∙ sym (any_of (λ n. same_expanded (Some n) (Some name)) name_in keys)
 
 pub pair_kept : (keys : List (String Global × String Global)) (key : String Global × String Global) (name : Expanded) (other : Option Expanded) → name_in key ≡ name
-    → has_pair (insert_key pair_cmp keys key) other ≡ (has_pair keys other || same_expanded (Some name) other)
+    → is_expanded (names_in (insert_key pair_cmp keys key)) other ≡ (is_expanded (names_in keys) other || same_expanded (Some name) other)
 pair_kept keys key name other e =
-    any_inserted pair_cmp (λ x. same_expanded (Some (name_in x)) other) (λ x y h. ap (λ n. same_expanded (Some n) other) (same_name x y h)) keys key
-    ∙ turned (same_expanded (Some (name_in key)) other) (has_pair keys other)
-    ∙ ap (λ n. has_pair keys other || same_expanded (Some n) other) e
+    let among = λ (ks : List (String Global × String Global)). list_any (λ x. same_expanded (Some (name_in x)) other) ks in
+    any_of (λ n. same_expanded (Some n) other) name_in (insert_key pair_cmp keys key)
+    ∙ any_inserted pair_cmp (λ x. same_expanded (Some (name_in x)) other) (λ x y h. ap (λ n. same_expanded (Some n) other) (alike x y h)) keys key
+    ∙ turned (same_expanded (Some (name_in key)) other) (among keys)
+    ∙ ap (λ n. among keys || same_expanded (Some n) other) e
+    ∙ ap (λ b. b || same_expanded (Some name) other) (sym (any_of (λ n. same_expanded (Some n) other) name_in keys))
 
 -- what has no expanded name is the same as no key
-pub pair_none : (keys : List (String Global × String Global)) → has_pair keys None ≡ false
+pub pair_none : (names : List Expanded) → is_expanded names None ≡ false
 pair_none [] = refl
-pair_none (key ∷ keys) = pair_none keys
+pair_none (name ∷ names) = pair_none names

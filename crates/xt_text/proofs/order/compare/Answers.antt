@@ -3,7 +3,7 @@ use Rattle.std.specs.Ordering.{nat_cmp}
 use Rattle.std.specs.Str.Iter.{chars_rest}
 use Rattle.std.proofs.lemmas.Iterator.{YieldsList-from_chars}
 use Rattle.std.proofs.lemmas.Iterator.Search.{cmp_from_yields_List}
-use Rattle.xt_names.proofs.order.compare.Goals as goal
+use Rattle.xt_text.proofs.order.compare.Goals as goal
 
 pub returns : goal.returns
 returns c =
