@@ -6,7 +6,8 @@ use lib.Utf8.{encode}
 use Rattle.spec_document.specs.Character.{is_char, is_name_start, is_name_part}
 use Rattle.spec_document.specs.Scope.{root_scope}
 use Rattle.spec_document.specs.Forest.{Element, Text, Comment, Instruction, Forest, Empty, Node, Document}
-use Rattle.spec_document.specs.Document.{Fault, document_of, nodes_of}
+use Rattle.spec_document.specs.Fault.{Fault}
+use Rattle.spec_document.specs.Document.{document_of, nodes_of}
 
 abbrev refused : ℕ → ℕ → Result (Document ℕ) Fault
 refused number line = Err (record { number = number; line = line })

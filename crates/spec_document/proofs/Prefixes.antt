@@ -7,7 +7,8 @@ use Rattle.spec_document.specs.Character.{is_char, is_name_start, is_name_part}
 use Rattle.spec_document.specs.Scope.{root_scope, bound, xml_uri}
 use Rattle.spec_document.specs.Forest.{Element, Empty, Node, Document}
 use Rattle.spec_document.specs.Declaration.{element_name, attribute_name}
-use Rattle.spec_document.specs.Document.{Fault, document_of}
+use Rattle.spec_document.specs.Fault.{Fault}
+use Rattle.spec_document.specs.Document.{document_of}
 
 abbrev refused : ℕ → ℕ → Result (Document ℕ) Fault
 refused number line = Err (record { number = number; line = line })

@@ -6,7 +6,7 @@ use Rattle.std.proofs.lemmas.Slice.Eq.{bytes_eq-Decides}
 use Rattle.spec_document.specs.declared.event.Event.{Event}
 use Rattle.spec_document.specs.declared.event.Event.TheVariants.{Start, Attribute, Data, Instruction as InstructionEvent, End, Comment as CommentEvent}
 use Rattle.spec_document.specs.Forest.{Written, Element, Text, Comment, Instruction, Forest, Empty, Node, Plain, plain, joined, with_text, attribute_event, IsForestOf, is_empty, is_element, is_text, is_comment, is_instruction}
-use Rattle.spec_document.specs.Document.{Lines, Rest, with_event, started, rest_of, forest_of, closed, alone}
+use Rattle.spec_document.specs.Balance.{LineNumbers, Rest, with_event, started, rest_of, forest_of, closed, alone}
 
 -- what is said, without lines
 pub record Said : Type 0 where
@@ -38,7 +38,7 @@ abbrev say_all : List (Event (List ℕ)) → Option Said
 say_all [] = Some (record { attributes = []; siblings = Empty; behind = [] })
 say_all (e ∷ events) = option_and_then (say e) (say_all events)
 
-plain-joined : (line : Lines) (text : List ℕ) (f : Forest Lines) → plain (joined line text f) ≡ with_text text (plain f)
+plain-joined : (line : LineNumbers) (text : List ℕ) (f : Forest LineNumbers) → plain (joined line text f) ≡ with_text text (plain f)
 plain-joined line [] f = refl
 plain-joined line (c ∷ cs) Empty = refl
 plain-joined line (c ∷ cs) (Node l (Text t) children siblings) = refl
@@ -46,7 +46,7 @@ plain-joined line (c ∷ cs) (Node l (Element n a) children siblings) = refl
 plain-joined line (c ∷ cs) (Node l (Comment t) children siblings) = refl
 plain-joined line (c ∷ cs) (Node l (Instruction n t) children siblings) = refl
 
-start_step : (line : ℕ) (name : List ℕ) (more : List (ℕ × Written)) (f : Forest Lines) (b : List (List ℕ × Forest Lines))
+start_step : (line : ℕ) (name : List ℕ) (more : List (ℕ × Written)) (f : Forest LineNumbers) (b : List (List ℕ × Forest LineNumbers))
     → option_map said (started line name more f b) ≡ start_said name (map (λ a. a.1) more) (plain f) (map (λ x. (x.0, plain x.1)) b)
 start_step line name more f [] = refl
 start_step line name more f (end ∷ behind) =
@@ -202,7 +202,7 @@ closed_said (a ∷ more) siblings behind = None
 close : Said → Option Plain
 close r = closed_said r.attributes r.siblings r.behind
 
-closed_step : (more : List (ℕ × Written)) (f : Forest Lines) (b : List (List ℕ × Forest Lines))
+closed_step : (more : List (ℕ × Written)) (f : Forest LineNumbers) (b : List (List ℕ × Forest LineNumbers))
     → option_map plain (closed more f b) ≡ closed_said (map (λ a. a.1) more) (plain f) (map (λ x. (x.0, plain x.1)) b)
 unfolding closed_said
 closed_step [] f [] = refl

@@ -5,6 +5,12 @@ pub mod Pyx
 pub mod Forest
 pub mod Declaration
 pub mod Place
+pub mod Fault
+pub mod Body
+pub mod Balance
+pub mod Top
+pub mod NodeFaults
+pub mod Numbering
 pub mod Document
 pub mod Examples
 pub mod Order

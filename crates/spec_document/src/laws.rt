@@ -2,7 +2,7 @@
 ghost use Rattle.std.specs.Prelude.{◌≡◌, ◌↔◌, ℕ, List, Some, map};
 ghost use Rattle.std.specs.Option.{option_map};
 ghost use Rattle.spec_document.specs.declared.event.Event.{Event};
-ghost use Rattle.spec_document.specs.Document.{forest_of};
+ghost use Rattle.spec_document.specs.Balance.{forest_of};
 ghost use Rattle.spec_document.specs.Forest.{Plain, IsForestOf, IsNormal, plain, written};
 ghost use Rattle.spec_document.specs.Pyx.{escaped, unescaped, line_of, event_of, IsWritable};
 

@@ -9,7 +9,7 @@ use Rattle.spec_expression.specs.Token.{Token, Open, ColonColon, Name}
 use Rattle.spec_expression.specs.Syntax.{Test, Expr, call, root, here, exprs, Link, Step, chained, negated, filtered, stepped, node_on}
 use Rattle.spec_expression.specs.Grammar as g
 use Rattle.spec_expression.specs.Grammar.{level_of, type_of, expanded, Chain, Signs, Reads, ReadsPath, ReadsFilter, ReadsPrimary, ReadsLinks, ReadsArguments, ReadsMore, ReadsPredicates, ReadsRelative, ReadsSteps, ReadsStep, ReadsTest}
-use Rattle.spec_expression.specs.Rank.{rank, head_rank}
+use Rattle.spec_expression.proofs.Rank.{rank, head_rank}
 use Rattle.spec_expression.proofs.Ranks.{chain_operand, begin_relative, begin_filter, begin_union, begin_expression, links_stop, predicates_stop, steps_stop, more_stop}
 
 -- the same tree, and the same tokens left

@@ -1,5 +1,6 @@
 -- The commands that lines are, each with its body, and how the lines end.
-use Rattle.std.specs.Prelude.{ℕ, ◌≡◌, Bool, true, false, ◌||◌, List, [], ◌∷◌, ◌++◌, length, take, ◌==◌, bytes_eq, codes, if◌then◌else◌}
+use Rattle.std.specs.Prelude.{ℕ, Bool, true, false, ◌||◌, List, [], ◌∷◌, ◌++◌, length, ◌==◌, bytes_eq, codes, if◌then◌else◌}
+use Rattle.spec_lines.specs.Lines.{head_of}
 use Rattle.spec_session.specs.declared.kinds.LineKind.{LineKind}
 use Rattle.spec_session.specs.declared.kinds.LineKind.TheVariants.{Empty, Quit as QuitLine, WithBody, Alone}
 use Rattle.spec_session.specs.declared.kinds.Ending.{Ending}
@@ -9,10 +10,6 @@ use Rattle.spec_session.specs.declared.kinds.Ending.TheVariants.{Finished, Quit,
 pub record Command : Type 0 where
   pub line : List ℕ
   pub body : List (List ℕ)
-
--- what is known of a line without memory for it: its first 7 bytes, and so how many of them it has
-abbrev pub head_of : List ℕ → List ℕ
-head_of line = take 7 line
 
 -- the head of a line whose first word is this word of six letters
 abbrev pub begins_with_word : List ℕ → List ℕ → Bool

@@ -1,29 +1,15 @@
 -- Worked examples of the definitions. Each line is a fact whose two sides the check computes.
-use Rattle.std.specs.Prelude.{ℕ, ◌≡◌, refl, Bool, true, false, List, [], ◌∷◌, ◌++◌, Option, None, Some, codes}
+use Rattle.std.specs.Prelude.{ℕ, ◌≡◌, refl, false, List, [], ◌∷◌, None, Some, codes}
 use Rattle.std.specs.Str.{chars, is_utf8}
 use Rattle.std.specs.Fmt.{digits}
 use lib.Utf8.{encode}
 use Rattle.spec_document.specs.Character.{is_char, is_name_start, is_name_part}
-use Rattle.spec_session.specs.declared.kinds.Ending.{Ending}
 use Rattle.spec_session.specs.declared.kinds.Ending.TheVariants.{Finished, Quit, Unfinished}
 use Rattle.spec_session.specs.declared.kinds.Refusal.TheVariants.{NoMain, NoSource}
-use Rattle.spec_session.specs.Lines.{lines_within}
-use Rattle.spec_session.specs.Command.{Command, Session, session_of, status_of}
+use Rattle.spec_session.specs.Command.{Command, session_of, status_of}
 use Rattle.spec_session.specs.Form.{element_with, stylesheet_tree}
-use Rattle.spec_session.specs.Reply.{OkDone, OkRefused, Shown, No, reply_bytes}
-use Rattle.spec_session.specs.Machine.{Documents, no_documents, Done, Refused, outcome_of, request_of, SetSource, SetMain, Show, Other}
-
--- a CR before an LF is no part of a line; an empty line is one; the last line may lack its LF
-pub lines_end_with_newlines : lines_within 100 (codes "a\r\n\nb") ≡ codes "a" ∷ [] ∷ codes "b" ∷ []
-lines_end_with_newlines = refl
-
--- the last line without LF keeps its CR
-pub last_line_keeps_return : lines_within 100 (codes "a\r") ≡ codes "a\r" ∷ []
-last_line_keeps_return = refl
-
--- a line that is not whole within the limit is none
-pub lines_within_a_limit : lines_within 3 (codes "a\nbc\n") ≡ codes "a" ∷ []
-lines_within_a_limit = refl
+use Rattle.spec_session.specs.Reply.{OkRefused, Shown, No, reply_bytes}
+use Rattle.spec_session.specs.Machine.{no_documents, Done, Refused, outcome_of, request_of, SetSource, SetMain, Other}
 
 -- a body goes up to a line `.`; empty lines between commands are skipped; `quit` ends the session
 pub commands_with_bodies : session_of (codes "source x" ∷ codes "(a" ∷ [] ∷ codes "." ∷ [] ∷ codes "show" ∷ codes "quit" ∷ codes "show" ∷ [])

@@ -4,6 +4,7 @@ use Rattle.std.specs.Prelude.{ℕ, Bool, true, false, ◌&&◌, List, [], ◌∷
 use Rattle.spec_document.specs.declared.event.Event.{Event}
 use Rattle.spec_document.specs.declared.event.Event.TheVariants.{Start, Attribute, Data, Instruction as InstructionEvent, End, Comment as CommentEvent}
 use Rattle.spec_document.specs.Name.{is_ncname}
+use Rattle.spec_document.specs.Scope.{xslt_uri}
 use Rattle.spec_document.specs.Forest.{Written, Content, Element, Text, Comment, Instruction, Forest, Empty, Node, Plain, with_text}
 
 -- the event is the start, the end, of an element of this name; an attribute of this name and value; character data at all
@@ -50,9 +51,6 @@ source_of (start ∷ end ∷ []) = if encloses start end then Some (element_with
 source_of (start ∷ line ∷ end ∷ []) =
     if encloses start end && is_data line then Some (element_with (name_in start) (text_in line)) else None
 source_of _ = None
-
-abbrev pub xslt_uri : List ℕ
-xslt_uri = codes "http://www.w3.org/1999/XSL/Transform"
 
 -- the first five events of a stylesheet of version 1.0 with a template for the root
 abbrev pub opens : Event (List ℕ) → Event (List ℕ) → Event (List ℕ) → Event (List ℕ) → Event (List ℕ) → Bool

@@ -1,8 +1,6 @@
-pub mod Lines
 pub mod Command
 pub mod Form
 pub mod Reply
 pub mod Machine
-pub mod Outside
 pub mod Served
 pub mod Examples

@@ -1,10 +1,10 @@
 -- What a call that serves a session has done, by the status that it answers.
-use Rattle.std.specs.Prelude.{ℕ, ◌≡◌, ◌≤◌, ◌+◌, ◌^◌, ◌⊎◌, Bool, false, List, [], ◌∷◌, ◌++◌, length, nat_lt, bytes_eq, codes, Option, IfSome, IsSomeAnd}
+use Rattle.std.specs.Prelude.{ℕ, ◌≡◌, ◌≤◌, ◌+◌, ◌⊎◌, Bool, false, List, [], ◌∷◌, ◌++◌, length, nat_lt, bytes_eq, codes, Option, IfSome, IsSomeAnd}
 use Rattle.std.specs.List.{flat_map}
-use Rattle.spec_session.specs.Lines.{lines_within, ended_lines}
+use Rattle.spec_lines.specs.Lines.{lines_within, ended_lines}
 use Rattle.spec_session.specs.Command.{Command, Session, session_of, status_of}
 use Rattle.spec_session.specs.Reply.{Reply, reply_bytes}
-use Rattle.spec_session.specs.Outside.{Appends}
+use Rattle.spec_lines.specs.Outside.{Appends}
 use Rattle.spec_session.specs.Machine.{Documents, no_documents, Run}
 
 -- the text is the bytes of the replies of a run of the machine over the commands, and nothing else

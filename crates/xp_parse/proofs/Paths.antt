@@ -6,7 +6,7 @@ use Rattle.spec_expression.specs.Token.{Token, Slash, SlashSlash}
 use Rattle.spec_expression.specs.Syntax.{Expr, root, here, Step, stepped, node_on}
 use Rattle.spec_expression.specs.Grammar as g
 use Rattle.spec_expression.specs.Grammar.{ReadsPath, ReadsFilter, ReadsRelative, ReadsSteps}
-use Rattle.spec_expression.specs.Rank.{head_rank}
+use Rattle.spec_expression.proofs.Rank.{head_rank}
 use Rattle.spec_expression.proofs.Ranks.{steps_stop}
 use Rattle.xp_parse.specs.Reading.{Read, Nothing, Behind, IsNotNext, begins_step, begins_primary}
 use Rattle.xp_parse.proofs.Begins.{relative_begins, begins_rank, filter_begins, relative_no_primary}

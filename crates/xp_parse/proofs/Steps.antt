@@ -8,7 +8,7 @@ use Rattle.spec_expression.specs.Token.{Token, Dot, DotDot, ColonColon, Slash, S
 use Rattle.spec_expression.specs.Syntax.{Test, Expr, exprs, Step, node_on}
 use Rattle.spec_expression.specs.Grammar as g
 use Rattle.spec_expression.specs.Grammar.{axis_of, ReadsPredicates, ReadsRelative, ReadsSteps, ReadsStep, ReadsTest}
-use Rattle.spec_expression.specs.Rank.{head_rank}
+use Rattle.spec_expression.proofs.Rank.{head_rank}
 use Rattle.spec_expression.proofs.Ranks.{predicates_stop, steps_stop}
 use Rattle.xp_parse.specs.Reading.{Read, Nothing, Returns, Behind, IsNotNext, ReadsAxis, named, attribute, absent, IsNoAxis}
 use Rattle.xp_parse.specs.declared.fault.ParseFault.{ParseFault}

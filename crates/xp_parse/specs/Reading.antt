@@ -10,7 +10,7 @@ use Rattle.spec_document.specs.Name.{QName}
 use Rattle.spec_expression.specs.Token as plain
 use Rattle.spec_expression.specs.Token.{Token}
 use Rattle.spec_expression.specs.Grammar.{level_of, axis_of, type_of}
-use Rattle.spec_expression.specs.Rank.{head_rank}
+use Rattle.spec_expression.proofs.Rank.{head_rank}
 use Rattle.xp_parse.specs.declared.token.Sign.{Sign}
 use Rattle.xp_parse.specs.declared.token.Sign.TheVariants as signs
 use Rattle.xp_parse.specs.declared.fault.ParseFault.{ParseFault}

@@ -1,7 +1,7 @@
 // Expressions read by descent: each function reads one production (XPath 1.0, productions 1 to 27).
 ghost use Rattle.std.specs.Prelude.{◌≡◌, ◌≤◌, ◌<◌, length, map, IfOk, OnOk, OnErr};
 ghost use Rattle.spec_expression.specs.Grammar as grammar;
-ghost use Rattle.spec_expression.specs.Rank.{rank};
+ghost use Rattle.spec_expression.proofs.Rank.{rank};
 ghost use Rattle.xp_syntax.specs.View.{expr_of, link_of, step_of, test_of};
 
 use crate::build::{

@@ -6,7 +6,9 @@ use Rattle.std.proofs.lemmas.List.{get_or-drop, drop-drop}
 use Rattle.spec_document.specs.Scope.{Scope}
 use Rattle.spec_document.specs.Forest.{Written}
 use Rattle.spec_document.specs.Declaration.{use_of}
-use Rattle.spec_document.specs.Document.{Fault, least, fault_if, is_wrong_use, expanded_by, same_expanded, is_same_attribute, attribute_faults}
+use Rattle.spec_document.specs.Name.{same_expanded}
+use Rattle.spec_document.specs.Fault.{Fault, least, fault_if}
+use Rattle.spec_document.specs.NodeFaults.{is_wrong_use, expanded_by, is_same_attribute, attribute_faults}
 use Rattle.xt_build.specs.Least.{merged}
 use Rattle.xt_build.specs.Names.{expanded_names}
 use Rattle.xt_build.proofs.Least.{merged-assoc, least-append}

@@ -8,7 +8,7 @@ use Rattle.std.proofs.lemmas.Slice.Eq.{bytes_eq-Decides}
 use Rattle.spec_document.specs.declared.event.Event.{Event}
 use Rattle.spec_document.specs.declared.event.Event.TheVariants.{Start, Attribute, Data, Instruction as InstructionEvent, End, Comment as CommentEvent}
 use Rattle.spec_document.specs.Forest.{Written, Element, Instruction, Comment, Forest, Empty, Node, joined}
-use Rattle.spec_document.specs.Document.{Lines, Rest, with_event, started, rest_of, closed, forest_of, alone, open_behind, takes_attributes, is_innermost, may_follow, unbalanced_line}
+use Rattle.spec_document.specs.Balance.{LineNumbers, Rest, with_event, started, rest_of, closed, forest_of, alone, open_behind, takes_attributes, is_innermost, may_follow, unbalanced_line}
 use Rattle.xt_build.specs.declared.read.Located.{Located}
 use Rattle.xt_build.specs.View.{located_of}
 
@@ -64,7 +64,7 @@ name_comm a b =
     same_from_decides (bytes_eq a b) (bytes_eq b a) (bytes_eq-Decides a b)
     (λ e. sym ((bytes_eq-Decides b a).0 e), λ e. (bytes_eq-Decides b a).1 (sym e))
 
-start_step : (line : ℕ) (name : List ℕ) (more : List (ℕ × Written)) (f : Forest Lines) (behind : List (List ℕ × Forest Lines)) (takes : Bool) (names : List (List ℕ))
+start_step : (line : ℕ) (name : List ℕ) (more : List (ℕ × Written)) (f : Forest LineNumbers) (behind : List (List ℕ × Forest LineNumbers)) (takes : Bool) (names : List (List ℕ))
     → (same_names (name ∷ names) (map (λ end. end.0) behind) && true) ≡ fits takes names (started line name more f behind)
 start_step line name more f [] takes names = refl
 start_step line name more f (end ∷ behind) takes names =
@@ -85,7 +85,7 @@ leaf_step [] front takes names e =
     ∙ ap (λ attributes. same_names names (map (λ end. end.0) front.behind) && (takes || none_left attributes)) (sym e)
 leaf_step (a ∷ more) front takes names e = and_false (same_names names (map (λ end. end.0) front.behind))
 
-end_step : (name : List ℕ) (more : List (ℕ × Written)) (f : Forest Lines) (behind : List (List ℕ × Forest Lines)) (takes : Bool) (names : List (List ℕ))
+end_step : (name : List ℕ) (more : List (ℕ × Written)) (f : Forest LineNumbers) (behind : List (List ℕ × Forest LineNumbers)) (takes : Bool) (names : List (List ℕ))
     → cond (is_innermost name names) (same_names (drop 1 names) (map (λ end. end.0) behind) && none_left more) false
     ≡ fits takes names (elim more [ [] ↦ Some (record { attributes = []; siblings = Empty; behind = (name, f) ∷ behind }) | a ∷ others ↦ None ])
 end_step name [] f behind takes [] = refl
@@ -140,7 +140,7 @@ scan_fits before names (e ∷ events) =
     first true o = refl
     first false o = refl
 
-closed_fits : (attributes : List (ℕ × Written)) (siblings : Forest Lines) (behind : List (List ℕ × Forest Lines))
+closed_fits : (attributes : List (ℕ × Written)) (siblings : Forest LineNumbers) (behind : List (List ℕ × Forest LineNumbers))
     → is_some (closed attributes siblings behind) ≡ (same_names [] (map (λ end. end.0) behind) && none_left attributes)
 closed_fits [] siblings [] = refl
 closed_fits [] siblings (end ∷ behind) = refl
@@ -157,7 +157,7 @@ balanced events h = forest_fits (rest_of events) ∙ sym (scan_fits None [] even
 pub not_balanced : (events : List (ℕ × Event (List ℕ))) (line : ℕ) → scan None [] events ≡ Some line → (forest_of events ≡ None) × (unbalanced_line None [] events ≡ line)
 not_balanced events line h = (none (forest_of events) (forest_fits (rest_of events) ∙ sym (scan_fits None [] events) ∙ ap is_none h), scan_is_line None [] events line h)
   where
-    none : (o : Option (Forest Lines)) → is_some o ≡ false → o ≡ None
+    none : (o : Option (Forest LineNumbers)) → is_some o ≡ false → o ≡ None
     none None e = refl
     none (Some f) e = absurd (cc)
 

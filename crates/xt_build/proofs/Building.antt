@@ -4,7 +4,13 @@ use Rattle.std.proofs.lemmas.List.{drop_all}
 use Rattle.std.specs.Prelude.{◌⊎◌, nat_lt}
 use Rattle.spec_document.specs.Scope.{Scope}
 use Rattle.spec_document.specs.Forest.{Forest, Empty, Node, labels, size, numbered}
-use Rattle.spec_document.specs.Document.{Fault, Lines, least, answer_of, made_of, unbalanced_line, line_faults, events_at, forest_of, top_faults, node_faults, number_faults, number_limit, kept, nodes_by, document_by, without_texts}
+use Rattle.spec_document.specs.Fault.{Fault, least, answer_of}
+use Rattle.spec_document.specs.Body.{line_faults, events_at}
+use Rattle.spec_document.specs.Balance.{LineNumbers, unbalanced_line, forest_of}
+use Rattle.spec_document.specs.Top.{top_faults, kept, without_texts}
+use Rattle.spec_document.specs.NodeFaults.{node_faults}
+use Rattle.spec_document.specs.Numbering.{number_faults, number_limit}
+use Rattle.spec_document.specs.Document.{made_of, nodes_by, document_by}
 use Rattle.xt_build.specs.Least.{merged}
 use Rattle.xt_build.proofs.Least.{merged-assoc, least-append}
 
@@ -53,7 +59,7 @@ fits limit first size l h (inr none) = omega (arith, h, none)
 below_u64 : number_limit < 2 ^ 64
 below_u64 = omega arith
 
-pub nodes_fit : (first : ℕ) (f : Forest Lines) → first < 2 ^ 64 → least (number_faults first (map (λ l. l.first) (labels f))) ≡ None → first + size f < 2 ^ 64
+pub nodes_fit : (first : ℕ) (f : Forest LineNumbers) → first < 2 ^ 64 → least (number_faults first (map (λ l. l.first) (labels f))) ≡ None → first + size f < 2 ^ 64
 nodes_fit first f h none =
     fits number_limit first (size f) below_u64 h (of_size (length_map _ (labels f) ∙ size_labels f) (size_fits first _ none))
   where
@@ -67,14 +73,14 @@ pub answer_least : {A : Type 0} (faults : List Fault) (otherwise : Result A Faul
 answer_least faults otherwise found e = ap (λ o. elim o [ None ↦ otherwise | Some fault ↦ Err fault ]) e
 
 -- what is made of the forest of the lines
-pub made : {A : Type 0} (make : Forest Lines → Result A Fault) (body : List (List ℕ)) (f : Forest Lines) → least (line_faults body) ≡ None → forest_of (events_at body) ≡ Some f
+pub made : {A : Type 0} (make : Forest LineNumbers → Result A Fault) (body : List (List ℕ)) (f : Forest LineNumbers) → least (line_faults body) ≡ None → forest_of (events_at body) ≡ Some f
     → answer_of (line_faults body) (made_of make (events_at body)) ≡ make f
 made make body f none some =
     answer_least (line_faults body) (made_of make (events_at body)) None none
     ∙ ap (λ o. elim o [ None ↦ Err (record { number = 9; line = unbalanced_line None [] (events_at body) }) | Some forest ↦ make forest ]) some
 
 -- the siblings: no fault is found, or this one
-pub nodes_made : (scope : Scope) (first depth : ℕ) (others : Option ℕ) (f : Forest Lines) (top names found : Option Fault)
+pub nodes_made : (scope : Scope) (first depth : ℕ) (others : Option ℕ) (f : Forest LineNumbers) (top names found : Option Fault)
     → top ≡ least (top_faults others f) → names ≡ merged top (least (node_faults scope (depth + 1) f))
     → found ≡ merged names (least (number_faults first (map (λ l. l.first) (labels (kept others f)))))
     → nodes_by scope first depth others f ≡ elim found [ None ↦ Ok (numbered first (kept others f)) | Some fault ↦ Err fault ]
@@ -84,7 +90,7 @@ nodes_made scope first depth others f top names found t n m =
     answer_least _ (Ok (numbered first (kept others f))) found (sym (is ∙ found_together (top_faults others f) (node_faults scope (depth + 1) f) (number_faults first lines)))
 
 -- and none found leaves room for the numbers
-pub nodes_have_room : (first : ℕ) (faults : Option Fault) (f : Forest Lines) → first < 2 ^ 64 → merged faults (least (number_faults first (map (λ l. l.first) (labels f)))) ≡ None
+pub nodes_have_room : (first : ℕ) (faults : Option Fault) (f : Forest LineNumbers) → first < 2 ^ 64 → merged faults (least (number_faults first (map (λ l. l.first) (labels f)))) ≡ None
     → first + size f < 2 ^ 64
 nodes_have_room first faults f h none = nodes_fit first f h (merged_none faults _ none).1
 
@@ -119,7 +125,7 @@ number_then first second line lines (one_more h) = split_at _ _ line lines (next
 number_then first second line lines (beyond h k) = split_at _ _ line lines (next_left number_limit first second (inr (h, k)))
 
 -- the document: no fault is found, or this one
-pub document_made : (scope : Scope) (first second : ℕ) (f : Forest Lines) (top names root found : Option Fault) → IsNext first second
+pub document_made : (scope : Scope) (first second : ℕ) (f : Forest LineNumbers) (top names root found : Option Fault) → IsNext first second
     → top ≡ least (top_faults (Some 0) f) → names ≡ merged top (least (node_faults scope 1 f)) → root ≡ merged names (least (number_faults first (0 ∷ [])))
     → found ≡ merged root (least (number_faults second (map (λ l. l.first) (labels (without_texts f)))))
     → document_by scope first f ≡ elim found [ None ↦ Ok (record { root = first; nodes = numbered (first + 1) (without_texts f) }) | Some fault ↦ Err fault ]
@@ -146,7 +152,7 @@ numbered_again n (Node label content children siblings) =
     ap (λ m. Node n content (numbered (n + 1) (numbered (n + 1) children)) (numbered (n + 1 + m) (numbered (n + 1 + size children) siblings))) (size_numbered (n + 1) children)
     ∙ λ i. Node n content (numbered_again (n + 1) children i) (numbered_again (n + 1 + size children) siblings i)
 
-pub document_has_room : (first second : ℕ) (names root found : Option Fault) (f : Forest Lines) → IsNext first second
+pub document_has_room : (first second : ℕ) (names root found : Option Fault) (f : Forest LineNumbers) → IsNext first second
     → root ≡ merged names (least (number_faults first (0 ∷ []))) → found ≡ merged root (least (number_faults second (map (λ l. l.first) (labels f)))) → found ≡ None
     → first + size f < number_limit
 document_has_room first second names root found f next r m none =
@@ -178,12 +184,12 @@ pub second_number : (first second size : ℕ) → second ≡ min (first + 1) 184
 second_number first second size e room = omega (arith, e, room)
 
 -- nodes that are numbered from the second number on
-pub record AreMade (first : ℕ) (f : Forest Lines) (nodes : Forest ℕ) : Type 0 where
+pub record AreMade (first : ℕ) (f : Forest LineNumbers) (nodes : Forest ℕ) : Type 0 where
   pub again : numbered (first + 1) nodes ≡ nodes
   pub fit : first + size nodes < number_limit
   pub are : nodes ≡ numbered (first + 1) f
 
-pub are_made : (first second : ℕ) (f : Forest Lines) (nodes : Forest ℕ) → second ≡ min (first + 1) 18446744073709551615 → first + size f < number_limit → nodes ≡ numbered second f
+pub are_made : (first second : ℕ) (f : Forest LineNumbers) (nodes : Forest ℕ) → second ≡ min (first + 1) 18446744073709551615 → first + size f < number_limit → nodes ≡ numbered second f
     → AreMade first f nodes
 are_made first second f nodes e room is =
     let behind = second_number first second (size f) e room in

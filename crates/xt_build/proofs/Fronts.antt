@@ -5,12 +5,12 @@ use Rattle.std.specs.Option.{option_and_then}
 use Rattle.spec_document.specs.declared.event.Event.{Event}
 use Rattle.spec_document.specs.declared.event.Event.TheVariants.{Start, Attribute, Data, Instruction as InstructionEvent, End, Comment as CommentEvent}
 use Rattle.spec_document.specs.Forest.{Written, Element, Text, Comment, Instruction, Forest, Node, IsNoText}
-use Rattle.spec_document.specs.Document.{Lines, Rest, with_event, started, rest_of, alone}
+use Rattle.spec_document.specs.Balance.{LineNumbers, Rest, with_event, started, rest_of, alone}
 use Rattle.xt_build.specs.Piece.{Piece, Begins, Ends, piece_before, pieces_before, AreClosed}
 use Rattle.xt_build.specs.Front.{attributes_first, data_first}
 
 -- the forests that are open in front of what the rest says
-abbrev pub stack : Rest → List (Forest Lines)
+abbrev pub stack : Rest → List (Forest LineNumbers)
 stack rest = rest.siblings ∷ map (λ b. b.1) rest.behind
 
 -- pieces in front of what is said behind them say this
@@ -23,15 +23,15 @@ Fronted None pieces behind = Unit {0}
 Fronted (Some whole) pieces behind = Stands behind pieces whole
 
 -- pieces in front of pieces
-pieces_before-append : (ps qs : List Piece) (b : List (Forest Lines)) → pieces_before (ps ++ qs) b ≡ pieces_before ps (pieces_before qs b)
+pieces_before-append : (ps qs : List Piece) (b : List (Forest LineNumbers)) → pieces_before (ps ++ qs) b ≡ pieces_before ps (pieces_before qs b)
 pieces_before-append [] qs b = refl
 pieces_before-append (p ∷ ps) qs b = ap (piece_before p) (pieces_before-append ps qs b)
 
-closed-append : (ps qs : List Piece) (b : List (Forest Lines)) → AreClosed ps (pieces_before qs b) → AreClosed qs b → AreClosed (ps ++ qs) b
+closed-append : (ps qs : List Piece) (b : List (Forest LineNumbers)) → AreClosed ps (pieces_before qs b) → AreClosed qs b → AreClosed (ps ++ qs) b
 closed-append [] qs b h g = g
 closed-append (Ends ∷ ps) qs b h g = closed-append ps qs b h g
 closed-append (Begins l (Element n a) ∷ ps) qs b h g =
-    (subst (λ (s : List (Forest Lines)). 1 < length s) (sym (pieces_before-append ps qs b)) h.0, closed-append ps qs b h.1 g)
+    (subst (λ (s : List (Forest LineNumbers)). 1 < length s) (sym (pieces_before-append ps qs b)) h.0, closed-append ps qs b h.1 g)
 closed-append (Begins l (Text t) ∷ ps) qs b h g = closed-append ps qs b h g
 closed-append (Begins l (Comment t) ∷ ps) qs b h g = closed-append ps qs b h g
 closed-append (Begins l (Instruction n t) ∷ ps) qs b h g = closed-append ps qs b h g
@@ -41,7 +41,7 @@ fronted-stands None behind ps qs whole h s = absurd s
 fronted-stands (Some r) None ps qs whole h s = absurd h
 fronted-stands (Some r) (Some b) ps qs whole h s = (
   pieces_before-append ps qs (stack b) ∙ ap (pieces_before ps) h.0 ∙ s.0,
-  closed-append ps qs (stack b) (subst (λ (f : List (Forest Lines)). AreClosed ps f) (sym h.0) s.1) h.1,
+  closed-append ps qs (stack b) (subst (λ (f : List (Forest LineNumbers)). AreClosed ps f) (sym h.0) s.1) h.1,
 )
 
 -- an attribute that is said stands in front
@@ -49,7 +49,7 @@ abbrev pub AttributesAre : Option Rest → List (ℕ × Written) → Type 0
 AttributesAre None own = Unit {0}
 AttributesAre (Some r) own = r.attributes ≡ own
 
-start-attributes : (line : ℕ) (name : List ℕ) (own : List (ℕ × Written)) (s : Forest Lines) (b : List (List ℕ × Forest Lines)) → AttributesAre (started line name own s b) []
+start-attributes : (line : ℕ) (name : List ℕ) (own : List (ℕ × Written)) (s : Forest LineNumbers) (b : List (List ℕ × Forest LineNumbers)) → AttributesAre (started line name own s b) []
 start-attributes line name own s [] = tt
 start-attributes line name own s (end ∷ b) =
     elim (bytes_eq name end.0) as (λ t. AttributesAre (cond t (Some (record { attributes = []; siblings = Node (record { first = line; attributes = map (λ a. a.0) own }) (Element name (map (λ a. a.1) own)) s end.1; behind = b })) None) []) [ true ↦ refl | false ↦ tt ]
@@ -84,7 +84,7 @@ attributes-are [] = refl
 attributes-are ((line, e) ∷ es) = attributes-option line e (rest_of es) es (attributes-are es)
 
 -- the pieces of one event
-start-fronted : (line : ℕ) (name : List ℕ) (own : List (ℕ × Written)) (s : Forest Lines) (b : List (List ℕ × Forest Lines))
+start-fronted : (line : ℕ) (name : List ℕ) (own : List (ℕ × Written)) (s : Forest LineNumbers) (b : List (List ℕ × Forest LineNumbers))
     → Fronted (started line name own s b) (Begins (record { first = line; attributes = map (λ a. a.0) own }) (Element name (map (λ a. a.1) own)) ∷ [])
     (Some (record { attributes = own; siblings = s; behind = b }))
 start-fronted line name own s [] = tt
@@ -132,7 +132,7 @@ abbrev pub NoTextFirst : Option Rest → Type 0
 NoTextFirst None = Unit {0}
 NoTextFirst (Some r) = r.attributes ≡ [] → IsNoText r.siblings
 
-start-no_text : (line : ℕ) (name : List ℕ) (own : List (ℕ × Written)) (s : Forest Lines) (b : List (List ℕ × Forest Lines)) → NoTextFirst (started line name own s b)
+start-no_text : (line : ℕ) (name : List ℕ) (own : List (ℕ × Written)) (s : Forest LineNumbers) (b : List (List ℕ × Forest LineNumbers)) → NoTextFirst (started line name own s b)
 start-no_text line name own s [] = tt
 start-no_text line name own s (end ∷ b) =
     elim (bytes_eq name end.0) as (λ t. NoTextFirst (cond t (Some (record { attributes = []; siblings = Node (record { first = line; attributes = map (λ a. a.0) own }) (Element name (map (λ a. a.1) own)) s end.1; behind = b })) None)) [ true ↦ λ _. tt | false ↦ tt ]

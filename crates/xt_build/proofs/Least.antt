@@ -1,7 +1,7 @@
 -- The least of faults, found in any order.
 use Rattle.std.proofs.Common.{◌≡◌, ℕ, ◌<◌, ◌≤◌, Bool, true, false, cond, List, [], ◌∷◌, ◌++◌, ◌==◌, Option, Some, None, refl, sym, ap, ◌∙◌, arith, inl, inr, eq-eqb, eqb-true, lt-ltb, ltb-false, ltb-true}
 use Rattle.std.specs.Prelude.{◌⊎◌, ◌&&◌, ◌||◌, nat_lt}
-use Rattle.spec_document.specs.Document.{Fault, comes_first, least}
+use Rattle.spec_document.specs.Fault.{Fault, comes_first, least}
 use Rattle.xt_build.specs.Least.{merged}
 
 abbrev Before : Fault → Fault → Type 0

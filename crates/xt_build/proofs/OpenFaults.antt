@@ -8,7 +8,9 @@ use Rattle.std.specs.declared.rc.Rc.{Rc}
 use Rattle.spec_document.specs.Scope.{Scope}
 use Rattle.spec_document.specs.Forest.{Written, Forest, Element, Instruction}
 use Rattle.spec_document.specs.Declaration.{declared_all}
-use Rattle.spec_document.specs.Document.{Lines, Fault, least, fault_if, greatest_depth, is_wrong_element, is_wrong_target, attribute_faults, content_faults, node_faults}
+use Rattle.spec_document.specs.Fault.{Fault, least, fault_if}
+use Rattle.spec_document.specs.Balance.{LineNumbers}
+use Rattle.spec_document.specs.NodeFaults.{greatest_depth, is_wrong_element, is_wrong_target, attribute_faults, content_faults, node_faults}
 use Rattle.xt_names.specs.declared.scope.Scope.{Scope as Kept}
 use Rattle.xt_build.specs.Least.{merged}
 use Rattle.xt_build.proofs.Attributes.{kept_one, kept_three}
@@ -32,7 +34,7 @@ between ws xs ys zs = append_assoc (ws ++ xs) ys zs ∙ append_assoc ws xs (ys +
 
 -- ---- Nodes in front
 
-instruction_faults : (outside : Scope) (depth : ℕ) (scopes : List Scope) (lines : Lines) (target text : List ℕ) (behind : List (Forest Lines))
+instruction_faults : (outside : Scope) (depth : ℕ) (scopes : List Scope) (lines : LineNumbers) (target text : List ℕ) (behind : List (Forest LineNumbers))
     → open_faults outside depth scopes (leaf_before lines (Instruction target text) behind) ≡ fault_if (is_wrong_target target) 10 lines.first ++ open_faults outside depth scopes behind
 instruction_faults outside depth scopes lines target text [] = alone (fault_if (is_wrong_target target) 10 lines.first)
 instruction_faults outside depth scopes lines target text (f ∷ fs) =
@@ -41,7 +43,7 @@ instruction_faults outside depth scopes lines target text (f ∷ fs) =
 deeper : (depth n : ℕ) → depth + n + 1 ≡ depth + suc n
 deeper depth n = omega arith
 
-element_faults : (outside : Scope) (depth : ℕ) (scopes : List Scope) (lines : Lines) (name : List ℕ) (attributes : List Written) (behind : List (Forest Lines))
+element_faults : (outside : Scope) (depth : ℕ) (scopes : List Scope) (lines : LineNumbers) (name : List ℕ) (attributes : List Written) (behind : List (Forest LineNumbers))
     → open_faults outside depth scopes (element_before lines (Element name attributes) behind)
     ≡ content_faults (declared_all attributes (innermost outside scopes)) (depth + length scopes) lines (Element name attributes)
     ++ open_faults outside depth (declared_all attributes (innermost outside scopes) ∷ scopes) behind
@@ -59,7 +61,7 @@ element_faults outside depth scopes lines name attributes (f ∷ g ∷ fs) =
     ∙ ap (λ d. own ++ (node_faults inside d f ++ rest)) (deeper depth (length scopes))
 
 -- what was found at an element, with the faults inside it and behind it, is what was found with the faults from the element on
-pub entered : (outside : Scope) (depth : ℕ) (scopes : List Scope) (lines : Lines) (name : List ℕ) (attributes : List Written) (behind : List (Forest Lines))
+pub entered : (outside : Scope) (depth : ℕ) (scopes : List Scope) (lines : LineNumbers) (name : List ℕ) (attributes : List Written) (behind : List (Forest LineNumbers))
     (found first second now : Option Fault)
     → first ≡ merged found (least (fault_if (is_wrong_element (declared_all attributes (innermost outside scopes)) name) 10 lines.first))
     → second ≡ merged first (least (fault_if (nat_lt greatest_depth (depth + length scopes)) 11 lines.first))
@@ -69,7 +71,7 @@ pub entered : (outside : Scope) (depth : ℕ) (scopes : List Scope) (lines : Lin
 entered outside depth scopes lines name attributes behind found first second now e h k =
     kept_three found first second now _ _ _ _ e h k ∙ ap (λ fs. merged found (least fs)) (sym (element_faults outside depth scopes lines name attributes behind))
 
-pub instructed : (outside : Scope) (depth : ℕ) (scopes : List Scope) (lines : Lines) (target text : List ℕ) (behind : List (Forest Lines)) (found now : Option Fault)
+pub instructed : (outside : Scope) (depth : ℕ) (scopes : List Scope) (lines : LineNumbers) (target text : List ℕ) (behind : List (Forest LineNumbers)) (found now : Option Fault)
     → now ≡ merged found (least (fault_if (is_wrong_target target) 10 lines.first))
     → merged now (least (open_faults outside depth scopes behind)) ≡ merged found (least (open_faults outside depth scopes (leaf_before lines (Instruction target text) behind)))
 instructed outside depth scopes lines target text behind found now e =
@@ -113,7 +115,7 @@ last_innermost xs o outside e = ap value_of (behind_ref o outside ∙ e) ∙ sym
 level : (depth : ℕ) → depth + 0 ≡ depth
 level depth = omega arith
 
-pub whole_faults : (outside : Scope) (depth : ℕ) (forests : List (Forest Lines)) → length forests ≡ 1
+pub whole_faults : (outside : Scope) (depth : ℕ) (forests : List (Forest LineNumbers)) → length forests ≡ 1
     → open_faults outside depth [] forests ≡ node_faults outside depth (first_of forests)
 whole_faults outside depth [] e = absurd (omega arith)
 whole_faults outside depth (f ∷ []) e = append-nil (node_faults outside (depth + 0) f) ∙ ap (λ d. node_faults outside d f) (level depth)

@@ -1,7 +1,7 @@
 -- Elements that are open: what they make of the nodes that are done and of those that are still to come.
 use Rattle.std.proofs.Common.{◌≡◌, ℕ, suc, ◌+◌, ◌-◌, List, [], ◌∷◌, ◌++◌, length, Option, refl, ap, arith}
 use Rattle.spec_document.specs.Forest.{Forest, Empty, Node, size}
-use Rattle.spec_document.specs.Document.{Lines}
+use Rattle.spec_document.specs.Balance.{LineNumbers}
 use Rattle.xt_tree.specs.View.{content_of, followed}
 use Rattle.xt_build.specs.Left.{kept_open, open_numbered}
 use Rattle.xt_build.specs.declared.make.Open.{Open}
@@ -22,7 +22,7 @@ behind done [] = []
 behind done (siblings ∷ stack) = followed done siblings ∷ stack
 
 -- the nodes that are still to come
-abbrev pub coming : ℕ → Option ℕ → List (Forest Lines) → List (Forest ℕ)
+abbrev pub coming : ℕ → Option ℕ → List (Forest LineNumbers) → List (Forest ℕ)
 coming next others stack = open_numbered next (kept_open others stack)
 
 -- the nodes of all forests
@@ -57,17 +57,17 @@ length-behind : (f : Forest ℕ) (fs : List (Forest ℕ)) → length (behind f f
 length-behind f [] = refl
 length-behind f (g ∷ fs) = refl
 
-length-numbered : (n : ℕ) (s : List (Forest Lines)) → length (open_numbered n s) ≡ length s
+length-numbered : (n : ℕ) (s : List (Forest LineNumbers)) → length (open_numbered n s) ≡ length s
 length-numbered n [] = refl
 length-numbered n (f ∷ s) = ap suc (length-numbered (n + size f) s)
 
-length-kept : (others : Option ℕ) (s : List (Forest Lines)) → length (kept_open others s) ≡ length s
+length-kept : (others : Option ℕ) (s : List (Forest LineNumbers)) → length (kept_open others s) ≡ length s
 length-kept others [] = refl
 length-kept others (f ∷ []) = refl
 length-kept others (f ∷ g ∷ s) = ap suc (length-kept others (g ∷ s))
 
 -- as many forests are open as elements, and the outermost one
-pub level : (os : List Open) (done : Forest ℕ) (n : ℕ) (others : Option ℕ) (s : List (Forest Lines)) (f : Forest ℕ)
+pub level : (os : List Open) (done : Forest ℕ) (n : ℕ) (others : Option ℕ) (s : List (Forest LineNumbers)) (f : Forest ℕ)
     → whole os done (coming n others s) ≡ f ∷ [] → length s ≡ length os + 1
 level os done n others s f e =
     let one : length (whole os done (coming n others s)) ≡ 1 = ap length e in

@@ -8,7 +8,8 @@ use Rattle.std.proofs.lemmas.Str.{IsUtf8-from_is_utf8, is_utf8-from_IsUtf8, enco
 use lib.Utf8.{encodes}
 use Rattle.spec_document.specs.declared.event.Event.{Event}
 use Rattle.spec_document.specs.Pyx.{event_of}
-use Rattle.spec_document.specs.Document.{Fault, least, fault_if, event_at, not_utf8, is_bad, no_event, line_faults, events_at}
+use Rattle.spec_document.specs.Fault.{Fault, least, fault_if}
+use Rattle.spec_document.specs.Body.{event_at, not_utf8, is_bad, no_event, line_faults, events_at}
 use Rattle.xt_build.specs.declared.fault.Fault.{Fault as Found}
 use Rattle.xt_build.specs.declared.read.Located.{Located}
 use Rattle.xt_build.specs.declared.read.ReadLine.{ReadLine}

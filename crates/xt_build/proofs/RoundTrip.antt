@@ -8,7 +8,13 @@ use Rattle.std.specs.Str.{encode_utf8_all}
 use Rattle.spec_document.specs.declared.event.Event.{Event}
 use Rattle.spec_document.specs.Scope.{Scope}
 use Rattle.spec_document.specs.Forest.{Forest, Plain, plain, IsForestOf, Document, written, lines_of, size, labels, numbered}
-use Rattle.spec_document.specs.Document.{Fault, Lines, answer_of, events_at, texts_of, forest_of, unbalanced_line, made_of, document_by, document_of, not_utf8, no_event, line_faults, elements_at_top, element_faults, text_faults, top_faults, without_texts, node_faults, number_faults}
+use Rattle.spec_document.specs.Fault.{Fault, answer_of}
+use Rattle.spec_document.specs.Body.{events_at, texts_of, not_utf8, no_event, line_faults}
+use Rattle.spec_document.specs.Balance.{LineNumbers, forest_of, unbalanced_line}
+use Rattle.spec_document.specs.Top.{elements_at_top, element_faults, text_faults, top_faults, without_texts}
+use Rattle.spec_document.specs.NodeFaults.{node_faults}
+use Rattle.spec_document.specs.Numbering.{number_faults}
+use Rattle.spec_document.specs.Document.{made_of, document_by, document_of}
 use Rattle.spec_document.proofs.Reading.{computed_is_forest, forest_is_computed}
 use Rattle.spec_document.proofs.Written.{written_forest, plain_itself}
 use Rattle.xt_build.proofs.RoundTripEvents.{AreWritable, all_read_writable, forest_writable, kept_writable}
@@ -29,48 +35,48 @@ answer : {A : Type 0} (faults : List Fault) (otherwise : Result A Fault) → fau
 answer faults otherwise e = ap (λ fs. answer_of fs otherwise) e
 
 -- what is made of a forest, where there is one
-abbrev made_by : {A : Type 0} → (Forest Lines → Result A Fault) → ℕ → Option (Forest Lines) → Result A Fault
+abbrev made_by : {A : Type 0} → (Forest LineNumbers → Result A Fault) → ℕ → Option (Forest LineNumbers) → Result A Fault
 made_by make line None = Err (record { number = 9; line = line })
 made_by make line (Some f) = make f
 
-made_of-made_by : {A : Type 0} (make : Forest Lines → Result A Fault) (events : List (ℕ × Event (List ℕ)))
+made_of-made_by : {A : Type 0} (make : Forest LineNumbers → Result A Fault) (events : List (ℕ × Event (List ℕ)))
     → made_of make events ≡ made_by make (unbalanced_line None [] events) (forest_of events)
 made_of-made_by make events = same (forest_of events)
   where
-    same : (o : Option (Forest Lines))
+    same : (o : Option (Forest LineNumbers))
         → elim o [ None ↦ Err (record { number = 9; line = unbalanced_line None [] events }) | Some forest ↦ make forest ] ≡ made_by make (unbalanced_line None [] events) o
     same None = refl
     same (Some f) = refl
 
-found : {A : Type 0} (make : Forest Lines → Result A Fault) (line : ℕ) (x : A) (o : Option (Forest Lines)) → made_by make line o ≡ Ok x
-    → (f : Forest Lines) × (o ≡ Some f) × (make f ≡ Ok x)
+found : {A : Type 0} (make : Forest LineNumbers → Result A Fault) (line : ℕ) (x : A) (o : Option (Forest LineNumbers)) → made_by make line o ≡ Ok x
+    → (f : Forest LineNumbers) × (o ≡ Some f) × (make f ≡ Ok x)
 found make line x None e = absurd (cc)
 found make line x (Some f) e = (f, refl, e)
 
-made : {A : Type 0} (make : Forest Lines → Result A Fault) (events : List (ℕ × Event (List ℕ))) (x : A) → made_of make events ≡ Ok x
-    → (f : Forest Lines) × (forest_of events ≡ Some f) × (make f ≡ Ok x)
+made : {A : Type 0} (make : Forest LineNumbers → Result A Fault) (events : List (ℕ × Event (List ℕ))) (x : A) → made_of make events ≡ Ok x
+    → (f : Forest LineNumbers) × (forest_of events ≡ Some f) × (make f ≡ Ok x)
 made make events x e = found make (unbalanced_line None [] events) x (forest_of events) (sym (made_of-made_by make events) ∙ e)
 
-make_from : {A : Type 0} (make : Forest Lines → Result A Fault) (events : List (ℕ × Event (List ℕ))) (f : Forest Lines) → forest_of events ≡ Some f → made_of make events ≡ make f
+make_from : {A : Type 0} (make : Forest LineNumbers → Result A Fault) (events : List (ℕ × Event (List ℕ))) (f : Forest LineNumbers) → forest_of events ≡ Some f → made_of make events ≡ make f
 make_from make events f is = made_of-made_by make events ∙ ap (made_by make (unbalanced_line None [] events)) is
 
 -- ---- The same forest elsewhere
 
 -- the lines of the root and of the nodes that have numbers
-abbrev lines_numbered : Forest Lines → List ℕ
+abbrev lines_numbered : Forest LineNumbers → List ℕ
 lines_numbered f = 0 ∷ map (λ l. l.first) (labels (without_texts f))
 
-count_numbered : (f : Forest Lines) → length (lines_numbered f) ≡ 1 + size (without_texts (plain f))
+count_numbered : (f : Forest LineNumbers) → length (lines_numbered f) ≡ 1 + size (without_texts (plain f))
 count_numbered f =
     let same : length (map (λ l. l.first) (labels (without_texts f))) ≡ size (without_texts (plain f))
     = length-map (labels (without_texts f)) (λ l. l.first) ∙ labels_size (without_texts f) ∙ sym (size_plain (without_texts f)) ∙ ap size (plain_kept f) in
     omega (arith, same)
 
 -- the siblings of a document, and siblings that are as these without the texts at the top
-again_kept : (f g : Forest Lines) → plain g ≡ without_texts (plain f) → without_texts (plain g) ≡ without_texts (plain f)
+again_kept : (f g : Forest LineNumbers) → plain g ≡ without_texts (plain f) → without_texts (plain g) ≡ without_texts (plain f)
 again_kept f g e = ap without_texts e ∙ kept_twice (plain f)
 
-top_again : (f g : Forest Lines) → plain g ≡ without_texts (plain f) → top_faults (Some 0) f ≡ [] → top_faults (Some 0) g ≡ []
+top_again : (f g : Forest LineNumbers) → plain g ≡ without_texts (plain f) → top_faults (Some 0) f ≡ [] → top_faults (Some 0) g ≡ []
 top_again f g e n =
     let parts = both_empty (element_faults 0 (elements_at_top f)) (text_faults f) n in
     let count = elements_counted f ∙ sym (kept_elements (plain f)) ∙ sym (elements_counted g ∙ ap top_elements e) in
@@ -78,21 +84,21 @@ top_again f g e n =
     (elements_moved (elements_at_top f) (elements_at_top g) count parts.0)
     (no_text_faults g (subst HasNoText (sym e) (kept_no_text (plain f))))
 
-nodes_again : (scope : Scope) (f g : Forest Lines) → plain g ≡ without_texts (plain f) → node_faults scope 1 f ≡ [] → node_faults scope 1 g ≡ []
+nodes_again : (scope : Scope) (f g : Forest LineNumbers) → plain g ≡ without_texts (plain f) → node_faults scope 1 f ≡ [] → node_faults scope 1 g ≡ []
 nodes_again scope f g e n = nodes_moved (without_texts f) g (plain_kept f ∙ sym e) scope 1 (kept_nodes f scope 1 n)
 
-numbers_again : (first : ℕ) (f g : Forest Lines) → plain g ≡ without_texts (plain f) → number_faults first (lines_numbered f) ≡ [] → number_faults first (lines_numbered g) ≡ []
+numbers_again : (first : ℕ) (f g : Forest LineNumbers) → plain g ≡ without_texts (plain f) → number_faults first (lines_numbered f) ≡ [] → number_faults first (lines_numbered g) ≡ []
 numbers_again first f g e n =
     numbers_moved first (lines_numbered f) (lines_numbered g) (count_numbered f ∙ ap (λ h. 1 + size h) (sym (again_kept f g e)) ∙ sym (count_numbered g)) n
 
 -- the document of a forest, in parts
-pub record Made (scope : Scope) (first : ℕ) (f : Forest Lines) (d : Document ℕ) : Type 0 where
+pub record Made (scope : Scope) (first : ℕ) (f : Forest LineNumbers) (d : Document ℕ) : Type 0 where
   pub top : top_faults (Some 0) f ≡ []
   pub nodes : node_faults scope 1 f ≡ []
   pub numbers : number_faults first (lines_numbered f) ≡ []
   pub is : record { root = first; nodes = numbered (first + 1) (without_texts f) } ≡ d
 
-made_parts : (scope : Scope) (first : ℕ) (f : Forest Lines) (d : Document ℕ) → document_by scope first f ≡ Ok d → Made scope first f d
+made_parts : (scope : Scope) (first : ℕ) (f : Forest LineNumbers) (d : Document ℕ) → document_by scope first f ≡ Ok d → Made scope first f d
 made_parts scope first f d e =
     let result : Document ℕ = record { root = first; nodes = numbered (first + 1) (without_texts f) } in
     let all = answered (top_faults (Some 0) f ++ node_faults scope 1 f ++ number_faults first (lines_numbered f)) (Ok result) d e in
@@ -100,7 +106,7 @@ made_parts scope first f d e =
     let front = both_empty (top_faults (Some 0) f) (node_faults scope 1 f) parts.0 in
     record { top = front.0; nodes = front.1; numbers = parts.1; is = ok_same result d all.1 }
 
-document_again : (scope : Scope) (first : ℕ) (f g : Forest Lines) (d : Document ℕ) → plain g ≡ without_texts (plain f) → Made scope first f d → document_by scope first g ≡ Ok d
+document_again : (scope : Scope) (first : ℕ) (f g : Forest LineNumbers) (d : Document ℕ) → plain g ≡ without_texts (plain f) → Made scope first f d → document_by scope first g ≡ Ok d
 document_again scope first f g d e m =
     let faults = empty_both (top_faults (Some 0) g ++ node_faults scope 1 g) (number_faults first (lines_numbered g))
     (empty_both (top_faults (Some 0) g) (node_faults scope 1 g) (top_again f g e m.top) (nodes_again scope f g e m.nodes)) (numbers_again first f g e m.numbers) in
@@ -111,13 +117,13 @@ document_again scope first f g d e m =
 -- ---- The lines
 
 -- the events that are written for the siblings of a document
-written_again : (first : ℕ) (f : Forest Lines) → written (numbered (first + 1) (without_texts f)) ≡ written (without_texts (plain f))
+written_again : (first : ℕ) (f : Forest LineNumbers) → written (numbered (first + 1) (without_texts f)) ≡ written (without_texts (plain f))
 written_again first f =
     sym (written_plain (numbered (first + 1) (without_texts f))) ∙ ap written (plain_numbered (first + 1) (without_texts f) ∙ plain_kept f)
 
 -- the lines of events that are a forest's make that forest
 lines_again : (scope : Scope) (first : ℕ) (events : List (Event (List ℕ))) (f : Plain) (d : Document ℕ) → AreWritable events → IsForestOf events f
-    → ((g : Forest Lines) → plain g ≡ f → document_by scope first g ≡ Ok d) → document_of scope first (encoded events) ≡ Ok d
+    → ((g : Forest LineNumbers) → plain g ≡ f → document_by scope first g ≡ Ok d) → document_of scope first (encoded events) ≡ Ok d
 lines_again scope first events f d w forest then =
     let body = encoded events in
     let read : map (λ e. e.1) (events_at body) ≡ events = encoded_events 1 events w in
@@ -125,7 +131,7 @@ lines_again scope first events f d w forest then =
     let none : line_faults body ≡ [] = empty_both (not_utf8 (enumerate_from 1 body)) (no_event (texts_of body)) (encoded_utf8 1 events w) (encoded_good 1 events w) in
     answer (line_faults body) (made_of (document_by scope first) (events_at body)) none ∙ found (forest_of (events_at body)) refl is
   where
-    found : (o : Option (Forest Lines)) → forest_of (events_at (encoded events)) ≡ o → option_map plain o ≡ Some f
+    found : (o : Option (Forest LineNumbers)) → forest_of (events_at (encoded events)) ≡ o → option_map plain o ≡ Some f
         → made_of (document_by scope first) (events_at (encoded events)) ≡ Ok d
     found None is e = absurd (cc)
     found (Some g) is e =

@@ -10,7 +10,8 @@ use Rattle.spec_document.specs.declared.event.Event.TheVariants.{Start, Attribut
 use Rattle.spec_document.specs.Character.{is_char}
 use Rattle.spec_document.specs.Pyx.{Line, unescape, unescaped, behind_backslash, is_blank, event_of, event_behind, IsWritable}
 use Rattle.spec_document.specs.Forest.{Element, Text, Comment, Instruction, Empty, Node, Plain, with_text, attribute_event, IsForestOf, is_empty, is_element, is_text, is_comment, is_instruction, written}
-use Rattle.spec_document.specs.Document.{event_at, without_texts}
+use Rattle.spec_document.specs.Body.{event_at}
+use Rattle.spec_document.specs.Top.{without_texts}
 
 -- all can be written
 abbrev pub AreWritable : List (Event (List ℕ)) → Type 0

@@ -3,7 +3,7 @@ use Rattle.std.proofs.Common.{◌≡◌, ◌≢◌, ℕ, ◌+◌, List, [], ◌�
 use Rattle.spec_document.specs.declared.event.Event.{Event}
 use Rattle.spec_document.specs.declared.event.Event.TheVariants.{Start, End, Data, Instruction as InstructionEvent, Comment as CommentEvent}
 use Rattle.spec_document.specs.Forest.{Element, Text, Comment, Instruction, Forest, Empty, Node, Plain, plain, with_text, attribute_event, IsForestOf, is_empty, is_element, is_text, is_comment, is_instruction, IsNormal, written, size, labels, numbered}
-use Rattle.spec_document.specs.Document.{without_texts}
+use Rattle.spec_document.specs.Top.{without_texts}
 
 -- ---- Normal forests
 

@@ -9,7 +9,8 @@ use Rattle.std.proofs.lemmas.Str.{chars-encodes, is_utf8-from_IsUtf8}
 use Rattle.spec_document.specs.declared.event.Event.{Event}
 use Rattle.spec_document.specs.Character.{is_char}
 use Rattle.spec_document.specs.Pyx.{Line, event_of, event_behind, line_of, IsWritable}
-use Rattle.spec_document.specs.Document.{event_at, is_bad, fault_if, not_utf8, no_event}
+use Rattle.spec_document.specs.Fault.{fault_if}
+use Rattle.spec_document.specs.Body.{event_at, is_bad, not_utf8, no_event}
 use Rattle.spec_document.proofs.Lines.{event_of-line_of}
 use Rattle.xt_build.proofs.RoundTripEvents.{AreWritable}
 

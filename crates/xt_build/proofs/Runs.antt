@@ -4,12 +4,12 @@ use Rattle.std.specs.Option.{option_and_then}
 use Rattle.spec_document.specs.declared.event.Event.{Event}
 use Rattle.spec_document.specs.declared.event.Event.TheVariants.{Start, Attribute, Data, Instruction as InstructionEvent, End, Comment as CommentEvent}
 use Rattle.spec_document.specs.Forest.{Written, Element, Text, Comment, Instruction, Forest, Empty, Node, joined, IsNoText}
-use Rattle.spec_document.specs.Document.{Lines, Rest, with_event, rest_of, forest_of, closed, alone}
+use Rattle.spec_document.specs.Balance.{LineNumbers, Rest, with_event, rest_of, forest_of, closed, alone}
 use Rattle.xt_build.specs.Piece.{Piece, open_in, forest_in, first_of, IsWhole}
 use Rattle.xt_build.specs.Front.{attributes_first, data_first, text_first, with_data, text_pieces, pieces_first, events_first}
 use Rattle.xt_build.proofs.Fronts.{stack, Stands, Fronted, AttributesAre, attributes-are, NoTextFirst, no_text-behind, drop-more, start-option, attribute-option, instruction-option, comment-option, end-option}
 
-joined-joined : (line : ℕ) (t : List ℕ) (g : ℕ × List ℕ) (s : Forest Lines) → IsNoText s
+joined-joined : (line : ℕ) (t : List ℕ) (g : ℕ × List ℕ) (s : Forest LineNumbers) → IsNoText s
     → joined (alone line) t (joined (alone g.0) g.1 s) ≡ joined (alone (with_data line t g).0) (with_data line t g).1 s
 joined-joined line [] g s h = refl
 joined-joined line (c ∷ cs) (l, []) s h = ap (λ t. joined (alone line) t s) (sym (append-nil (c ∷ cs)))
@@ -25,7 +25,7 @@ Texted None text behind = Unit {0}
 Texted (Some r) text None = ⊥
 Texted (Some r) text (Some b) = (r.attributes ≡ b.attributes) × (r.siblings ≡ joined (alone text.0) text.1 b.siblings) × (r.behind ≡ b.behind)
 
-unless-texted : (line : ℕ) (t : List ℕ) (own : List (ℕ × Written)) (s : Forest Lines) (h : List (List ℕ × Forest Lines)) (g : ℕ × List ℕ) (b : Rest)
+unless-texted : (line : ℕ) (t : List ℕ) (own : List (ℕ × Written)) (s : Forest LineNumbers) (h : List (List ℕ × Forest LineNumbers)) (g : ℕ × List ℕ) (b : Rest)
     → NoTextFirst (Some b) → Texted (Some (record { attributes = own; siblings = s; behind = h })) g (Some b)
     → Texted (with_event line (Data t) (record { attributes = own; siblings = s; behind = h })) (with_data line t g) (Some b)
 unless-texted line t [] s h g b clear e = (e.0, ap (joined (alone line) t) e.1 ∙ joined-joined line t g b.siblings (clear (sym e.0)), e.2)
@@ -52,7 +52,7 @@ data-texted ((line, InstructionEvent target text) ∷ es) = texted-none (rest_of
 data-texted ((line, End name) ∷ es) = texted-none (rest_of ((line, End name) ∷ es)) 0
 data-texted ((line, CommentEvent text) ∷ es) = texted-none (rest_of ((line, CommentEvent text) ∷ es)) 0
 
-joined-node : (line c : ℕ) (cs : List ℕ) (s : Forest Lines) → IsNoText s → joined (alone line) (c ∷ cs) s ≡ Node (alone line) (Text (c ∷ cs)) Empty s
+joined-node : (line c : ℕ) (cs : List ℕ) (s : Forest LineNumbers) → IsNoText s → joined (alone line) (c ∷ cs) s ≡ Node (alone line) (Text (c ∷ cs)) Empty s
 joined-node line c cs Empty h = refl
 joined-node line c cs (Node k (Element n a) f s) h = refl
 joined-node line c cs (Node k (Text t) f s) h = absurd h
@@ -114,25 +114,25 @@ first-some ((line, CommentEvent text) ∷ es) h = omega arith
 some-same : {X : Type 0} (x y : X) → Option.Some x ≡ Some y → x ≡ y
 some-same x y e = ap (λ o. elim o [ None ↦ x | Some z ↦ z ]) e
 
-closed-is : (own : List (ℕ × Written)) (s : Forest Lines) (b : List (List ℕ × Forest Lines)) (f : Forest Lines) → closed own s b ≡ Some f → (s ≡ f) × (b ≡ [])
+closed-is : (own : List (ℕ × Written)) (s : Forest LineNumbers) (b : List (List ℕ × Forest LineNumbers)) (f : Forest LineNumbers) → closed own s b ≡ Some f → (s ≡ f) × (b ≡ [])
 closed-is [] s [] f e = (some-same s f e, refl)
 closed-is [] s (x ∷ b) f e = absurd (cc)
 closed-is (a ∷ own) s [] f e = absurd (cc)
 closed-is (a ∷ own) s (x ∷ b) f e = absurd (cc)
 
-stands-whole : (ps : List Piece) (w : Rest) (f : Forest Lines) → Stands (rest_of []) ps w → closed w.attributes w.siblings w.behind ≡ Some f
+stands-whole : (ps : List Piece) (w : Rest) (f : Forest LineNumbers) → Stands (rest_of []) ps w → closed w.attributes w.siblings w.behind ≡ Some f
     → IsWhole ps × (forest_in ps ≡ f)
 stands-whole ps w f h e =
     let is = closed-is w.attributes w.siblings w.behind f e in
     let alone : open_in ps ≡ f ∷ [] = h.0 ∙ (λ i. is.0 i ∷ map (λ b. b.1) (is.1 i)) in
     ((ap length alone, h.1), ap first_of alone)
 
-option-whole : (ps : List Piece) (o : Option Rest) (f : Forest Lines) → ((w : Rest) → o ≡ Some w → Stands (rest_of []) ps w)
+option-whole : (ps : List Piece) (o : Option Rest) (f : Forest LineNumbers) → ((w : Rest) → o ≡ Some w → Stands (rest_of []) ps w)
     → option_and_then (λ rest. closed rest.attributes rest.siblings rest.behind) o ≡ Some f → IsWhole ps × (forest_in ps ≡ f)
 option-whole ps None f h e = absurd (cc)
 option-whole ps (Some w) f h e = stands-whole ps w f (h w refl) e
 
-pub pieces-whole : (ps : List Piece) (es : List (ℕ × Event (List ℕ))) (f : Forest Lines) → ((w : Rest) → rest_of es ≡ Some w → Stands (rest_of []) ps w)
+pub pieces-whole : (ps : List Piece) (es : List (ℕ × Event (List ℕ))) (f : Forest LineNumbers) → ((w : Rest) → rest_of es ≡ Some w → Stands (rest_of []) ps w)
     → forest_of es ≡ Some f → IsWhole ps × (forest_in ps ≡ f)
 pieces-whole ps es f h e = option-whole ps (rest_of es) f h e
 

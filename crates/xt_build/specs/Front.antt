@@ -4,7 +4,7 @@ use Rattle.std.specs.Prelude.{ℕ, ◌+◌, List, [], ◌∷◌, ◌++◌, map}
 use Rattle.spec_document.specs.declared.event.Event.{Event}
 use Rattle.spec_document.specs.declared.event.Event.TheVariants.{Start, Attribute, Data, Instruction as InstructionEvent, End, Comment as CommentEvent}
 use Rattle.spec_document.specs.Forest.{Written, Element, Text, Comment, Instruction}
-use Rattle.spec_document.specs.Document.{alone}
+use Rattle.spec_document.specs.Balance.{alone}
 use Rattle.xt_build.specs.Piece.{Piece, Begins, Ends}
 
 -- the attributes, each with its line

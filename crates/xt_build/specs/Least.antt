@@ -1,6 +1,6 @@
 -- The fault that is answered, found piece by piece.
 use Rattle.std.specs.Prelude.{Option, None, Some}
-use Rattle.spec_document.specs.Document.{Fault, lesser}
+use Rattle.spec_document.specs.Fault.{Fault, lesser}
 
 -- the one of two findings that is answered
 abbrev pub merged : Option Fault → Option Fault → Option Fault

@@ -6,7 +6,7 @@ use Rattle.spec_document.specs.Scope.{Scope}
 use Rattle.spec_document.specs.Name.{Expanded}
 use Rattle.spec_document.specs.Forest.{Written}
 use Rattle.spec_document.specs.Declaration.{use_of}
-use Rattle.spec_document.specs.Document.{expanded_by}
+use Rattle.spec_document.specs.NodeFaults.{expanded_by}
 
 -- the innermost first, where the last of a stack is the innermost
 abbrev pub scopes_in : List (Rc Scope Global) → List Scope

@@ -6,7 +6,10 @@ use Rattle.std.specs.declared.alloc.Global.{Global}
 use Rattle.std.specs.Option.{option_map}
 use Rattle.spec_document.specs.declared.event.Event.{Event}
 use Rattle.spec_document.specs.Pyx.{event_of}
-use Rattle.spec_document.specs.Document.{Fault, least, line_faults, events_at, is_bad, forest_of, answer_of, made_of}
+use Rattle.spec_document.specs.Fault.{Fault, least, answer_of}
+use Rattle.spec_document.specs.Body.{line_faults, events_at, is_bad}
+use Rattle.spec_document.specs.Balance.{forest_of}
+use Rattle.spec_document.specs.Document.{made_of}
 use Rattle.xt_text.specs.declared.memory.Memory.{Memory}
 use Rattle.xt_base.specs.Code.{edit_number}
 use Rattle.xt_build.specs.declared.fault.BuildFault.{BuildFault}

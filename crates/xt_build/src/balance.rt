@@ -1,8 +1,8 @@
 // Whether events are balanced.
 ghost use Rattle.std.specs.Prelude.{◌≡◌, [], map, reverse, None, IfOk, MatchOption, is_some, true};
 ghost use Rattle.std.specs.Option.{option_map};
-ghost use Rattle.spec_document.specs.Document.{forest_of, unbalanced_line};
-ghost use Rattle.spec_document.specs.Document as spec;
+ghost use Rattle.spec_document.specs.Balance.{forest_of, unbalanced_line};
+ghost use Rattle.spec_document.specs.Balance as spec;
 ghost use Rattle.xt_build.specs.View.{located_of};
 
 use crate::read::Located;

@@ -1,6 +1,6 @@
 // Why lines make no document.
 ghost use Rattle.std.specs.Prelude.{◌≡◌, ◌||◌, ◌&&◌, ◌==◌, nat_lt, Some};
-ghost use Rattle.spec_document.specs.Document.{comes_first, fault_if, least};
+ghost use Rattle.spec_document.specs.Fault.{comes_first, fault_if, least};
 ghost use Rattle.xt_base.specs.Code.{edit_number};
 ghost use Rattle.xt_build.specs.Least.{merged};
 ghost use Rattle.xt_build.specs.View.{fault_of, found_of};

@@ -18,9 +18,6 @@ mod names;
 mod numbers;
 mod piece;
 mod read;
-mod seen;
-#[cfg(test)]
-mod tests;
 mod top;
 mod write;
 

@@ -1,7 +1,7 @@
 // From pieces to nodes.
 ghost use Rattle.std.specs.Prelude.{◌≡◌, ◌+◌, ◌<◌, ◌^◌, IfOk};
 ghost use Rattle.spec_document.specs.Forest.{numbered, size};
-ghost use Rattle.spec_document.specs.Document.{kept};
+ghost use Rattle.spec_document.specs.Top.{kept};
 ghost use Rattle.xt_build.specs.Piece.{forest_in, IsWhole};
 ghost use Rattle.xt_build.specs.View.{pieces_of};
 ghost use Rattle.xt_tree.specs.View.{tree_of, content_of};

@@ -1,7 +1,9 @@
 // The numbers of nodes, which are below 2^62.
 ghost use Rattle.std.specs.Prelude.{◌≡◌, ◌==◌, ◌&&◌, ◌∷◌, [], map, is_some};
 ghost use Rattle.spec_document.specs.Forest.{labels};
-ghost use Rattle.spec_document.specs.Document.{least, number_faults, kept};
+ghost use Rattle.spec_document.specs.Fault.{least};
+ghost use Rattle.spec_document.specs.Top.{kept};
+ghost use Rattle.spec_document.specs.Numbering.{number_faults};
 ghost use Rattle.xt_build.specs.Least.{merged};
 ghost use Rattle.xt_build.specs.Left.{is_text};
 ghost use Rattle.xt_build.specs.Piece.{forest_in, IsWhole};

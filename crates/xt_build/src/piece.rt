@@ -1,7 +1,7 @@
 // A forest as one list of its pieces, which is gone through with a stack however deep the forest is.
 ghost use Rattle.std.specs.Prelude.{◌≡◌, ◌++◌, ◌<◌, length, map, Some, IfOk, OnOk};
 ghost use Rattle.spec_document.specs.Forest.{Forest, Element};
-ghost use Rattle.spec_document.specs.Document.{Lines, forest_of, alone};
+ghost use Rattle.spec_document.specs.Balance.{LineNumbers, forest_of, alone};
 ghost use Rattle.xt_tree.specs.View.{content_of, written_of};
 ghost use Rattle.xt_build.specs.Piece as spec;
 ghost use Rattle.xt_build.specs.Front.{attributes_first, data_first, text_first, text_pieces, pieces_first, events_first};
@@ -30,7 +30,7 @@ pub(crate) enum Piece {
 /// The pieces of balanced events: attributes stand at their element, adjacent data is one text, and empty
 /// data none.
 pub(crate) fn pieces(alloc: Global, events: &[Located]) -> Result<Vec<Piece>, Memory>
-    ensures { IfOk result (λ pieces. (f : Forest Lines) → forest_of (map located_of events.now) ≡ Some f
+    ensures { IfOk result (λ pieces. (f : Forest LineNumbers) → forest_of (map located_of events.now) ≡ Some f
         → spec.IsWhole (pieces_of pieces.items) × (spec.forest_in (pieces_of pieces.items) ≡ f)) }
 {
     let mut pieces = Vec::new(alloc);

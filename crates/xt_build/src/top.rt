@@ -2,7 +2,8 @@
 ghost use Rattle.std.specs.Prelude.{◌≡◌, not, IfOk, OnOk};
 ghost use Rattle.std.specs.List.{list_all};
 ghost use Rattle.spec_document.specs.Character.{is_space};
-ghost use Rattle.spec_document.specs.Document.{least, top_faults, elements_at_top, element_faults, text_faults, fault_if};
+ghost use Rattle.spec_document.specs.Fault.{least, fault_if};
+ghost use Rattle.spec_document.specs.Top.{top_faults, elements_at_top, element_faults, text_faults};
 ghost use Rattle.xt_build.specs.Least.{merged};
 ghost use Rattle.xt_build.specs.Piece.{forest_in, IsWhole};
 ghost use Rattle.xt_build.specs.View.{found_of, pieces_of};
@@ -12,8 +13,7 @@ use crate::fault::keep_if;
 use crate::piece::Piece;
 use std::alloc::Global;
 use xt_base::EditCode;
-use xt_names::is_space;
-use xt_text::{Memory, Text};
+use xt_text::{Memory, Text, is_space};
 use xt_tree::Content;
 
 /// Finds the faults of siblings under a root that has so many elements besides; below an element, where

@@ -3,8 +3,7 @@ use Rattle.std.proofs.Common.{◌≡◌, ℕ, ◌+◌, ◌<◌, ◌≤◌, Bool,
 use Rattle.std.proofs.lemmas.List.{take_all, take-take, take-append-le, length-take-le, length-take}
 use Rattle.std.proofs.lemmas.Bool.Decides.{nat_tests}
 use Rattle.std.specs.Str.Lines.{strip_carriage_return}
-use Rattle.spec_session.specs.Command.{head_of}
-use Rattle.spec_session.specs.Lines.{Reader, HasNoNewline, GivesLine, IsFinished, IsOver, TakesUpTo}
+use Rattle.spec_lines.specs.Lines.{head_of, Reader, HasNoNewline, GivesLine, IsFinished, IsOver, TakesUpTo}
 use Rattle.xt_io.specs.declared.held.Held.{Held}
 use Rattle.xt_io.specs.Held.{kept, reader_of, IsStill, FillsMore, FillsEnd, FillsOver}
 use Rattle.xt_io.specs.Steps.{Reads, EndsLine, SkipsEnded, SkipsAll}

@@ -6,7 +6,7 @@ use Rattle.std.proofs.lemmas.List.Folds.{list_any-append}
 use Rattle.std.proofs.lemmas.List.{append_assoc, take_all, take-take, length-take-le}
 use Rattle.std.proofs.lemmas.Bool.{ltb-true}
 use Rattle.std.proofs.lemmas.Bool.Decides.{nat_tests}
-use Rattle.spec_session.specs.Lines.{HasNoNewline, is_newline}
+use Rattle.spec_lines.specs.Lines.{HasNoNewline, is_newline}
 use Rattle.xt_io.specs.Steps.{IsNewlineAt, EndsLine, SkipsEnded, SkipsAll}
 
 none_or : (a b : Bool) → IsTrue (not a) → IsTrue (not b) → IsTrue (not (a || b))

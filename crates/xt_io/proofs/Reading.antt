@@ -4,8 +4,8 @@ use Rattle.std.specs.Option.{option_map}
 use Rattle.std.specs.Str.Lines.{strip_carriage_return}
 use Rattle.std.proofs.lemmas.List.{append_assoc, take_at, take-append-drop, take-append-le}
 use Rattle.std.specs.Prelude.{Result, Ok, Err, IfOk, OnOk}
-use Rattle.spec_session.specs.Outside.{Takes}
-use Rattle.spec_session.specs.Lines.{Reader, BeginsWith, BeginsWithEnded, ahead, allowance, HasNoNewline, GivesLine, IsFinished, IsOver, IsKept, TakesUpTo}
+use Rattle.spec_lines.specs.Outside.{Takes}
+use Rattle.spec_lines.specs.Lines.{Reader, BeginsWith, BeginsWithEnded, ahead, allowance, HasNoNewline, GivesLine, IsFinished, IsOver, IsKept, TakesUpTo}
 use Rattle.xt_io.specs.Steps.{Reads, TakesNoNewline}
 use Rattle.xt_io.proofs.Newlines.{HasNoNewline-append}
 

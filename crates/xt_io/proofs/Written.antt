@@ -2,7 +2,7 @@
 use Rattle.std.proofs.Common.{◌≡◌, ℕ, ◌+◌, List, [], ◌++◌, take, drop, length, ◌-◌, ◌≤◌, Option, Some, None, refl, sym, ◌∙◌, ap, subst, arith, append-nil, length-drop}
 use Rattle.std.proofs.lemmas.List.{append_assoc, take_rest}
 use Rattle.std.proofs.Math.Seq.{take-add}
-use Rattle.spec_session.specs.Outside.{Appends}
+use Rattle.spec_lines.specs.Outside.{Appends}
 
 pub Appends-nothing : (written : Option (List ℕ)) → Appends written written []
 Appends-nothing None = tt

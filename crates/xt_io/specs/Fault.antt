@@ -1,6 +1,6 @@
 -- What a fault of a reader of lines says of its source.
 use Rattle.std.specs.Prelude.{ℕ, ◌≡◌, Result, Ok, Err}
-use Rattle.spec_session.specs.Outside.{HasRisen}
+use Rattle.spec_lines.specs.Outside.{HasRisen}
 use Rattle.xt_io.specs.declared.fault.LineFault.{LineFault}
 use Rattle.xt_io.specs.declared.fault.LineFault.TheVariants as line
 use Rattle.xt_io.specs.declared.fault.SkipFault.{SkipFault}

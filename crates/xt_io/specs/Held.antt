@@ -1,6 +1,6 @@
 -- What a reader of lines holds.
 use Rattle.std.specs.Prelude.{ℕ, ◌≡◌, ◌+◌, ◌<◌, List, [], ◌++◌, length, true, false, Option, IfSome, IsSomeAnd}
-use Rattle.spec_session.specs.Lines.{Reader}
+use Rattle.spec_lines.specs.Lines.{Reader}
 use Rattle.xt_io.specs.declared.held.Held.{Held}
 use Rattle.xt_io.specs.declared.held.Filled.{Filled}
 use Rattle.xt_io.specs.declared.held.Filled.TheVariants.{More, End, Over}

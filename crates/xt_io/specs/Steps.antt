@@ -1,7 +1,7 @@
 -- The steps of a reader of lines.
 use Rattle.std.specs.Prelude.{ℕ, ◌≡◌, ◌+◌, ◌<◌, List, [], ◌∷◌, ◌++◌, length, take, drop, Option, None, IfSome, IsSomeAnd, MatchOption}
 use Rattle.std.specs.Str.Lines.{strip_carriage_return}
-use Rattle.spec_session.specs.Lines.{HasNoNewline, Reader}
+use Rattle.spec_lines.specs.Lines.{HasNoNewline, Reader}
 
 -- these bytes were read from what was left, where the source tells it
 abbrev pub Reads : Option (List ℕ) → List ℕ → Option (List ℕ) → Type 0

@@ -1,6 +1,6 @@
 // Bytes read and not yet used.
 ghost use Rattle.std.specs.Prelude.{◌≡◌, ◌<◌, ◌≤◌, [], length, take, drop, IfOk, OnOk, OnErr};
-ghost use Rattle.spec_session.specs.Outside.{IsAtEnd, HasCause};
+ghost use Rattle.spec_lines.specs.Outside.{IsAtEnd, HasCause};
 ghost use Rattle.xt_io.specs.Steps.{Reads};
 
 use crate::{Failed, Source};

@@ -1,7 +1,7 @@
 // What a reader of lines holds, and the steps that it takes.
 ghost use Rattle.std.specs.Prelude.{◌≡◌, ◌<◌, [], ◌++◌, length, take, true, false, IfOk, OnErr, MatchOption, MatchBool};
-ghost use Rattle.spec_session.specs.Lines.{HasNoNewline};
-ghost use Rattle.spec_session.specs.Outside.{HasCause};
+ghost use Rattle.spec_lines.specs.Lines.{HasNoNewline};
+ghost use Rattle.spec_lines.specs.Outside.{HasCause};
 ghost use Rattle.xt_io.specs.Steps.{IsNewlineAt, EndsLine, SkipsEnded, SkipsAll};
 
 use crate::buffer::{Buffer, ROOM};

@@ -1,8 +1,7 @@
 // The lines of a source.
 ghost use Rattle.std.specs.Prelude.{◌≡◌, ℕ, List, [], ◌++◌, ⊤, true, false, IfOk, IfErr, IfNone, IfSome, MatchOption, MatchResult, IsErrOf};
-ghost use Rattle.spec_session.specs.Command.{head_of};
-ghost use Rattle.spec_session.specs.Lines.{Reader, GivesLine, IsFinished, IsKept, IsOver, TakesUpTo, HasNoNewline};
-ghost use Rattle.spec_session.specs.Outside.{HasRisen};
+ghost use Rattle.spec_lines.specs.Lines.{head_of, Reader, GivesLine, IsFinished, IsKept, IsOver, TakesUpTo, HasNoNewline};
+ghost use Rattle.spec_lines.specs.Outside.{HasRisen};
 ghost use Rattle.xt_io.specs.Fault.{HasLineCause, HasSkipCause, line_extra, skip_extra};
 ghost use Rattle.xt_io.specs.Steps.{TakesNoNewline};
 
@@ -24,7 +23,7 @@ pub struct Lines {
 }
 
 impl Model for Lines {
-    ghost use Rattle.spec_session.specs.Lines.{Reader};
+    ghost use Rattle.spec_lines.specs.Lines.{Reader};
 
     ghost Value = { Reader };
 

@@ -1,6 +1,6 @@
 // Sinks over memory.
 ghost use Rattle.std.specs.Prelude.{◌≡◌, ◌↔◌, ◌⊎◌, ◌<◌, ◌+◌, [], Some, None, length, IfOk, OnOk, OnErr, IsOk, IsErr, Contains, MatchOption};
-ghost use Rattle.spec_session.specs.Outside.{HasRisen};
+ghost use Rattle.spec_lines.specs.Outside.{HasRisen};
 ghost use Rattle.xt_io.specs.Memory.{MemorySink, MemoryTold, called, after_write, told_after};
 
 use crate::fault::Failed;

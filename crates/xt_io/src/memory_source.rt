@@ -1,6 +1,6 @@
 // Sources over memory.
 ghost use Rattle.std.specs.Prelude.{◌≡◌, ◌↔◌, ◌<◌, Some, [], length, min, take, drop, IfOk, OnErr, IsOk, IsErr, Contains};
-ghost use Rattle.spec_session.specs.Outside.{HasRisen};
+ghost use Rattle.spec_lines.specs.Outside.{HasRisen};
 ghost use Rattle.xt_io.specs.Memory.{MemorySource, called, after_read};
 
 use crate::fault::Failed;

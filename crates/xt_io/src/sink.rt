@@ -1,6 +1,6 @@
 // Where bytes go.
 ghost use Rattle.std.specs.Prelude.{◌≡◌, ◌<◌, ◌≤◌, ℕ, List, [], Option, length, take, IfOk, OnOk, OnErr};
-ghost use Rattle.spec_session.specs.Outside.{Appends, HasCause};
+ghost use Rattle.spec_lines.specs.Outside.{Appends, HasCause};
 
 use crate::Failed;
 

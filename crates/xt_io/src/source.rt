@@ -1,6 +1,6 @@
 // Where bytes come from.
 ghost use Rattle.std.specs.Prelude.{◌≡◌, ◌<◌, ◌≤◌, ℕ, List, Option, None, length, IfOk, OnOk, OnErr};
-ghost use Rattle.spec_session.specs.Outside.{Takes, IsAtEnd, HasCause};
+ghost use Rattle.spec_lines.specs.Outside.{Takes, IsAtEnd, HasCause};
 
 use crate::Failed;
 

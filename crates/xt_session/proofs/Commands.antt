@@ -3,8 +3,8 @@ use Rattle.std.proofs.Common.{◌≡◌, ℕ, ◌+◌, ◌≤◌, Bool, true, fa
 use Rattle.std.specs.Prelude.{IfSome, IsSomeAnd}
 use Rattle.spec_session.specs.declared.kinds.LineKind.TheVariants.{Empty, Quit as QuitLine, WithBody, Alone}
 use Rattle.spec_session.specs.declared.kinds.Ending.TheVariants.{Finished, Unfinished}
-use Rattle.spec_session.specs.Lines.{Reader, GivesLine, IsFinished, IsOver, TakesUpTo}
-use Rattle.spec_session.specs.Command.{Command, session_of, session_with, kind_of, head_of, is_end}
+use Rattle.spec_lines.specs.Lines.{Reader, GivesLine, IsFinished, IsOver, TakesUpTo, head_of}
+use Rattle.spec_session.specs.Command.{Command, session_of, session_with, kind_of, is_end}
 use Rattle.spec_session.specs.declared.kinds.LineKind.{LineKind}
 use Rattle.xt_session.specs.declared.command.Taken.{Taken}
 use Rattle.xt_session.specs.declared.command.Taken.TheVariants.{Command as Whole, Skipped, Stopped, Failed}

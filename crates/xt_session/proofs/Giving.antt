@@ -2,8 +2,8 @@
 use Rattle.std.proofs.Common.{◌≡◌, ℕ, suc, ◌+◌, ◌≤◌, false, List, [], ◌∷◌, ◌++◌, length, Option, None, Some, refl, sym, ◌∙◌, ap, subst, arith, append_assoc, length-append, inl, inr}
 use Rattle.std.specs.Prelude.{nat_lt, IfSome, IsSomeAnd}
 use Rattle.std.proofs.lemmas.Bool.Decides.{nat_tests}
-use Rattle.spec_session.specs.Lines.{ended_lines, lines_within, BeginsWith, BeginsWithEnded, Reader, ahead, allowance, GivesLine, IsKept}
-use Rattle.spec_session.proofs.Reading.{ended_lines-ended, lines_within-ended, lines_within-last, lines_within-nil}
+use Rattle.spec_lines.specs.Lines.{ended_lines, lines_within, BeginsWith, BeginsWithEnded, Reader, ahead, allowance, GivesLine, IsKept}
+use Rattle.spec_lines.proofs.Reading.{ended_lines-ended, lines_within-ended, lines_within-last, lines_within-nil}
 use Rattle.xt_session.specs.Progress.{AreBehind, GivesLines}
 
 -- what is told of what is ahead before and after

@@ -1,7 +1,7 @@
 -- What a reader meets where the next line is.
 use Rattle.std.proofs.Common.{◌≡◌, ℕ, ◌+◌, ◌<◌, false, List, [], ◌++◌, length, take, Option, None, Some, refl, sym, ◌∙◌, subst, arith, append-nil}
 use Rattle.std.specs.Prelude.{IfSome, IsSomeAnd}
-use Rattle.spec_session.specs.Lines.{Reader, ahead, allowance, HasNoNewline, BeginsWith, BeginsWithEnded, GivesLine, IsFinished, IsOver, IsKept, TakesUpTo}
+use Rattle.spec_lines.specs.Lines.{Reader, ahead, allowance, HasNoNewline, BeginsWith, BeginsWithEnded, GivesLine, IsFinished, IsOver, IsKept, TakesUpTo}
 use Rattle.spec_session.specs.Command.{Session}
 use Rattle.xt_session.specs.declared.meet.Met.{Met}
 use Rattle.xt_session.specs.declared.meet.Met.TheVariants.{Line, Head, End, Over, Failed as LineFailed}

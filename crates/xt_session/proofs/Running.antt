@@ -5,12 +5,12 @@ use Rattle.std.specs.List.{flat_map}
 use Rattle.std.specs.Option.{option_map}
 use Rattle.std.proofs.lemmas.List.Concat.{flat_map-append}
 use Rattle.std.proofs.lemmas.List.{take-append-drop}
-use Rattle.spec_session.specs.Lines.{lines_within, ended_lines, Reader, ahead, allowance, HasNoNewline}
+use Rattle.spec_lines.specs.Lines.{lines_within, ended_lines, Reader, ahead, allowance, HasNoNewline}
 use Rattle.spec_session.specs.Command.{Command, Session, session_of, after, status_of}
 use Rattle.spec_session.specs.Reply.{Reply, No, reply_bytes}
 use Rattle.spec_session.specs.Machine.{Documents, no_documents, Request, SetSource, SetMain, Show, Other, request_of, Answers, Step, Run}
 use Rattle.spec_session.specs.Served.{IsServed, IsCutShort, IsPrefixOfReplies, session_within}
-use Rattle.spec_session.proofs.Reading.{ended_lines-none}
+use Rattle.spec_lines.proofs.Reading.{ended_lines-none}
 use Rattle.xt_session.specs.Progress.{AreBehind, GivesLines, GivesCommand, IsDone, IsCut, HasCome, in_front, reader_at_start}
 use Rattle.xt_session.proofs.Giving.{then_given, none_given, kept_by_itself}
 

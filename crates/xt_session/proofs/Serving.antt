@@ -1,10 +1,10 @@
 -- A session as it is served, turn after turn.
 use Rattle.std.proofs.Common.{◌≡◌, ℕ, ◌+◌, ◌≤◌, List, [], ◌++◌, length, take, Option, None, Some, refl, sym, ◌∙◌, ap, subst, arith, append_assoc, append-nil}
 use Rattle.std.specs.Prelude.{IfSome, IsSomeAnd}
-use Rattle.spec_session.specs.Lines.{Reader, TakesUpTo}
+use Rattle.spec_lines.specs.Lines.{Reader, TakesUpTo}
 use Rattle.spec_session.specs.Command.{Command, session_of}
 use Rattle.spec_session.specs.Machine.{Documents, no_documents}
-use Rattle.spec_session.specs.Outside.{Appends}
+use Rattle.spec_lines.specs.Outside.{Appends}
 use Rattle.spec_session.specs.Reply.{No}
 use Rattle.spec_session.specs.Served.{IsCutShort, IsPrefixOfReplies, TakesAtMost, Serves}
 use Rattle.xt_session.specs.declared.reply.Reply.{Reply}

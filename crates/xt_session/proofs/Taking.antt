@@ -4,10 +4,10 @@ use Rattle.std.specs.Prelude.{nat_lt, IfSome, IsSomeAnd}
 use Rattle.std.proofs.lemmas.Bool.Decides.{nat_tests}
 use Rattle.spec_session.specs.declared.kinds.Ending.{Ending}
 use Rattle.spec_session.specs.declared.kinds.Ending.TheVariants.{Quit}
-use Rattle.spec_session.specs.Lines.{GivesLine, lines_within, Reader, ahead, allowance, HasNoNewline, IsFinished, IsOver, IsKept, TakesUpTo}
+use Rattle.spec_lines.specs.Lines.{GivesLine, lines_within, Reader, ahead, allowance, HasNoNewline, IsFinished, IsOver, IsKept, TakesUpTo, head_of}
 use Rattle.spec_session.specs.declared.kinds.LineKind.TheVariants.{Empty, Quit as QuitLine, WithBody, Alone}
-use Rattle.spec_session.specs.Command.{Command, Session, session_of, session_with, after, ended, status_of, kind_of, head_of, is_end}
-use Rattle.spec_session.proofs.Reading.{lines_within-nil, lines_within-over}
+use Rattle.spec_session.specs.Command.{Command, Session, session_of, session_with, after, ended, status_of, kind_of, is_end}
+use Rattle.spec_lines.proofs.Reading.{lines_within-nil, lines_within-over}
 use Rattle.xt_session.specs.declared.command.Taken.{Taken}
 use Rattle.xt_session.specs.declared.command.Taken.TheVariants.{Command as Whole, Skipped, Stopped, Failed}
 use Rattle.xt_session.specs.Progress.{GivesLines, GivesCommand, IsDone, IsCut, Took, command_of}

@@ -1,13 +1,11 @@
 -- How the parts of a session are read, and how far it has come.
 use Rattle.std.specs.Prelude.{ℕ, ◌≡◌, ◌<◌, ◌≤◌, ◌⊎◌, false, List, [], ◌++◌, length, nat_lt, Option, Some, IfSome, IsSomeAnd}
 use Rattle.std.specs.List.{flat_map}
-use Rattle.spec_session.specs.Lines.{lines_within, ended_lines, Reader, ahead, allowance, HasNoNewline}
+use Rattle.spec_lines.specs.Lines.{lines_within, ended_lines, Reader, ahead, allowance, HasNoNewline, GivesLine, IsFinished, IsOver, IsKept, head_of}
 use Rattle.spec_session.specs.Command.{Command, Session, session_of, after, status_of}
 use Rattle.spec_session.specs.Reply.{Reply, reply_bytes}
 use Rattle.spec_session.specs.Machine.{Documents, no_documents, Run}
-use Rattle.spec_session.specs.Lines.{GivesLine, IsFinished, IsOver, IsKept}
-use Rattle.spec_session.specs.Command.{head_of}
-use Rattle.spec_session.specs.Outside.{HasRisen}
+use Rattle.spec_lines.specs.Outside.{HasRisen}
 use Rattle.xt_session.specs.declared.meet.Met.{Met}
 use Rattle.xt_session.specs.declared.meet.Met.TheVariants.{Line, Head, End, Over, Failed as LineFailed}
 use Rattle.xt_session.specs.declared.command.Command.{Command as Held}

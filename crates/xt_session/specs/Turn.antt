@@ -1,9 +1,9 @@
 -- One turn of a session: a command is taken and answered.
 use Rattle.std.specs.Prelude.{ℕ, ◌≡◌, List, [], Option, take}
-use Rattle.spec_session.specs.Lines.{Reader}
+use Rattle.spec_lines.specs.Lines.{Reader}
 use Rattle.spec_session.specs.Command.{Command, session_of}
 use Rattle.spec_session.specs.Machine.{Documents, Step}
-use Rattle.spec_session.specs.Outside.{HasRisen, Appends}
+use Rattle.spec_lines.specs.Outside.{HasRisen, Appends}
 use Rattle.spec_session.specs.Reply.{Reply, reply_bytes}
 use Rattle.xt_session.specs.declared.session.Turn.{Turn}
 use Rattle.xt_session.specs.declared.session.Turn.TheVariants.{Answered, Stopped, ReadFailed, WriteFailed}

@@ -24,6 +24,3 @@ mod take;
 
 pub use program::run;
 pub use session::serve;
-
-#[cfg(test)]
-mod tests;

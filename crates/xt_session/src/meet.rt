@@ -1,7 +1,7 @@
 // Meets the next line, with memory for it or without.
 ghost use Rattle.std.specs.Prelude.{◌≡◌, bytes_eq};
-ghost use Rattle.spec_session.specs.Command.{head_of, kind_of as kind_of_head, has_body as has_body_by, is_end as is_end_line};
-ghost use Rattle.spec_session.specs.Lines.{TakesUpTo};
+ghost use Rattle.spec_session.specs.Command.{kind_of as kind_of_head, has_body as has_body_by, is_end as is_end_line};
+ghost use Rattle.spec_lines.specs.Lines.{head_of, TakesUpTo};
 ghost use Rattle.xt_session.specs.Progress.{Meets, met_extra, HasMetCause};
 
 use spec_session::LineKind;

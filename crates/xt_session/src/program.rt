@@ -1,6 +1,6 @@
 // What the program does.
 ghost use Rattle.std.specs.Prelude.{◌≡◌, ◌≢◌, ℕ, map, take, string_bytes, IsTrue, IsFalse};
-ghost use Rattle.spec_session.specs.Outside.{Appends, HasRisen};
+ghost use Rattle.spec_lines.specs.Outside.{Appends, HasRisen};
 ghost use Rattle.spec_session.specs.Served.{Serves, asks_session, session_limit, usage_line};
 
 use crate::session::serve;

@@ -1,7 +1,7 @@
 // Serves a session.
 ghost use Rattle.std.specs.Prelude.{◌≡◌, ◌≢◌, ℕ, List};
-ghost use Rattle.spec_session.specs.Lines.{TakesUpTo};
-ghost use Rattle.spec_session.specs.Outside.{Appends, HasRisen};
+ghost use Rattle.spec_lines.specs.Lines.{TakesUpTo};
+ghost use Rattle.spec_lines.specs.Outside.{Appends, HasRisen};
 ghost use Rattle.spec_session.specs.Served.{Serves};
 ghost use Rattle.xt_session.specs.Progress.{command_of};
 ghost use Rattle.xt_session.specs.Turn.{Turns, Writes, turn_extra, HasInputCause, HasOutputCause};

@@ -1,7 +1,7 @@
 // Takes commands from lines.
 ghost use Rattle.std.specs.Prelude.{List, ℕ, []};
 ghost use Rattle.spec_session.specs.Command.{session_of, session_with};
-ghost use Rattle.spec_session.specs.Lines.{TakesUpTo};
+ghost use Rattle.spec_lines.specs.Lines.{TakesUpTo};
 ghost use Rattle.xt_session.specs.Progress.{Took, extra_of, HasTakenCause, IsAlone};
 
 use crate::command::{Command, Taken};

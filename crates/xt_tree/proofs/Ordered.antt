@@ -3,7 +3,7 @@ use Rattle.std.proofs.Common.{◌≡◌, ◌<◌, ◌≤◌, ℕ, ◌+◌, zero,
 use Rattle.std.specs.Prelude.{◌&&◌, ◌||◌, nat_lt}
 use Rattle.std.specs.List.{list_any, list_all, range_with_len}
 use Rattle.std.proofs.lemmas.Bool.{eqb-true, lt-ltb}
-use Rattle.spec_document.specs.Document.{number_limit}
+use Rattle.spec_document.specs.Numbering.{number_limit}
 use Rattle.spec_document.specs.Forest as spec
 use Rattle.xt_tree.specs.Numbers.{are_distinct, are_numbers, IsNumbered}
 

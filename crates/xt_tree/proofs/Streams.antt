@@ -1,7 +1,7 @@
 -- Streams behind streams, and streams with their holes filled.
 use Rattle.std.proofs.Common.{◌≡◌, ◌∙◌, refl, sym, ap, ℕ, ◌+◌, List, [], ◌∷◌, ◌++◌, map, drop, arith}
 use Rattle.std.proofs.lemmas.List.{drop-map, drop-drop}
-use Rattle.xt_tree.specs.Stream.{Stream, Ended, Element, Nameless, Attribute, Namespace, Text, Comment, Instruction, Message, Hole, followed, all_followed, holes, first_of, filled}
+use Rattle.spec_meaning.specs.Stream.{Stream, Ended, Element, Nameless, Attribute, Namespace, Text, Comment, Instruction, Message, Hole, followed, all_followed, holes, first_of, filled}
 use Rattle.xt_tree.specs.StreamView.{item_step, items_step, single_of, stream_of, streams_of}
 use Rattle.std.specs.declared.rc.Rc.{Rc}
 use Rattle.std.specs.declared.alloc.Global.{Global}

@@ -1,6 +1,5 @@
 pub mod Code
 pub mod Numbers
-pub mod Stream
 pub mod StreamView
-pub mod Values
+pub mod ValueView
 pub mod View

@@ -3,7 +3,7 @@ use Rattle.std.specs.Prelude.{ℕ, Bool, true, not, ◌&&◌, nat_lt, List, [], 
 use Rattle.std.specs.List.{list_all, list_any}
 use Rattle.std.specs.Prelude.{◌==◌}
 use Rattle.spec_document.specs.Forest.{Forest, Document, labels}
-use Rattle.spec_document.specs.Document.{number_limit}
+use Rattle.spec_document.specs.Numbering.{number_limit}
 
 -- none stands twice
 abbrev pub are_distinct : List ℕ → Bool

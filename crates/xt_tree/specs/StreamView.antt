@@ -3,7 +3,7 @@ use Rattle.std.specs.Prelude.{List, map}
 use Rattle.std.specs.declared.rc.Rc.{Rc}
 use Rattle.std.specs.declared.alloc.Global.{Global}
 use Rattle.xt_names.specs.View.{entry_of}
-use Rattle.xt_tree.specs.Stream as stream
+use Rattle.spec_meaning.specs.Stream as stream
 use Rattle.xt_tree.specs.declared.items.Items.{Items, Items-F, fold-Items}
 use Rattle.xt_tree.specs.declared.items.Item.{Item, Item-F, fold-Item}
 

@@ -1,7 +1,7 @@
 // Documents, and siblings that are to stand in one.
 ghost use Rattle.std.specs.Prelude.{ℕ, List, ◌≡◌, ◌==◌, ◌+◌, ◌<◌, map, IfOk, OnOk, OnErr, ◌∷◌, [], MatchOption, IsSome, is_some, Some, None};
 ghost use Rattle.std.specs.Option.{option_map, option_and_then, ForSome};
-ghost use Rattle.spec_document.specs.Document.{number_limit};
+ghost use Rattle.spec_document.specs.Numbering.{number_limit};
 ghost use Rattle.spec_document.specs.Forest.{numbered, size};
 ghost use Rattle.spec_document.specs.Name.{qname_of};
 ghost use Rattle.spec_document.specs.Declaration.{namespaces_in, attribute_name};

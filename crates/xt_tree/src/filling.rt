@@ -1,7 +1,7 @@
 // Streams with parts in place of their holes.
 ghost use Rattle.std.specs.Prelude.{◌≡◌, ◌+◌, ◌≤◌, length, drop, map, IfOk, OnOk};
 ghost use Rattle.xt_names.specs.View.{entry_of};
-ghost use Rattle.xt_tree.specs.Stream.{holes, filled};
+ghost use Rattle.spec_meaning.specs.Stream.{holes, filled};
 ghost use Rattle.xt_tree.specs.StreamView.{single_of, stream_of, streams_of};
 
 use crate::{Item, Items};

@@ -1,6 +1,6 @@
 // Streams: what instructions write, item by item.
 ghost use Rattle.std.specs.Prelude.{◌≡◌, map, length, IfOk, OnOk, OnErr};
-ghost use Rattle.xt_tree.specs.Stream as stream;
+ghost use Rattle.spec_meaning.specs.Stream as stream;
 ghost use Rattle.xt_tree.specs.declared.items.Items.{out-Items};
 ghost use Rattle.xt_tree.specs.StreamView.{single_of, stream_of, streams_of};
 

@@ -15,8 +15,6 @@ mod items;
 mod node;
 mod node_ref;
 mod part;
-#[cfg(test)]
-mod tests;
 mod value;
 
 pub use doc::{Doc, Nodes};

@@ -1,6 +1,8 @@
 use Rattle.std.proofs.Common.{◌+◌, ◌<◌, None, Some, Ok, sym, ap, ◌∙◌, subst, arith}
 use Rattle.spec_document.specs.Forest.{numbered, size}
-use Rattle.spec_document.specs.Document.{number_limit, without_texts, document_by}
+use Rattle.spec_document.specs.Top.{without_texts}
+use Rattle.spec_document.specs.Numbering.{number_limit}
+use Rattle.spec_document.specs.Document.{document_by}
 use Rattle.xt_build.specs.View.{found_of, pieces_of, fault_of}
 use Rattle.xt_build.specs.Piece.{forest_in}
 use Rattle.xt_build.proofs.Building.{document_made, document_has_room, answered, second_is_next, second_number, AreMade, are_made}

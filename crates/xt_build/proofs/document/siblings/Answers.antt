@@ -1,6 +1,7 @@
 use Rattle.std.proofs.Common.{◌+◌, ◌<◌, ◌^◌, None, Some, Ok, sym, ap, ◌∙◌, subst}
 use Rattle.spec_document.specs.Forest.{numbered, size}
-use Rattle.spec_document.specs.Document.{kept, nodes_by}
+use Rattle.spec_document.specs.Top.{kept}
+use Rattle.spec_document.specs.Document.{nodes_by}
 use Rattle.xt_build.specs.View.{found_of, pieces_of, fault_of}
 use Rattle.xt_build.specs.Piece.{forest_in}
 use Rattle.xt_build.proofs.Building.{nodes_made, nodes_have_room, answered}

@@ -1,7 +1,7 @@
 use Rattle.std.specs.Prelude.{is_some}
 use Rattle.std.proofs.Common.{length, ◌≡◌, ◌+◌, [], ◌∷◌, ◌++◌, ◌∙◌, refl, sym, ap, arith}
 use Rattle.spec_document.specs.Forest.{Empty, Node}
-use Rattle.spec_document.specs.Document.{Lines}
+use Rattle.spec_document.specs.Balance.{LineNumbers}
 use Rattle.xt_tree.specs.View.{content_of, followed, forest}
 use Rattle.xt_build.specs.Piece.{Begins, open_in, node_before}
 use Rattle.xt_build.specs.Left.{kept_open, open_size, open_numbered, is_text}
@@ -55,7 +55,7 @@ loop-piece-preserved-then-is_dropped c =
     let items = c.next.new.self.rest.items in
     let rest = open_in (pieces_of items) in
     let content = content_of c.in-Begins.content in
-    let lines : Lines = record { first = c.in-Begins._line; attributes = c.in-Begins._lines.items } in
+    let lines : LineNumbers = record { first = c.in-Begins._line; attributes = c.in-Begins._lines.items } in
     let step = (c.in-Some.ensures {u = tt}).steps.0 ∙ ap (λ p. p ∷ items) c.in-Begins.is in
     let made = ap (λ ps. whole c.loop-piece.open.items c.loop-piece.nodes (coming next others (open_in (pieces_of ps)))) (sym step) ∙ c.loop-piece.invariant.made in
     let test = test-dropped (is_text content) (is_some others) c.len.result (sym c.is_dropped.ensures ∙ c.if-is_dropped.true) in
@@ -76,7 +76,7 @@ overflow_add-next c =
     let items = c.next.new.self.rest.items in
     let rest = open_in (pieces_of items) in
     let content = content_of c.in-Begins.content in
-    let lines : Lines = record { first = c.in-Begins._line; attributes = c.in-Begins._lines.items } in
+    let lines : LineNumbers = record { first = c.in-Begins._line; attributes = c.in-Begins._lines.items } in
     let step = (c.in-Some.ensures {u = tt}).steps.0 ∙ ap (λ p. p ∷ items) c.in-Begins.is in
     let made = ap (λ ps. whole c.loop-piece.open.items c.loop-piece.nodes (coming c.loop-piece.next others (open_in (pieces_of ps)))) (sym step) ∙ c.loop-piece.invariant.made in
     let kind = sym (kind-element content) ∙ ap (λ k. sameb the_type k kind.Element) (sym c.kind.ensures) ∙ sym c.eq.ensures in
@@ -104,7 +104,7 @@ loop-piece-preserved c =
     let items = c.next.new.self.rest.items in
     let rest = open_in (pieces_of items) in
     let content = content_of c.in-Begins.content in
-    let lines : Lines = record { first = c.in-Begins._line; attributes = c.in-Begins._lines.items } in
+    let lines : LineNumbers = record { first = c.in-Begins._line; attributes = c.in-Begins._lines.items } in
     let step = (c.in-Some.ensures {u = tt}).steps.0 ∙ ap (λ p. p ∷ items) c.in-Begins.is in
     let made = ap (λ ps. whole c.loop-piece.open.items c.loop-piece.nodes (coming next others (open_in (pieces_of ps)))) (sym step) ∙ c.loop-piece.invariant.made in
     let kind = sym (kind-element content) ∙ ap (λ k. sameb the_type k kind.Element) (sym c.kind.ensures) ∙ sym c.eq.ensures in

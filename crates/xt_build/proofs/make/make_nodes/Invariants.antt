@@ -1,6 +1,6 @@
 use Rattle.std.proofs.Common.{◌≡◌, ◌+◌, [], ◌∷◌}
 use Rattle.spec_document.specs.Forest.{Empty, numbered, size}
-use Rattle.spec_document.specs.Document.{kept}
+use Rattle.spec_document.specs.Top.{kept}
 use Rattle.xt_build.specs.Piece.{open_in, forest_in, AreClosed}
 use Rattle.xt_build.specs.Left.{kept_open, open_size}
 use Rattle.xt_build.specs.View.{pieces_of}

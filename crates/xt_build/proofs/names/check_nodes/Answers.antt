@@ -1,6 +1,6 @@
 use Rattle.std.proofs.Common.{◌+◌, [], sym, ap, ◌∙◌, arith}
 use Rattle.std.proofs.lemmas.List.{at_drop_all}
-use Rattle.spec_document.specs.Document.{least}
+use Rattle.spec_document.specs.Fault.{least}
 use Rattle.xt_build.specs.Least.{merged}
 use Rattle.xt_build.specs.Left.{open_faults}
 use Rattle.xt_build.specs.Names.{scopes_in}

@@ -1,5 +1,5 @@
 use Rattle.std.proofs.Common.{◌≡◌, ◌+◌, [], drop}
-use Rattle.spec_document.specs.Document.{least}
+use Rattle.spec_document.specs.Fault.{least}
 use Rattle.xt_build.specs.Least.{merged}
 use Rattle.xt_build.specs.Left.{open_faults}
 use Rattle.xt_build.specs.Names.{scopes_in}

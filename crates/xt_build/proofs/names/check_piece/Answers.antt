@@ -1,5 +1,6 @@
 use Rattle.std.proofs.Common.{◌≡◌, ◌+◌, [], ◌∷◌, map, length, nat_lt, sym, ap, ◌∙◌, arith}
-use Rattle.spec_document.specs.Document.{least, fault_if, greatest_depth, is_wrong_element, attribute_faults}
+use Rattle.spec_document.specs.Fault.{least, fault_if}
+use Rattle.spec_document.specs.NodeFaults.{greatest_depth, is_wrong_element, attribute_faults}
 use Rattle.spec_document.specs.Declaration.{declared_all}
 use Rattle.xt_tree.specs.View.{written_of}
 use Rattle.xt_tree.specs.declared.node.Content.TheVariants as content

@@ -1,5 +1,6 @@
 use Rattle.std.proofs.Common.{◌+◌, map, sym, ap, ◌∙◌, true≢false, arith}
-use Rattle.spec_document.specs.Document.{least, number_faults}
+use Rattle.spec_document.specs.Fault.{least}
+use Rattle.spec_document.specs.Numbering.{number_faults}
 use Rattle.xt_tree.specs.View.{content_of, written_of}
 use Rattle.xt_build.specs.Least.{merged}
 use Rattle.xt_build.specs.View.{found_of}

@@ -1,6 +1,8 @@
 use Rattle.std.proofs.Common.{◌≡◌, ◌≤◌, ◌+◌, drop, length, map}
 use Rattle.spec_document.specs.Forest.{labels}
-use Rattle.spec_document.specs.Document.{least, number_faults, kept}
+use Rattle.spec_document.specs.Fault.{least}
+use Rattle.spec_document.specs.Top.{kept}
+use Rattle.spec_document.specs.Numbering.{number_faults}
 use Rattle.xt_build.specs.Least.{merged}
 use Rattle.xt_build.specs.Piece.{open_in, forest_in}
 use Rattle.xt_build.specs.View.{found_of, pieces_of}

@@ -3,7 +3,7 @@ use Rattle.std.proofs.lemmas.List.{drop-map, nil_from_length, length-map}
 use Rattle.std.specs.Prelude.{◌==◌}
 use Rattle.std.proofs.lemmas.Bool.{eqb-true}
 use Rattle.spec_document.specs.declared.event.Event.{Event}
-use Rattle.spec_document.specs.Document.{rest_of}
+use Rattle.spec_document.specs.Balance.{rest_of}
 use Rattle.xt_build.specs.Piece.{Piece}
 use Rattle.xt_build.specs.Front.{events_first, pieces_first}
 use Rattle.xt_build.specs.View.{located_of, pieces_of}

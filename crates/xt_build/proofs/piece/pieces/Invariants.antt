@@ -1,5 +1,5 @@
 use Rattle.std.proofs.Common.{◌≡◌, map, length, Some}
-use Rattle.spec_document.specs.Document.{Rest, rest_of}
+use Rattle.spec_document.specs.Balance.{Rest, rest_of}
 use Rattle.xt_build.specs.View.{located_of, pieces_of}
 use Rattle.xt_build.proofs.Fronts.{Stands}
 use Rattle.xt_build.proofs.piece.pieces.Given as goal

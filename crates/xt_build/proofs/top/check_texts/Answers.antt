@@ -1,5 +1,7 @@
 use Rattle.std.proofs.Common.{◌≡◌, ℕ, ◌+◌, ◌≤◌, length, map, ap, ◌∙◌, subst, arith}
-use Rattle.spec_document.specs.Document.{Lines, least, text_faults}
+use Rattle.spec_document.specs.Fault.{least}
+use Rattle.spec_document.specs.Balance.{LineNumbers}
+use Rattle.spec_document.specs.Top.{text_faults}
 use Rattle.xt_tree.specs.View.{written_of}
 use Rattle.xt_tree.specs.declared.node.Content.TheVariants as held
 use Rattle.xt_build.specs.declared.piece.Piece.TheVariants as code
@@ -40,7 +42,7 @@ loop-piece-preserved c =
           }
       | in-Begins+in-Text+then-level-eq0 w ↦
           let top : level ≡ 0 = w.if-level-eq0.true in
-          let l : Lines = record { first = w.in-Begins.line; attributes = w.in-Begins.attribute_lines.items } in
+          let l : LineNumbers = record { first = w.in-Begins.line; attributes = w.in-Begins.attribute_lines.items } in
           let text = w.in-Text.text in
           let t = stands ps n p 0 w.in-Begins.line w.in-Begins.attribute_lines (held.Text text) (omega arith) c.piece-item.is
           (w.in-Begins.is ∙ ap (code.Begins w.in-Begins.line w.in-Begins.attribute_lines) w.in-Text.is) (text-other text)

@@ -1,5 +1,6 @@
 use Rattle.std.proofs.Common.{◌≡◌, ◌≤◌, ◌+◌, drop, length}
-use Rattle.spec_document.specs.Document.{least, text_faults}
+use Rattle.spec_document.specs.Fault.{least}
+use Rattle.spec_document.specs.Top.{text_faults}
 use Rattle.xt_build.specs.Least.{merged}
 use Rattle.xt_build.specs.Piece.{open_in, forest_in}
 use Rattle.xt_build.specs.View.{found_of, pieces_of}

@@ -1,5 +1,6 @@
 use Rattle.std.proofs.Common.{sym, ap, ◌∙◌}
-use Rattle.spec_document.specs.Document.{least, elements_at_top, element_faults, text_faults, top_faults}
+use Rattle.spec_document.specs.Fault.{least}
+use Rattle.spec_document.specs.Top.{elements_at_top, element_faults, text_faults, top_faults}
 use Rattle.xt_build.specs.Least.{merged}
 use Rattle.xt_build.specs.Piece.{forest_in}
 use Rattle.xt_build.specs.View.{found_of, pieces_of}

@@ -1,5 +1,5 @@
 use Rattle.std.proofs.Common.{◌≡◌, ◌≤◌, ◌+◌, ◌++◌, drop, length}
-use Rattle.spec_document.specs.Document.{elements_at_top}
+use Rattle.spec_document.specs.Top.{elements_at_top}
 use Rattle.xt_build.specs.Piece.{open_in, forest_in}
 use Rattle.xt_build.specs.View.{pieces_of}
 use Rattle.xt_build.proofs.Levels.{at_level}

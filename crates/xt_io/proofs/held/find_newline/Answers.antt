@@ -1,7 +1,7 @@
 use Rattle.std.proofs.Common.{rules, tests}
 use Rattle.std.proofs.lemmas.Iterator.{YieldsList-from_slice}
 use Rattle.std.proofs.lemmas.Iterator.Search.{position_from_yields_List}
-use Rattle.spec_session.specs.Lines.{is_newline}
+use Rattle.spec_lines.specs.Lines.{is_newline}
 use Rattle.xt_io.proofs.Newlines.{searched}
 use Rattle.xt_io.proofs.held.find_newline.Goals as goal
 

@@ -1,5 +1,5 @@
 use Rattle.std.proofs.Common.{length, ◌-◌, ◌≡◌, ◌≤◌, take}
-use Rattle.spec_session.specs.Outside.{Appends}
+use Rattle.spec_lines.specs.Outside.{Appends}
 use Rattle.xt_io.proofs.sink.write_all.Given as goal
 
 abbrev pub invariant-loop-done : goal.invariant-loop-done

@@ -1,5 +1,5 @@
 use Rattle.std.proofs.Common.{refl, sym, ◌∙◌, subst}
-use Rattle.spec_session.specs.Lines.{Reader}
+use Rattle.spec_lines.specs.Lines.{Reader}
 use Rattle.spec_session.specs.Machine.{no_documents}
 use Rattle.xt_session.specs.View.{documents_of}
 use Rattle.xt_session.proofs.Serving.{IsServing, serving_at_start, serving_on, serves_stopped, serves_cut, serves_prefix}

@@ -1,5 +1,5 @@
 use Rattle.std.proofs.Common.{◌≡◌}
-use Rattle.spec_session.specs.Lines.{allowance}
+use Rattle.spec_lines.specs.Lines.{allowance}
 use Rattle.xt_session.specs.View.{documents_of}
 use Rattle.xt_session.proofs.Serving.{IsServing}
 use Rattle.xt_session.proofs.session.serve.Given as goal

@@ -1,5 +1,5 @@
 use Rattle.std.proofs.Common.{◌≡◌}
-use Rattle.spec_session.specs.Lines.{TakesUpTo, allowance}
+use Rattle.spec_lines.specs.Lines.{TakesUpTo, allowance}
 use Rattle.xt_session.proofs.Commands.{Skips}
 use Rattle.xt_session.proofs.take.skip_body.Given as goal
 

@@ -1,6 +1,6 @@
 use Rattle.std.proofs.Common.{◌≡◌}
 use Rattle.spec_session.specs.Command.{session_of}
-use Rattle.spec_session.specs.Lines.{TakesUpTo, allowance}
+use Rattle.spec_lines.specs.Lines.{TakesUpTo, allowance}
 use Rattle.xt_session.proofs.Taking.{GoesOn}
 use Rattle.xt_session.proofs.take.take_command.Given as goal
 

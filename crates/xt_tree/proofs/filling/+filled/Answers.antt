@@ -1,6 +1,6 @@
 use Rattle.std.proofs.Common.{rules, ℕ, length, ◌≤◌, ◌≡◌, ◌∙◌, ◌+◌, sym, ap, drop, map, arith}
 use Rattle.std.proofs.lemmas.List.{at_drop_more, at_drop_all}
-use Rattle.xt_tree.specs.Stream.{all_followed, followed, holes, first_of, filled}
+use Rattle.spec_meaning.specs.Stream.{all_followed, followed, holes, first_of, filled}
 use Rattle.xt_tree.specs.declared.items.Item.{the_lemmas}
 use Rattle.xt_tree.specs.StreamView.{single_of, stream_of, streams_of}
 use Rattle.xt_tree.proofs.Streams.{view-Hole, view-Part, followed-Ended, followed-followed, holes-followed, filled_first}

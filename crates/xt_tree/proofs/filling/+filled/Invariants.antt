@@ -1,5 +1,5 @@
 use Rattle.std.proofs.Common.{◌≡◌, ◌+◌, map, drop}
-use Rattle.xt_tree.specs.Stream.{all_followed, followed, holes, filled}
+use Rattle.spec_meaning.specs.Stream.{all_followed, followed, holes, filled}
 use Rattle.xt_tree.specs.StreamView.{single_of, stream_of, streams_of}
 use Rattle.xt_tree.proofs.filling.+filled.Given as goal
 

@@ -1,6 +1,6 @@
 use Rattle.std.proofs.Common.{◌∙◌, sym, ap, ◌∷◌, [], map}
 use Rattle.std.proofs.lemmas.List.{map-append}
-use Rattle.xt_tree.specs.Stream.{all_followed, followed}
+use Rattle.spec_meaning.specs.Stream.{all_followed, followed}
 use Rattle.xt_tree.specs.StreamView.{single_of}
 use Rattle.xt_tree.specs.declared.items.Items.{out-Items}
 use Rattle.xt_tree.proofs.Streams.{view-Items, all_followed-more}
