@@ -2,7 +2,7 @@
 use Rattle.std.proofs.Common.{◌≡◌, ℕ, suc, ◌<◌, ◌≤◌, List, ◌∷◌, None, refl, ap, ◌∙◌, sym, subst, arith}
 use Rattle.spec_document.specs.Name.{QName}
 use Rattle.spec_document.specs.Scope.{Scope}
-use Rattle.spec_expression.specs.declared.Axis.TheVariants.{DescendantOrSelf}
+use Rattle.spec_document.specs.declared.axis.Axis.TheVariants.{DescendantOrSelf}
 use Rattle.spec_expression.specs.declared.Level.{Level}
 use Rattle.spec_expression.specs.declared.Level.TheVariants.{UnionExpr}
 use Rattle.spec_expression.specs.Token.{Token, Open, ColonColon, Name}

@@ -1,7 +1,7 @@
 -- The productions of paths, by what they begin with.
 use Rattle.std.proofs.Common.{◌≡◌, ◌<◌, true, false, List, [], ◌∷◌, refl, ap, ◌∙◌, sym, subst, arith}
 use Rattle.spec_document.specs.Scope.{Scope}
-use Rattle.spec_expression.specs.declared.Axis.TheVariants.{DescendantOrSelf}
+use Rattle.spec_document.specs.declared.axis.Axis.TheVariants.{DescendantOrSelf}
 use Rattle.spec_expression.specs.Token.{Token, Slash, SlashSlash}
 use Rattle.spec_expression.specs.Syntax.{Expr, root, here, Step, stepped, node_on}
 use Rattle.spec_expression.specs.Grammar as g

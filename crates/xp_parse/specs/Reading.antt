@@ -3,8 +3,8 @@ use Rattle.std.specs.Prelude.{◌≡◌, ℕ, ◌+◌, ◌<◌, Bool, true, fals
 use Rattle.spec_expression.specs.declared.Operator.{Operator}
 use Rattle.spec_expression.specs.declared.Level.{Level}
 use Rattle.spec_expression.specs.declared.Refusal.TheVariants.{Syntax, Depth, Number, Prefix}
-use Rattle.spec_expression.specs.declared.Axis.{Axis}
-use Rattle.spec_expression.specs.declared.Axis.TheVariants.{Attribute, Child}
+use Rattle.spec_document.specs.declared.axis.Axis.{Axis}
+use Rattle.spec_document.specs.declared.axis.Axis.TheVariants.{Attribute, Child}
 use Rattle.spec_expression.specs.declared.NodeType.{NodeType}
 use Rattle.spec_document.specs.Name.{QName}
 use Rattle.spec_expression.specs.Token as plain

@@ -10,7 +10,8 @@ use crate::build::{
 use crate::fault::ParseFault;
 use crate::read::{Head, Parser, TestHead, axis_of, type_of};
 use crate::token::Sign;
-use spec_expression::{Axis, Level, NodeType, Refusal};
+use spec_document::Axis;
+use spec_expression::{Level, NodeType, Refusal};
 use xp_syntax::{Expr, Link, Step, Test};
 
 impl<'a> Parser<'_, 'a> {

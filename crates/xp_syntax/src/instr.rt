@@ -124,7 +124,10 @@ impl Control {
         ensures { Decides result (control_of self.now ≡ control_of other.now) }
     {
         match (self, other) {
-            (Control::ForEach(select, keys, content), Control::ForEach(other, other_keys, others)) => {
+            (
+                Control::ForEach(select, keys, content),
+                Control::ForEach(other, other_keys, others),
+            ) => {
                 select.same(other)
                     && all_alike(keys.as_slice(), other_keys.as_slice())
                     && same_instrs(content.as_slice(), others.as_slice())
@@ -135,9 +138,10 @@ impl Control {
             (Control::Choose(branches), Control::Choose(others)) => {
                 same_branches(branches.as_slice(), others.as_slice())
             }
-            (Control::ApplyTemplates(selection, bindings), Control::ApplyTemplates(other, others)) => {
-                selection.same(other) && same_bindings(bindings.as_slice(), others.as_slice())
-            }
+            (
+                Control::ApplyTemplates(selection, bindings),
+                Control::ApplyTemplates(other, others),
+            ) => { selection.same(other) && same_bindings(bindings.as_slice(), others.as_slice()) }
             (Control::CallTemplate(name, bindings), Control::CallTemplate(other, others)) => {
                 name.same(other) && same_bindings(bindings.as_slice(), others.as_slice())
             }

@@ -74,7 +74,8 @@ impl Alternative {
     pub fn same(&self, other: &Alternative) -> bool
         ensures { Decides result (alternative_of self.now ≡ alternative_of other.now) }
     {
-        same_start(&self.start, &other.start) && all_alike(self.steps.as_slice(), other.steps.as_slice())
+        same_start(&self.start, &other.start)
+            && all_alike(self.steps.as_slice(), other.steps.as_slice())
     }
 }
 

@@ -45,9 +45,10 @@ impl WithContent {
             }
             (WithContent::Attribute(name), WithContent::Attribute(other)) => name.same(other),
             (WithContent::Comment, WithContent::Comment) => true,
-            (WithContent::ProcessingInstruction(target), WithContent::ProcessingInstruction(other)) => {
-                target.same(other)
-            }
+            (
+                WithContent::ProcessingInstruction(target),
+                WithContent::ProcessingInstruction(other),
+            ) => { target.same(other) }
             (WithContent::Copy(sets), WithContent::Copy(others)) => {
                 same_names(sets.as_slice(), others.as_slice())
             }
