@@ -9,6 +9,7 @@
 mod event;
 mod kind;
 mod laws;
+mod parent;
 mod usage;
 
 pub use event::Event;
@@ -17,4 +18,5 @@ pub use laws::{
     escapes_read_back, events_have_one_forest, forests_are_computed, written_forests_read_back,
     written_lines_read_back,
 };
+pub use parent::Parent;
 pub use usage::Use;

@@ -32,14 +32,14 @@ fn push_lines(alloc: Global, lines: &mut Vec<Text>, siblings: &[Rc<Node>]) -> Re
     ensures { OnOk result (lines.new.items ≡ lines.old.items ++ lines_of (forest_of siblings.now)) }
 {
     for sibling in siblings {
-        match &sibling.content {
+        match sibling.content() {
             Content::Element { name, attributes } => {
                 push_start(alloc, lines, name, attributes.as_slice())?;
-                push_lines(alloc, lines, sibling.children.as_slice())?;
+                push_lines(alloc, lines, sibling.children())?;
                 push_end(alloc, lines, name)?;
             }
             Content::Text { .. } | Content::Comment { .. } | Content::Instruction { .. } => {
-                push_leaf(alloc, lines, &sibling.content)?;
+                push_leaf(alloc, lines, sibling.content())?;
             }
         }
     }
