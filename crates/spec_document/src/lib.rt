@@ -11,6 +11,7 @@ mod event;
 mod kind;
 mod laws;
 mod order;
+mod parent;
 mod usage;
 
 pub use axis::Axis;
@@ -21,4 +22,5 @@ pub use laws::{
     written_lines_read_back,
 };
 pub use order::{axes_part_the_tree, document_order_is_total, nodes_stand_in_order};
+pub use parent::Parent;
 pub use usage::Use;

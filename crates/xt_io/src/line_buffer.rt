@@ -1,4 +1,4 @@
-// What a reader of lines holds, and the steps that it takes.
+// The buffer of a reader of lines, and the steps that it takes.
 ghost use Rattle.std.specs.Prelude.{◌≡◌, ◌<◌, [], ◌++◌, length, take, true, false, IfOk, OnErr, MatchOption, MatchBool};
 ghost use Rattle.spec_lines.specs.Lines.{HasNoNewline};
 ghost use Rattle.spec_lines.specs.Outside.{HasCause};
@@ -27,7 +27,7 @@ pub(crate) enum Filled {
 /// The bytes taken from a source and not yet given in a line: those that were searched and have no
 /// LF, then those in the buffer. `room` is how many more may be taken.
 #[derive(Drop)]
-pub(crate) struct Held {
+pub(crate) struct LineBuffer {
     pub(crate) alloc: Global,
     pub(crate) gathered: Vec<u8>,
     pub(crate) buffer: Buffer,
@@ -43,13 +43,13 @@ fn find_newline(bytes: &[u8]) -> Option<usize>
     bytes.iter().position(|byte| *byte == b'\n')
 }
 
-impl Held {
-    ghost use Rattle.xt_io.specs.Held.{kept, Fills, IsStill};
+impl LineBuffer {
+    ghost use Rattle.xt_io.specs.LineBuffer.{kept, Fills, IsStill};
 
-    pub(crate) fn new(alloc: Global, limit: u64) -> Result<Held, Memory>
-        ensures { IfOk result (λ held. (kept held ≡ []) × (held.room ≡ limit) × (held.at_end ≡ false)) }
+    pub(crate) fn new(alloc: Global, limit: u64) -> Result<LineBuffer, Memory>
+        ensures { IfOk result (λ buffer. (kept buffer ≡ []) × (buffer.room ≡ limit) × (buffer.at_end ≡ false)) }
     {
-        Ok(Held {
+        Ok(LineBuffer {
             alloc,
             gathered: Vec::new(alloc),
             buffer: Buffer::new(alloc)?,
@@ -76,7 +76,7 @@ impl Held {
         let mut line = mem::replace(&mut self.gathered, Vec::new(self.alloc));
         let length = without_return(line.as_slice()).len();
         line.truncate(length);
-        Ok(Some(Line::new(line)))
+        Ok(Some(Line::from(line)))
     }
 
     /// Takes all gathered bytes out as the last line, if there are any.
@@ -89,7 +89,7 @@ impl Held {
         if self.gathered.is_empty() {
             return None;
         }
-        Some(Line::new(mem::replace(&mut self.gathered, Vec::new(self.alloc))))
+        Some(Line::from(mem::replace(&mut self.gathered, Vec::new(self.alloc))))
     }
 
     /// Passes over the gathered bytes.
