@@ -3,6 +3,7 @@ use Rattle.std.proofs.Common.{◌≡◌, ℕ, ◌^◌, ◌-◌, [], ◌∷◌, �
 use Rattle.std.specs.Prelude.{replicate}
 use Rattle.std.specs.Str.{is_utf8, chars}
 use lib.Utf8.{encode}
+use Rattle.spec_document.specs.declared.parent.Parent.TheVariants.{Root, Element as ElementParent}
 use Rattle.spec_document.specs.Character.{is_char, is_name_start, is_name_part}
 use Rattle.spec_document.specs.Scope.{root_scope}
 use Rattle.spec_document.specs.Forest.{Element, Text, Comment, Instruction, Forest, Empty, Node, Document}
@@ -119,14 +120,14 @@ unfolding is_char is_name_start is_name_part is_utf8 chars encode
 last_number = refl
 
 -- siblings: text below an element, a second element under a root
-pub below_an_element : nodes_of root_scope 5 3 None (codes "-x" ∷ codes "(a" ∷ codes ")a" ∷ []) ≡ Ok (Node 5 (Text (codes "x")) Empty (Node 6 (Element (codes "a") []) Empty Empty))
+pub below_an_element : nodes_of root_scope 5 (ElementParent 3) (codes "-x" ∷ codes "(a" ∷ codes ")a" ∷ []) ≡ Ok (Node 5 (Text (codes "x")) Empty (Node 6 (Element (codes "a") []) Empty Empty))
 unfolding is_char is_name_start is_name_part is_utf8 chars encode
 below_an_element = refl
 
-pub under_a_root : nodes_of root_scope 5 0 (Some 1) (codes "Cc" ∷ codes "(a" ∷ codes ")a" ∷ []) ≡ refused_nodes 9 2
+pub under_a_root : nodes_of root_scope 5 (Root 1) (codes "Cc" ∷ codes "(a" ∷ codes ")a" ∷ []) ≡ refused_nodes 9 2
 unfolding is_char is_name_start is_name_part is_utf8 chars encode
 under_a_root = refl
 
-pub too_deep : nodes_of root_scope 5 256 None (codes "(a" ∷ codes ")a" ∷ []) ≡ refused_nodes 11 1
+pub too_deep : nodes_of root_scope 5 (ElementParent 256) (codes "(a" ∷ codes ")a" ∷ []) ≡ refused_nodes 11 1
 unfolding is_char is_name_start is_name_part is_utf8 chars encode
 too_deep = refl

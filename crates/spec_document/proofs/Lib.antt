@@ -4,3 +4,5 @@ pub mod DocumentExamples
 pub mod Prefixes
 pub mod Reading
 pub mod Written
+pub mod Ways
+pub mod Listed

@@ -6,7 +6,7 @@ use Rattle.std.specs.FinMap.{entries}
 use Rattle.spec_document.specs.declared.usage.Use.{Use}
 use Rattle.spec_document.specs.declared.usage.Use.TheVariants.{Declares, Names, NoName}
 use Rattle.spec_document.specs.Name.{QName, qname_of, Expanded}
-use Rattle.spec_document.specs.Scope.{Scope, xml_uri, bound, resolved}
+use Rattle.spec_document.specs.Scope.{Scope, xml_uri, xmlns_uri, bound, resolved}
 use Rattle.spec_document.specs.Forest.{Written, Content, Element, Text, Comment, Instruction}
 
 -- what an attribute is by its written name
@@ -75,9 +75,6 @@ attribute_name scope name =
       | None ↦ Some (record { uri = []; local = name.local })
       | Some prefix ↦ prefixed_name scope prefix name.local
     ]
-
-abbrev pub xmlns_uri : List ℕ
-xmlns_uri = codes "http://www.w3.org/2000/xmlns/"
 
 abbrev pub is_xml : List ℕ → Bool
 is_xml prefix = bytes_eq prefix (codes "xml")

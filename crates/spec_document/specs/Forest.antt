@@ -1,5 +1,5 @@
 -- Documents as forests: the nodes below a root, or any siblings with what is below them.
-use Rattle.std.specs.Prelude.{ℕ, ◌+◌, ◌≡◌, ◌≢◌, List, [], ◌∷◌, ◌++◌, map, Option, None, Some}
+use Rattle.std.specs.Prelude.{ℕ, ◌+◌, ◌-◌, ◌==◌, ◌≡◌, ◌≢◌, List, [], ◌∷◌, ◌++◌, map, max, Option, None, Some, if◌then◌else◌}
 use Rattle.spec_document.specs.declared.event.Event.{Event}
 use Rattle.spec_document.specs.declared.event.Event.TheVariants.{Start, Attribute, Data, Instruction as InstructionEvent, End, Comment as CommentEvent}
 use Rattle.spec_document.specs.Pyx.{Line, event_of, line_of}
@@ -93,6 +93,28 @@ IsNormal (Node label (Element name attributes) children siblings) = IsNormal chi
 IsNormal (Node label (Text text) children siblings) = (children ≡ Empty) × (text ≢ []) × IsNoText siblings × IsNormal siblings
 IsNormal (Node label (Comment text) children siblings) = (children ≡ Empty) × IsNormal siblings
 IsNormal (Node label (Instruction target text) children siblings) = (children ≡ Empty) × IsNormal siblings
+
+-- siblings, and others after them
+abbrev pub followed : {L : Type 0} → Forest L → Forest L → Forest L
+followed Empty others = others
+followed (Node label content children siblings) others = Node label content children (followed siblings others)
+
+-- one node with what is below it
+pub record Tree (L : Type 0) : Type 0 where
+  pub label : L
+  pub content : Content
+  pub children : Forest L
+
+-- the tree at this position among siblings, from 1
+abbrev pub tree_at : {L : Type 0} → Forest L → ℕ → Option (Tree L)
+tree_at Empty position = None
+tree_at (Node label content children siblings) position =
+    if position == 1 then Some (record { label = label; content = content; children = children }) else tree_at siblings (position - 1)
+
+-- how many levels the forest has
+abbrev pub height : {L : Type 0} → Forest L → ℕ
+height Empty = 0
+height (Node label content children siblings) = max (1 + height children) (height siblings)
 
 -- how many nodes the forest has
 abbrev pub size : {L : Type 0} → Forest L → ℕ

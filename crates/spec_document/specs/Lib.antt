@@ -13,3 +13,5 @@ pub mod NodeFaults
 pub mod Numbering
 pub mod Document
 pub mod Examples
+pub mod Order
+pub mod Axis

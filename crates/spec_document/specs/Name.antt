@@ -1,5 +1,5 @@
 -- Names (Namespaces in XML 1.0, productions 4 and 7 to 11).
-use Rattle.std.specs.Prelude.{ℕ, Bool, false, ◌&&◌, ◌==◌, List, [], ◌∷◌, Option, None, Some, if◌then◌else◌, bytes_eq}
+use Rattle.std.specs.Prelude.{ℕ, Bool, false, bytes_eq, ◌&&◌, ◌==◌, List, [], ◌∷◌, Option, None, Some, if◌then◌else◌}
 use Rattle.std.specs.List.{list_all, before_first, after_first}
 use Rattle.spec_document.specs.Character.{is_name_start, is_name_part}
 
@@ -29,7 +29,10 @@ pub record Expanded : Type 0 where
   pub uri : List ℕ
   pub local : List ℕ
 
--- whether two are there and the same
+-- whether two expanded names are the same, and whether two names that may have none are
+abbrev pub same_name : Expanded → Expanded → Bool
+same_name a b = bytes_eq a.uri b.uri && bytes_eq a.local b.local
+
 abbrev pub same_expanded : Option Expanded → Option Expanded → Bool
-same_expanded (Some a) (Some b) = bytes_eq a.uri b.uri && bytes_eq a.local b.local
+same_expanded (Some a) (Some b) = same_name a b
 same_expanded _ _ = false

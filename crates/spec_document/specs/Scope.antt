@@ -8,8 +8,15 @@ use Rattle.std.specs.FinMap.{FinMap, empty, get, insert}
 abbrev pub Scope : Type 0
 Scope = FinMap (slice_cmp nat_cmp) (List ℕ)
 
+-- the URIs that the standards fix: of the prefixes `xml` and `xmlns`, and of the elements of a stylesheet
 abbrev pub xml_uri : List ℕ
 xml_uri = codes "http://www.w3.org/XML/1998/namespace"
+
+abbrev pub xmlns_uri : List ℕ
+xmlns_uri = codes "http://www.w3.org/2000/xmlns/"
+
+abbrev pub xslt_uri : List ℕ
+xslt_uri = codes "http://www.w3.org/1999/XSL/Transform"
 
 -- before any declaration: the prefix xml alone
 abbrev pub root_scope : Scope

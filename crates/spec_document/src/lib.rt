@@ -6,15 +6,21 @@
 //! definitions share with the code, which have texts of any type.
 #![tactic(auto)]
 
+mod axis;
 mod event;
 mod kind;
 mod laws;
+mod order;
+mod parent;
 mod usage;
 
+pub use axis::Axis;
 pub use event::Event;
 pub use kind::Kind;
 pub use laws::{
     escapes_read_back, events_have_one_forest, forests_are_computed, written_forests_read_back,
     written_lines_read_back,
 };
+pub use order::{axes_part_the_tree, document_order_is_total, nodes_stand_in_order};
+pub use parent::Parent;
 pub use usage::Use;

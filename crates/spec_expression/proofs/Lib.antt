@@ -2,3 +2,4 @@ pub mod ValueExamples
 mod GrammarExamples
 pub mod Ranks
 pub mod Unique
+pub mod Rank

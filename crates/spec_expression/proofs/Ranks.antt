@@ -5,7 +5,7 @@ use Rattle.spec_expression.specs.declared.Level.{Level}
 use Rattle.spec_expression.specs.declared.Level.TheVariants.{UnionExpr, PathExpr}
 use Rattle.spec_expression.specs.Token.{Token}
 use Rattle.spec_expression.specs.Syntax.{Test, Expr, Link, Step}
-use Rattle.spec_expression.specs.Rank.{rank, head_rank}
+use Rattle.spec_expression.proofs.Rank.{rank, head_rank}
 use Rattle.spec_expression.specs.Grammar as g
 use Rattle.spec_expression.specs.Grammar.{level_of, type_of, Chain, or, and, equality, relational, additive, multiplicative, union, Signs, Reads, ReadsPath, ReadsFilter, ReadsPrimary, ReadsLinks, ReadsArguments, ReadsMore, ReadsPredicates, ReadsRelative, ReadsSteps, ReadsStep, ReadsTest}
 

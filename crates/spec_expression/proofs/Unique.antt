@@ -2,14 +2,14 @@
 use Rattle.std.proofs.Common.{◌≡◌, ℕ, suc, ◌<◌, ◌≤◌, List, ◌∷◌, None, refl, ap, ◌∙◌, sym, subst, arith}
 use Rattle.spec_document.specs.Name.{QName}
 use Rattle.spec_document.specs.Scope.{Scope}
-use Rattle.spec_expression.specs.declared.Axis.TheVariants.{DescendantOrSelf}
+use Rattle.spec_document.specs.declared.axis.Axis.TheVariants.{DescendantOrSelf}
 use Rattle.spec_expression.specs.declared.Level.{Level}
 use Rattle.spec_expression.specs.declared.Level.TheVariants.{UnionExpr}
 use Rattle.spec_expression.specs.Token.{Token, Open, ColonColon, Name}
 use Rattle.spec_expression.specs.Syntax.{Test, Expr, call, root, here, exprs, Link, Step, chained, negated, filtered, stepped, node_on}
 use Rattle.spec_expression.specs.Grammar as g
 use Rattle.spec_expression.specs.Grammar.{level_of, type_of, expanded, Chain, Signs, Reads, ReadsPath, ReadsFilter, ReadsPrimary, ReadsLinks, ReadsArguments, ReadsMore, ReadsPredicates, ReadsRelative, ReadsSteps, ReadsStep, ReadsTest}
-use Rattle.spec_expression.specs.Rank.{rank, head_rank}
+use Rattle.spec_expression.proofs.Rank.{rank, head_rank}
 use Rattle.spec_expression.proofs.Ranks.{chain_operand, begin_relative, begin_filter, begin_union, begin_expression, links_stop, predicates_stop, steps_stop, more_stop}
 
 -- the same tree, and the same tokens left

@@ -3,8 +3,8 @@ use Rattle.std.specs.Prelude.{◌≡◌, ℕ, zero, suc, Bool, true, false, if�
 use Rattle.std.specs.List.{list_any}
 use Rattle.spec_document.specs.Name.{QName, Expanded}
 use Rattle.spec_document.specs.Scope.{Scope, resolved}
-use Rattle.spec_expression.specs.declared.Axis.{Axis}
-use Rattle.spec_expression.specs.declared.Axis.TheVariants.{Ancestor, AncestorOrSelf, Attribute, Child, Descendant, DescendantOrSelf, Following, FollowingSibling, Namespace, Parent, Preceding, PrecedingSibling, Itself}
+use Rattle.spec_document.specs.declared.axis.Axis.{Axis}
+use Rattle.spec_document.specs.declared.axis.Axis.TheVariants.{Ancestor, AncestorOrSelf, Attribute, Child, Descendant, DescendantOrSelf, Following, FollowingSibling, Namespace, Parent, Preceding, PrecedingSibling, Itself}
 use Rattle.spec_expression.specs.declared.NodeType.{NodeType}
 use Rattle.spec_expression.specs.declared.NodeType.TheVariants.{Comment, Text, ProcessingInstruction, Node}
 use Rattle.spec_expression.specs.declared.Operator.{Operator}

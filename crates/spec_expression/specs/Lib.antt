@@ -3,4 +3,3 @@ pub mod Strings
 pub mod Token
 pub mod Syntax
 pub mod Grammar
-pub mod Rank

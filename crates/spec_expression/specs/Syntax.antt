@@ -2,7 +2,7 @@
 -- are lists, so a tree is no deeper than brackets nest. Names are expanded.
 use Rattle.std.specs.Prelude.{ℕ, zero, suc, List, [], ◌∷◌}
 use Rattle.spec_document.specs.Name.{Expanded}
-use Rattle.spec_expression.specs.declared.Axis.{Axis}
+use Rattle.spec_document.specs.declared.axis.Axis.{Axis}
 use Rattle.spec_expression.specs.declared.NodeType.{NodeType}
 use Rattle.spec_expression.specs.declared.NodeType.TheVariants.{Node}
 use Rattle.spec_expression.specs.declared.Operator.{Operator}

@@ -14,24 +14,6 @@ ghost use Rattle.spec_expression.specs.Syntax.{Expr};
 ghost use Rattle.spec_expression.specs.Grammar.{IsExpression, Parses};
 ghost use Rattle.spec_expression.specs.declared.Refusal.{Refusal};
 
-/// The axes of XPath 1.0, section 2.2. `Itself` is the axis self.
-#[derive(Clone, Copy, PartialEq, Eq)]
-pub enum Axis {
-    Ancestor,
-    AncestorOrSelf,
-    Attribute,
-    Child,
-    Descendant,
-    DescendantOrSelf,
-    Following,
-    FollowingSibling,
-    Namespace,
-    Parent,
-    Preceding,
-    PrecedingSibling,
-    Itself,
-}
-
 /// The node types of XPath 1.0, production 38.
 #[derive(Clone, Copy, PartialEq, Eq)]
 pub enum NodeType {

@@ -1,5 +1,5 @@
 -- The lines of bytes. A line is ended by an LF (10); one CR (13) directly before the LF is no part of it. What
--- stands behind the last LF is a line too, unless it is empty, and keeps its CR.
+-- follows the last LF is a line too, unless it is empty, and keeps its CR.
 use Rattle.std.specs.Prelude.{ℕ, ◌≡◌, ◌+◌, ◌<◌, ◌≤◌, ◌⊎◌, Bool, false, not, List, [], ◌∷◌, ◌++◌, map, length, take, ◌==◌, nat_le, if◌then◌else◌, IsTrue, Option, Some, IfSome, IsSomeAnd}
 use Rattle.std.specs.Option.{option_map}
 use Rattle.std.specs.List.{list_any}
@@ -8,7 +8,7 @@ use Rattle.std.specs.Str.Lines.{strip_carriage_return}
 abbrev pub is_newline : ℕ → Bool
 is_newline b = b == 10
 
--- bytes cut at each LF: what stands before an LF each, and what stands behind the last
+-- bytes cut at each LF: what stands before each LF, and what follows the last
 pub record Pieces : Type 0 where
   pub ended : List (List ℕ)
   pub last : List ℕ
@@ -30,7 +30,7 @@ pieces (b ∷ bs) = with_byte b (pieces bs)
 abbrev pub ended_lines : List ℕ → List (List ℕ)
 ended_lines bytes = map strip_carriage_return (pieces bytes).ended
 
--- what stands behind the last LF, as a line
+-- what follows the last LF, as a line
 abbrev pub last_line : List ℕ → List (List ℕ)
 last_line [] = []
 last_line (b ∷ bs) = (b ∷ bs) ∷ []
@@ -47,21 +47,21 @@ head_of line = take 7 line
 abbrev pub HasNoNewline : List ℕ → Type 0
 HasNoNewline bytes = IsTrue (not (list_any is_newline bytes))
 
--- the bytes begin with this line, ended by an LF, and rest stands behind that
+-- the bytes begin with this line, ended by an LF, and then comes the rest
 pub record BeginsWithEnded (bytes line rest : List ℕ) : Type 0 where
   pub raw : List ℕ
   pub one_line : HasNoNewline raw
   pub cut : bytes ≡ raw ++ 10 ∷ rest
   pub line_is : line ≡ strip_carriage_return raw
 
--- the bytes are this line, which no LF ends, and nothing stands behind it
+-- the bytes are this line, which no LF ends, and nothing follows it
 pub record IsLastLine (bytes line rest : List ℕ) : Type 0 where
   pub one_line : HasNoNewline bytes
   pub some : 0 < length bytes
   pub line_is : line ≡ bytes
   pub nothing : rest ≡ []
 
--- the bytes begin with this line, and rest stands behind it
+-- the bytes begin with this line, and then comes the rest
 abbrev pub BeginsWith : List ℕ → List ℕ → List ℕ → Type 0
 BeginsWith bytes line rest = BeginsWithEnded bytes line rest ⊎ IsLastLine bytes line rest
 
@@ -82,8 +82,8 @@ ahead reader left = if reader.at_end then Some reader.kept else option_map (λ b
 abbrev pub allowance : Reader → ℕ
 allowance reader = length reader.kept + reader.room
 
--- A line was given: the bytes ahead began with it, and the rest is ahead now. The allowance falls by the bytes that are
--- behind now, and in any case by one. Where the end of the source was not seen, an LF ended the line.
+-- A line was given: the bytes ahead began with it, and the rest is ahead now. The allowance falls by the bytes that
+-- were given, and in any case by one. Where the end of the source was not seen, an LF ended the line.
 pub record GivesLine (old : Reader) (before : Option (List ℕ)) (line : List ℕ) (new : Reader) (after : Option (List ℕ)) : Type 0 where
   pub begins : IfSome (ahead old before) (λ bytes. IsSomeAnd (ahead new after) (λ rest. BeginsWith bytes line rest × (length bytes + allowance new ≡ length rest + allowance old)))
   pub fewer : allowance new < allowance old
@@ -93,7 +93,7 @@ pub record GivesLine (old : Reader) (before : Option (List ℕ)) (line : List �
 abbrev pub IsFinished : Reader → Option (List ℕ) → Type 0
 IsFinished reader left = IfSome (ahead reader left) (λ bytes. bytes ≡ [])
 
--- the next line is not whole within the allowance, and the bytes go on behind that
+-- the next line is not whole within the allowance, and the bytes go on after that
 abbrev pub IsOver : Reader → Option (List ℕ) → Type 0
 IsOver reader left = IfSome (ahead reader left) (λ bytes. HasNoNewline (take (allowance reader) bytes) × (allowance reader < length bytes))
 

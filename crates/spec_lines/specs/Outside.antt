@@ -1,9 +1,9 @@
 -- What a source of bytes and a sink tell.
 use Rattle.std.specs.Prelude.{ℕ, ◌≡◌, ◌<◌, ◌≤◌, ◌⊎◌, List, ◌++◌, length, take, drop, Option, None, MatchOption, Result, IfSome, IsSomeAnd, IsErr, IsOk}
 
--- a count of faults has risen, or stands at its greatest value
+-- a count of faults has risen, or stands at its greatest value as before; so it never falls
 abbrev pub HasRisen : ℕ → ℕ → Type 0
-HasRisen before now = (before < now) ⊎ (now ≡ 18446744073709551615)
+HasRisen before now = (before < now) ⊎ ((before ≡ 18446744073709551615) × (now ≡ 18446744073709551615))
 
 -- a fault is told only where the count of faults has risen, and any other answer leaves the count as it was
 pub record HasCause {T E : Type 0} (before now : ℕ) (result : Result T E) : Type 0 where

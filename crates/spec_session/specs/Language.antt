@@ -5,12 +5,9 @@ use Rattle.std.specs.Option.{option_map, option_and_then}
 use Rattle.std.specs.List.{list_all}
 use Rattle.spec_document.specs.Character.{is_space}
 use Rattle.spec_document.specs.Name.{is_ncname, qname_of, Expanded}
-use Rattle.spec_document.specs.Scope.{root_scope}
+use Rattle.spec_document.specs.Scope.{root_scope, xslt_uri}
 use Rattle.spec_document.specs.Declaration.{declared_all, element_name}
 use Rattle.spec_document.specs.Forest.{Written, Element, Text, Comment, Instruction, Forest, Empty, Node, Plain, with_text, texts_in}
-
-abbrev pub xslt_uri : List ℕ
-xslt_uri = codes "http://www.w3.org/1999/XSL/Transform"
 
 -- what a stylesheet says: the name of the literal element, and the name that is selected
 pub record Stylesheet : Type 0 where

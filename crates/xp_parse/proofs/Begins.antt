@@ -8,7 +8,7 @@ use Rattle.spec_expression.specs.Token.{Token, Open, Dot, DotDot, At, Star, AnyO
 use Rattle.spec_expression.specs.Syntax.{Test, Expr, Step}
 use Rattle.spec_expression.specs.Grammar as g
 use Rattle.spec_expression.specs.Grammar.{ReadsFilter, ReadsPrimary, ReadsRelative, ReadsStep, ReadsTest}
-use Rattle.spec_expression.specs.Rank.{head_rank}
+use Rattle.spec_expression.proofs.Rank.{head_rank}
 use Rattle.spec_expression.proofs.Ranks.{predicates_stop, steps_stop}
 use Rattle.xp_parse.specs.Reading.{Begins, left, begins_step, begins_primary}
 use Rattle.xp_parse.specs.View.{name_of}

@@ -6,7 +6,7 @@ use Rattle.spec_expression.specs.Token.{Token, Close, OpenSquare, CloseSquare, C
 use Rattle.spec_expression.specs.Syntax.{Expr}
 use Rattle.spec_expression.specs.Grammar as g
 use Rattle.spec_expression.specs.Grammar.{Reads, ReadsArguments, ReadsMore, ReadsPredicates}
-use Rattle.spec_expression.specs.Rank.{head_rank}
+use Rattle.spec_expression.proofs.Rank.{head_rank}
 use Rattle.spec_expression.proofs.Ranks.{begin_expression, more_stop}
 use Rattle.xp_parse.specs.Reading.{Read, Nothing, IsNotNext}
 use Rattle.xp_parse.proofs.Lists.{Continues, more, ended}

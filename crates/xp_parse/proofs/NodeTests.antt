@@ -8,7 +8,7 @@ use Rattle.spec_expression.specs.Token.{Token, Open, Close, Star, AnyOf, Name, L
 use Rattle.spec_expression.specs.Syntax.{Test, AnyName, InNamespace, Named, OfType, Instruction}
 use Rattle.spec_expression.specs.Grammar as g
 use Rattle.spec_expression.specs.Grammar.{type_of, uri_of, expanded, ReadsTest}
-use Rattle.spec_expression.specs.Rank.{head_rank}
+use Rattle.spec_expression.proofs.Rank.{head_rank}
 use Rattle.xp_parse.specs.Reading.{Read, Nothing, IsNotNext, begins_test}
 
 -- node tests

@@ -9,7 +9,7 @@ use Rattle.spec_expression.specs.Token.{Token, Binary}
 use Rattle.spec_expression.specs.Syntax.{Expr, Link, chained, negated}
 use Rattle.spec_expression.specs.Grammar as g
 use Rattle.spec_expression.specs.Grammar.{level_of, Chain, Signs, Reads, ReadsPath, ReadsLinks}
-use Rattle.spec_expression.specs.Rank.{rank, head_rank}
+use Rattle.spec_expression.proofs.Rank.{rank, head_rank}
 use Rattle.spec_expression.proofs.Ranks.{chain_operand, begin_union, links_stop}
 use Rattle.xp_parse.specs.Reading.{Read, Nothing, IsNotNext, NoOperator}
 use Rattle.xp_parse.proofs.Lists.{Continues, more}

@@ -1,12 +1,12 @@
 -- The productions of paths, by what they begin with.
 use Rattle.std.proofs.Common.{◌≡◌, ◌<◌, true, false, List, [], ◌∷◌, refl, ap, ◌∙◌, sym, subst, arith}
 use Rattle.spec_document.specs.Scope.{Scope}
-use Rattle.spec_expression.specs.declared.Axis.TheVariants.{DescendantOrSelf}
+use Rattle.spec_document.specs.declared.axis.Axis.TheVariants.{DescendantOrSelf}
 use Rattle.spec_expression.specs.Token.{Token, Slash, SlashSlash}
 use Rattle.spec_expression.specs.Syntax.{Expr, root, here, Step, stepped, node_on}
 use Rattle.spec_expression.specs.Grammar as g
 use Rattle.spec_expression.specs.Grammar.{ReadsPath, ReadsFilter, ReadsRelative, ReadsSteps}
-use Rattle.spec_expression.specs.Rank.{head_rank}
+use Rattle.spec_expression.proofs.Rank.{head_rank}
 use Rattle.spec_expression.proofs.Ranks.{steps_stop}
 use Rattle.xp_parse.specs.Reading.{Read, Nothing, Behind, IsNotNext, begins_step, begins_primary}
 use Rattle.xp_parse.proofs.Begins.{relative_begins, begins_rank, filter_begins, relative_no_primary}

@@ -8,7 +8,7 @@ use Rattle.spec_expression.specs.Token.{Token, Open, Close, Name, Variable, Lite
 use Rattle.spec_expression.specs.Syntax.{Expr, number, literal, variable, call, exprs, filtered}
 use Rattle.spec_expression.specs.Grammar as g
 use Rattle.spec_expression.specs.Grammar.{type_of, expanded, value_of, Reads, ReadsFilter, ReadsPrimary, ReadsArguments, ReadsPredicates}
-use Rattle.spec_expression.specs.Rank.{head_rank}
+use Rattle.spec_expression.proofs.Rank.{head_rank}
 use Rattle.spec_expression.proofs.Ranks.{predicates_stop}
 use Rattle.xp_parse.specs.Reading.{Read, Nothing, IsNotNext}
 

@@ -2,13 +2,13 @@
 use Rattle.std.proofs.Common.{◌≡◌, ◌<◌, List, [], ◌∷◌, ◌++◌, None, Result, Ok, Err, refl, ap, ◌∙◌, sym, subst, append_assoc, arith}
 use Rattle.spec_document.specs.Name.{QName}
 use Rattle.spec_document.specs.Scope.{Scope}
-use Rattle.spec_expression.specs.declared.Axis.{Axis}
-use Rattle.spec_expression.specs.declared.Axis.TheVariants.{DescendantOrSelf, Itself, Parent}
+use Rattle.spec_document.specs.declared.axis.Axis.{Axis}
+use Rattle.spec_document.specs.declared.axis.Axis.TheVariants.{DescendantOrSelf, Itself, Parent}
 use Rattle.spec_expression.specs.Token.{Token, Dot, DotDot, ColonColon, Slash, SlashSlash, Name}
 use Rattle.spec_expression.specs.Syntax.{Test, Expr, exprs, Step, node_on}
 use Rattle.spec_expression.specs.Grammar as g
 use Rattle.spec_expression.specs.Grammar.{axis_of, ReadsPredicates, ReadsRelative, ReadsSteps, ReadsStep, ReadsTest}
-use Rattle.spec_expression.specs.Rank.{head_rank}
+use Rattle.spec_expression.proofs.Rank.{head_rank}
 use Rattle.spec_expression.proofs.Ranks.{predicates_stop, steps_stop}
 use Rattle.xp_parse.specs.Reading.{Read, Nothing, Returns, Behind, IsNotNext, ReadsAxis, named, attribute, absent, IsNoAxis}
 use Rattle.xp_parse.specs.declared.fault.ParseFault.{ParseFault}

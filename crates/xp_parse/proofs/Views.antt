@@ -1,7 +1,7 @@
 -- What trees made of one more level stand for.
 use Rattle.std.proofs.Common.{◌≡◌, ℕ, List, map, Vec, Global, rules}
 use Rattle.spec_document.specs.Name.{Expanded}
-use Rattle.spec_expression.specs.declared.Axis.{Axis}
+use Rattle.spec_document.specs.declared.axis.Axis.{Axis}
 use Rattle.spec_expression.specs.declared.Operator.{Operator}
 use Rattle.spec_expression.specs.Syntax as tree
 use Rattle.xp_syntax.specs.declared.expr.Expr.{Expr, Number, Literal, Variable, Call, Root, Here, the_lemmas}

@@ -3,14 +3,14 @@ use Rattle.std.specs.Prelude.{◌≡◌, ℕ, ◌+◌, ◌<◌, Bool, true, fals
 use Rattle.spec_expression.specs.declared.Operator.{Operator}
 use Rattle.spec_expression.specs.declared.Level.{Level}
 use Rattle.spec_expression.specs.declared.Refusal.TheVariants.{Syntax, Depth, Number, Prefix}
-use Rattle.spec_expression.specs.declared.Axis.{Axis}
-use Rattle.spec_expression.specs.declared.Axis.TheVariants.{Attribute, Child}
+use Rattle.spec_document.specs.declared.axis.Axis.{Axis}
+use Rattle.spec_document.specs.declared.axis.Axis.TheVariants.{Attribute, Child}
 use Rattle.spec_expression.specs.declared.NodeType.{NodeType}
 use Rattle.spec_document.specs.Name.{QName}
 use Rattle.spec_expression.specs.Token as plain
 use Rattle.spec_expression.specs.Token.{Token}
 use Rattle.spec_expression.specs.Grammar.{level_of, axis_of, type_of}
-use Rattle.spec_expression.specs.Rank.{head_rank}
+use Rattle.spec_expression.proofs.Rank.{head_rank}
 use Rattle.xp_parse.specs.declared.token.Sign.{Sign}
 use Rattle.xp_parse.specs.declared.token.Sign.TheVariants as signs
 use Rattle.xp_parse.specs.declared.fault.ParseFault.{ParseFault}

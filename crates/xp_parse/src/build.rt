@@ -10,7 +10,8 @@ ghost use Rattle.xp_syntax.specs.View.{expr_of, link_of, step_of};
 ghost use Rattle.xp_parse.specs.View.{name_of};
 
 use crate::token::Name;
-use spec_expression::{Axis, NodeType};
+use spec_document::Axis;
+use spec_expression::NodeType;
 use std::alloc::Global;
 use xp_syntax::{Expr, Link, Step, Test};
 use xt_names::{Expanded, Scope};

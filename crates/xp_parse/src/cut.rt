@@ -8,8 +8,8 @@ ghost use Rattle.xp_parse.specs.View.{token_of, piece_of};
 use crate::token::{Name, Token};
 use spec_expression::Operator;
 use std::alloc::Global;
-use xt_names::{is_name_part, is_name_start, is_space};
-use xt_text::Memory;
+use xt_names::{is_name_part, is_name_start};
+use xt_text::{Memory, is_space};
 
 /// A token at the front of a text, and how many characters it takes.
 #[derive(Clone, Copy)]

@@ -1,7 +1,7 @@
 // Expressions read by descent: each function reads one production (XPath 1.0, productions 1 to 27).
 ghost use Rattle.std.specs.Prelude.{◌≡◌, ◌≤◌, ◌<◌, length, map, IfOk, OnOk, OnErr};
 ghost use Rattle.spec_expression.specs.Grammar as grammar;
-ghost use Rattle.spec_expression.specs.Rank.{rank};
+ghost use Rattle.spec_expression.proofs.Rank.{rank};
 ghost use Rattle.xp_syntax.specs.View.{expr_of, link_of, step_of, test_of};
 
 use crate::build::{
@@ -10,7 +10,8 @@ use crate::build::{
 use crate::fault::ParseFault;
 use crate::read::{Head, Parser, TestHead, axis_of, type_of};
 use crate::token::Sign;
-use spec_expression::{Axis, Level, NodeType, Refusal};
+use spec_document::Axis;
+use spec_expression::{Level, NodeType, Refusal};
 use xp_syntax::{Expr, Link, Step, Test};
 
 impl<'a> Parser<'_, 'a> {

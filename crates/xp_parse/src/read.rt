@@ -5,7 +5,8 @@ ghost use Rattle.spec_expression.specs.Token as plain;
 ghost use Rattle.xp_parse.specs.View.{name_of};
 
 use crate::token::{Name, Sign, Token};
-use spec_expression::{Axis, Level, NodeType, Operator};
+use spec_document::Axis;
+use spec_expression::{Level, NodeType, Operator};
 use std::alloc::Global;
 use xt_names::Scope;
 

@@ -2,25 +2,25 @@
 use Rattle.std.proofs.Common.{◌≡◌, List, [], ◌∷◌, Option, refl, ap, ◌∙◌}
 use Rattle.spec_document.specs.Name.{Expanded}
 use Rattle.spec_expression.specs.Syntax.{Expr}
-use Rattle.xp_syntax.specs.declared.place.ElementPlace.{ElementPlace}
-use Rattle.xp_syntax.specs.Instructions.{Form, Instrs, Instr, Branch, Binding, instrs, branches, bindings}
+use Rattle.spec_stylesheet.specs.Place.{Place}
+use Rattle.spec_stylesheet.specs.Instruction.{Form, Instrs, Instr, Branch, Binding, instrs, branches, bindings}
 
 same_instr : (x y : Instr) → x.place ≡ y.place → x.form ≡ y.form → x ≡ y
 same_instr x y p f =
-    let by_place : ElementPlace → Instr = λ a. record { place = a; form = x.form } in
+    let by_place : Place → Instr = λ a. record { place = a; form = x.form } in
     let by_form : Form → Instr = λ a. record { place = y.place; form = a } in
     ap by_place p ∙ ap by_form f
 
 same_branch : (x y : Branch) → x.place ≡ y.place → x.test ≡ y.test → x.content ≡ y.content → x ≡ y
 same_branch x y p t c =
-    let by_place : ElementPlace → Branch = λ a. record { place = a; test = x.test; content = x.content } in
+    let by_place : Place → Branch = λ a. record { place = a; test = x.test; content = x.content } in
     let by_test : Option Expr → Branch = λ a. record { place = y.place; test = a; content = x.content } in
     let by_content : Instrs → Branch = λ a. record { place = y.place; test = y.test; content = a } in
     ap by_place p ∙ ap by_test t ∙ ap by_content c
 
 same_binding : (x y : Binding) → x.place ≡ y.place → x.name ≡ y.name → x.select ≡ y.select → x.content ≡ y.content → x ≡ y
 same_binding x y p n s c =
-    let by_place : ElementPlace → Binding = λ a. record { place = a; name = x.name; select = x.select; content = x.content } in
+    let by_place : Place → Binding = λ a. record { place = a; name = x.name; select = x.select; content = x.content } in
     let by_name : Expanded → Binding = λ a. record { place = y.place; name = a; select = x.select; content = x.content } in
     let by_select : Option Expr → Binding = λ a. record { place = y.place; name = y.name; select = a; content = x.content } in
     let by_content : Instrs → Binding = λ a. record { place = y.place; name = y.name; select = y.select; content = a } in

@@ -3,7 +3,7 @@ use Rattle.std.proofs.Common.{◌≡◌, ℕ, ◌<◌, ◌≤◌, ◌+◌, List,
 use Rattle.std.specs.Bool.{Decides}
 use Rattle.std.proofs.lemmas.Bool.{false≢true}
 use Rattle.std.proofs.lemmas.List.{take_more, get_or-map, map-append, length-map, take_all}
-use Rattle.spec_expression.specs.declared.Axis.{Axis}
+use Rattle.spec_document.specs.declared.axis.Axis.{Axis}
 use Rattle.spec_expression.specs.declared.Operator.{Operator}
 use Rattle.spec_expression.specs.Syntax.{Test, Expr, Exprs, Link, Step, exprs, links, steps}
 

@@ -1,10 +1,14 @@
--- The trees that the units and stylesheets of the program stand for.
+-- The trees that the rules, units and stylesheets of the program stand for.
 use Rattle.std.specs.Prelude.{map}
-use Rattle.xp_syntax.specs.Sheets as sheets
-use Rattle.xp_syntax.specs.Instructions.{instrs, bindings}
-use Rattle.xp_syntax.specs.View.{expr_of}
-use Rattle.xp_syntax.specs.TreeView.{pattern_of, rules_of, space_rules_of}
+use Rattle.spec_stylesheet.specs.Sheet as sheets
+use Rattle.spec_stylesheet.specs.Instruction.{instrs, bindings}
+use Rattle.xp_syntax.specs.View.{expr_of, test_of}
+use Rattle.xp_syntax.specs.PartView.{place_of, pattern_of}
 use Rattle.xp_syntax.specs.InstrView.{instr_of, binding_of}
+use Rattle.xp_syntax.specs.declared.rule.Rule.{Rule}
+use Rattle.xp_syntax.specs.declared.rules.Rules.{Rules}
+use Rattle.xp_syntax.specs.declared.space_rules.SpaceRule.{SpaceRule}
+use Rattle.xp_syntax.specs.declared.space_rules.SpaceRules.{SpaceRules}
 use Rattle.xp_syntax.specs.declared.unit.Template.{Template}
 use Rattle.xp_syntax.specs.declared.unit.GlobalBinding.{GlobalBinding}
 use Rattle.xp_syntax.specs.declared.unit.AttributeSet.{AttributeSet}
@@ -14,6 +18,26 @@ use Rattle.xp_syntax.specs.declared.unit.Declared.TheVariants as forms
 use Rattle.xp_syntax.specs.declared.unit.Unit.{Unit}
 use Rattle.xp_syntax.specs.declared.sheet.Alias.{Alias}
 use Rattle.xp_syntax.specs.declared.sheet.Sheet.{Sheet}
+
+abbrev pub rule_of : Rule → sheets.Rule
+rule_of r = record {
+  pattern = pattern_of r.pattern;
+  precedence = r.precedence;
+  imported = r.imported;
+  priority = r.priority;
+  order = r.order;
+  mode = r.mode;
+  unit = r.unit;
+}
+
+abbrev pub rules_of : Rules → sheets.Rules
+rules_of rs = record { rules = map rule_of rs.rules.items }
+
+abbrev pub space_rule_of : SpaceRule → sheets.SpaceRule
+space_rule_of r = record { test = test_of r.test; precedence = r.precedence; priority = r.priority; strips = r.strips }
+
+abbrev pub space_rules_of : SpaceRules → sheets.SpaceRules
+space_rules_of rs = record { rules = map space_rule_of rs.rules.items }
 
 abbrev pub template_of : Template → sheets.Template
 template_of t = record { name = t.name; parameters = bindings (map binding_of t.parameters.items); content = instrs (map instr_of t.content.items) }
@@ -34,10 +58,16 @@ declared_of (forms.AttributeSet s) = sheets.ASet (attribute_set_of s)
 declared_of (forms.Key k) = sheets.AKey (key_of k)
 
 abbrev pub unit_of : Unit → sheets.Unit
-unit_of u = record { place = u.place; precedence = u.precedence; declared = declared_of u.declared }
+unit_of u = record { place = place_of u.place; precedence = u.precedence; declared = declared_of u.declared }
 
 abbrev pub alias_of : Alias → sheets.Alias
 alias_of a = record { stylesheet = a.stylesheet; prefix = a.prefix; result = a.result }
 
 abbrev pub sheet_of : Sheet → sheets.Sheet
-sheet_of s = record { units = map unit_of s.units.items; rules = rules_of s.rules; space_rules = space_rules_of s.space_rules; method = s.method; aliases = map alias_of s.aliases.items }
+sheet_of s = record {
+  units = map unit_of s.units.items;
+  rules = rules_of s.rules;
+  space_rules = space_rules_of s.space_rules;
+  method = s.method;
+  aliases = map alias_of s.aliases.items;
+}

@@ -1,8 +1,8 @@
 // Attribute value templates (XSLT 1.0, section 7.6.2).
 ghost use Rattle.std.specs.Prelude.{◌≡◌};
 ghost use Rattle.std.specs.Bool.{Decides};
-ghost use Rattle.xp_syntax.specs.Trees as trees;
-ghost use Rattle.xp_syntax.specs.TreeView.{avt_of, avt_part_of};
+ghost use Rattle.spec_stylesheet.specs.ValueTemplate as trees;
+ghost use Rattle.xp_syntax.specs.PartView.{avt_of, avt_part_of};
 
 use crate::alike::{Alike, all_alike};
 use crate::expr::Expr;

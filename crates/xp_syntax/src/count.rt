@@ -1,29 +1,19 @@
 // How xsl:number counts nodes (XSLT 1.0, section 7.7).
 ghost use Rattle.std.specs.Prelude.{◌≡◌};
 ghost use Rattle.std.specs.Bool.{Decides};
-ghost use Rattle.xp_syntax.specs.TreeView.{count_of};
+ghost use Rattle.xp_syntax.specs.PartView.{count_of};
 
 use crate::alike::both_alike;
 use crate::pattern::Pattern;
+use spec_stylesheet::NumberLevel;
 
 /// How an xsl:number without `value` counts (XSLT 1.0, section 7.7). Without `count` it counts the
 /// nodes of the current node's kind and name, without `from` it starts at the root.
 #[derive(Drop)]
 pub struct Count {
-    pub level: Level,
+    pub level: NumberLevel,
     pub count: Option<Pattern>,
     pub from: Option<Pattern>,
-}
-
-/// Which nodes xsl:number counts (XSLT 1.0, section 7.7).
-#[derive(Clone, Copy, PartialEq, Eq)]
-pub enum Level {
-    /// Siblings of one ancestor-or-self.
-    Single,
-    /// Siblings of each ancestor-or-self.
-    Multiple,
-    /// All nodes up to the current one.
-    Any,
 }
 
 impl Count {

@@ -4,7 +4,8 @@ ghost use Rattle.std.specs.Bool.{Decides};
 ghost use Rattle.spec_expression.specs.Syntax.{exprs, links, steps};
 ghost use Rattle.xp_syntax.specs.View.{expr_of, step_of, test_of, link_of};
 
-use spec_expression::{Axis, NodeType, Operator};
+use spec_document::Axis;
+use spec_expression::{NodeType, Operator};
 use xt_names::Expanded;
 use xt_text::Text;
 

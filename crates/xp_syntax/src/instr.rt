@@ -1,16 +1,16 @@
 // Instructions (XSLT 1.0, sections 5 to 13).
 ghost use Rattle.std.specs.Prelude.{◌≡◌, map};
 ghost use Rattle.std.specs.Bool.{Decides};
-ghost use Rattle.xp_syntax.specs.Instructions.{instrs, bindings, branches};
-ghost use Rattle.xp_syntax.specs.InstrView.{instr_of, form_of, binding_of, branch_of, selection_of};
+ghost use Rattle.spec_stylesheet.specs.Instruction.{instrs, bindings, branches};
+ghost use Rattle.xp_syntax.specs.InstrView.{instr_of, form_of, control_of, binding_of, branch_of, selection_of};
 
 use crate::alike::{all_alike, both_alike};
-use crate::enclosing::Enclosing;
 use crate::expr::Expr;
 use crate::names::same_name;
-use crate::place::ElementPlace;
-use crate::single::Single;
 use crate::sort_key::SortKey;
+use crate::with_content::WithContent;
+use crate::without_content::WithoutContent;
+use xt_base::Place;
 use xt_names::Expanded;
 
 /// An instruction, a literal result element or a text in a template (XSLT 1.0, sections 5 to 13).
@@ -18,7 +18,7 @@ use xt_names::Expanded;
 #[derive(Drop)]
 pub struct Instr {
     /// Where its element stands; of a text in no xsl:text, where the element that holds it does.
-    pub place: ElementPlace,
+    pub place: Place,
     pub form: Form,
 }
 
@@ -27,9 +27,21 @@ pub struct Instr {
 #[derive(Drop)]
 pub enum Form {
     /// An instruction without a content.
-    Single(Single),
-    /// An instruction with one content.
-    Enclosing(Enclosing, Vec<Instr>),
+    WithoutContent(WithoutContent),
+    /// An instruction that makes something of its content.
+    WithContent(WithContent, Vec<Instr>),
+    /// An instruction that says whether, how often or which contents run.
+    Control(Control),
+}
+
+/// An instruction that says whether, how often or which contents run.
+#[cycle(instr)]
+#[derive(Drop)]
+pub enum Control {
+    /// xsl:for-each, with what it selects, how that is sorted, and its content (XSLT 1.0, section 8).
+    ForEach(Expr, Vec<SortKey>, Vec<Instr>),
+    /// xsl:if, with its test and its content (XSLT 1.0, section 9.1).
+    If(Expr, Vec<Instr>),
     /// xsl:choose, with at least one branch (XSLT 1.0, section 9.2).
     Choose(Vec<Branch>),
     /// xsl:apply-templates, with its parameters (XSLT 1.0, section 5.4).
@@ -42,7 +54,7 @@ pub enum Form {
 #[cycle(instr)]
 #[derive(Drop)]
 pub struct Branch {
-    pub place: ElementPlace,
+    pub place: Place,
     pub test: Option<Expr>,
     pub content: Vec<Instr>,
 }
@@ -52,7 +64,7 @@ pub struct Branch {
 #[cycle(instr)]
 #[derive(Drop)]
 pub struct Binding {
-    pub place: ElementPlace,
+    pub place: Place,
     pub name: Expanded,
     pub select: Option<Expr>,
     pub content: Vec<Instr>,
@@ -95,17 +107,42 @@ impl Form {
         ensures { Decides result (form_of self.now ≡ form_of other.now) }
     {
         match (self, other) {
-            (Form::Single(single), Form::Single(other)) => single.same(other),
-            (Form::Enclosing(enclosing, content), Form::Enclosing(other, others)) => {
-                enclosing.same(other) && same_instrs(content.as_slice(), others.as_slice())
+            (Form::WithoutContent(instr), Form::WithoutContent(other)) => instr.same(other),
+            (Form::WithContent(instr, content), Form::WithContent(other, others)) => {
+                instr.same(other) && same_instrs(content.as_slice(), others.as_slice())
             }
-            (Form::Choose(branches), Form::Choose(others)) => {
+            (Form::Control(control), Form::Control(other)) => control.same(other),
+            _ => false,
+        }
+    }
+}
+
+impl Control {
+    /// Whether both are the same tree. Takes no memory.
+    #[cycle(same)]
+    pub fn same(&self, other: &Control) -> bool
+        ensures { Decides result (control_of self.now ≡ control_of other.now) }
+    {
+        match (self, other) {
+            (
+                Control::ForEach(select, keys, content),
+                Control::ForEach(other, other_keys, others),
+            ) => {
+                select.same(other)
+                    && all_alike(keys.as_slice(), other_keys.as_slice())
+                    && same_instrs(content.as_slice(), others.as_slice())
+            }
+            (Control::If(test, content), Control::If(other, others)) => {
+                test.same(other) && same_instrs(content.as_slice(), others.as_slice())
+            }
+            (Control::Choose(branches), Control::Choose(others)) => {
                 same_branches(branches.as_slice(), others.as_slice())
             }
-            (Form::ApplyTemplates(selection, bindings), Form::ApplyTemplates(other, others)) => {
-                selection.same(other) && same_bindings(bindings.as_slice(), others.as_slice())
-            }
-            (Form::CallTemplate(name, bindings), Form::CallTemplate(other, others)) => {
+            (
+                Control::ApplyTemplates(selection, bindings),
+                Control::ApplyTemplates(other, others),
+            ) => { selection.same(other) && same_bindings(bindings.as_slice(), others.as_slice()) }
+            (Control::CallTemplate(name, bindings), Control::CallTemplate(other, others)) => {
                 name.same(other) && same_bindings(bindings.as_slice(), others.as_slice())
             }
             _ => false,

@@ -1,13 +1,13 @@
 // Literal result elements (XSLT 1.0, section 7.1.1).
 ghost use Rattle.std.specs.Prelude.{◌≡◌};
 ghost use Rattle.std.specs.Bool.{Decides};
-ghost use Rattle.xp_syntax.specs.Trees as trees;
-ghost use Rattle.xp_syntax.specs.TreeView.{literal_tag_of, literal_attribute_of};
+ghost use Rattle.spec_stylesheet.specs.Instruction as trees;
+ghost use Rattle.xp_syntax.specs.PartView.{literal_tag_of, literal_attribute_of};
 
 use crate::alike::{Alike, all_alike};
 use crate::avt::Avt;
-use crate::names::{Namespace, same_names};
-use xt_names::Expanded;
+use crate::names::same_names;
+use xt_names::{Expanded, Namespace};
 use xt_text::Text;
 
 /// A literal result element without its content (XSLT 1.0, section 7.1.1).

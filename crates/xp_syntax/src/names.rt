@@ -1,22 +1,13 @@
-// Names that instructions make, and the namespaces for them (XSLT 1.0, section 7.1).
-ghost use Rattle.std.specs.Prelude.{◌≡◌, List};
+// Names that instructions make, and lists of names (XSLT 1.0, section 7.1).
+ghost use Rattle.std.specs.Prelude.{◌≡◌, ℕ, List};
 ghost use Rattle.std.specs.Bool.{Decides};
 ghost use Rattle.spec_document.specs.Name as name;
-ghost use Rattle.xp_syntax.specs.Trees as trees;
-ghost use Rattle.xp_syntax.specs.TreeView.{made_name_of, namespace_of};
+ghost use Rattle.xt_names.specs.View.{entry_of};
+ghost use Rattle.xp_syntax.specs.PartView.{made_name_of};
 
 use crate::alike::{Alike, all_alike, both_alike};
 use crate::avt::Avt;
-use xt_names::Expanded;
-use xt_text::Text;
-
-/// A namespace in scope: its prefix, empty for the default namespace, and its URI (Namespaces in XML
-/// 1.0, section 6).
-#[derive(Drop)]
-pub struct Namespace {
-    pub prefix: Text,
-    pub uri: Text,
-}
+use xt_names::{Expanded, Namespace};
 
 /// The name that an xsl:element or xsl:attribute makes (XSLT 1.0, sections 7.1.2 and 7.1.3).
 #[derive(Drop)]
@@ -28,22 +19,13 @@ pub struct MadeName {
     pub scope: Vec<Namespace>,
 }
 
-impl Namespace {
-    /// Whether both have the same prefix and the same URI. Takes no memory.
-    pub fn same(&self, other: &Namespace) -> bool
-        ensures { Decides result (namespace_of self.now ≡ namespace_of other.now) }
-    {
-        self.prefix.same(&other.prefix) && self.uri.same(&other.uri)
-    }
-}
-
 impl Alike for Namespace {
-    ghost Seen = { trees.Namespace };
+    ghost Seen = { List ℕ × List ℕ };
 
-    ghost seen = { namespace_of };
+    ghost seen = { entry_of };
 
     fn alike(&self, other: &Namespace) -> bool {
-        self.same(other)
+        self.prefix.same(&other.prefix) && self.uri.same(&other.uri)
     }
 }
 

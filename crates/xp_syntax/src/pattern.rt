@@ -1,11 +1,13 @@
 // Patterns (XSLT 1.0, section 5.2).
 ghost use Rattle.std.specs.Prelude.{◌≡◌};
 ghost use Rattle.std.specs.Bool.{Decides};
-ghost use Rattle.xp_syntax.specs.Trees as trees;
-ghost use Rattle.xp_syntax.specs.TreeView.{pattern_of, alternative_of, pattern_step_of};
+ghost use Rattle.spec_stylesheet.specs.Pattern as trees;
+ghost use Rattle.xp_syntax.specs.PartView.{pattern_of, alternative_of, pattern_step_of};
 
 use crate::alike::{Alike, all_alike};
 use crate::expr::Step;
+use crate::names::same_name;
+use spec_stylesheet::Separator;
 use xt_names::Expanded;
 use xt_text::Text;
 
@@ -24,27 +26,7 @@ pub struct Alternative {
 }
 
 /// Where an alternative of a pattern starts (XSLT 1.0, section 5.2).
-#[derive(Drop)]
-pub enum Start {
-    /// At any node: the pattern begins with a step, which has the separator `/`.
-    Anywhere,
-    /// At the root: the pattern begins with `/` or `//`.
-    Root,
-    /// At the elements with one of these IDs: `id('x')`.
-    Id(Text),
-    /// At the nodes that have this value in the keys of this name: `key('k', 'x')`. Without a name,
-    /// where the literal is no name or its prefix is not declared, at no node.
-    Key(Option<Expanded>, Text),
-}
-
-/// What stands before a step of a pattern (XSLT 1.0, section 5.2).
-#[derive(Clone, Copy, PartialEq, Eq)]
-pub enum Separator {
-    /// `/`: the step leads from the node before it.
-    Child,
-    /// `//`: the step leads from the node before it, or from any node below that one.
-    Descendant,
-}
+pub type Start = spec_stylesheet::Start<Text, Expanded>;
 
 /// A step of a pattern, of the child or the attribute axis, with the separator before it.
 #[derive(Drop)]
@@ -53,21 +35,18 @@ pub struct PatternStep {
     pub step: Step,
 }
 
-impl Start {
-    /// Whether both are the same start. Takes no memory.
-    pub fn same(&self, other: &Start) -> bool
-        ensures { Decides result (self.now ≡ other.now) }
-    {
-        match (self, other) {
-            (Start::Anywhere, Start::Anywhere) => true,
-            (Start::Root, Start::Root) => true,
-            (Start::Id(id), Start::Id(other)) => id.same(other),
-            (Start::Key(None, value), Start::Key(None, other)) => value.same(other),
-            (Start::Key(Some(name), value), Start::Key(Some(other_name), other)) => {
-                name.same(other_name) && value.same(other)
-            }
-            _ => false,
+/// Whether both are the same start.
+fn same_start(one: &Start, other: &Start) -> bool
+    ensures { Decides result (one.now ≡ other.now) }
+{
+    match (one, other) {
+        (Start::Anywhere, Start::Anywhere) => true,
+        (Start::Root, Start::Root) => true,
+        (Start::Id(id), Start::Id(other)) => id.same(other),
+        (Start::Key(name, value), Start::Key(other_name, other)) => {
+            same_name(name, other_name) && value.same(other)
         }
+        _ => false,
     }
 }
 
@@ -95,7 +74,8 @@ impl Alternative {
     pub fn same(&self, other: &Alternative) -> bool
         ensures { Decides result (alternative_of self.now ≡ alternative_of other.now) }
     {
-        self.start.same(&other.start) && all_alike(self.steps.as_slice(), other.steps.as_slice())
+        same_start(&self.start, &other.start)
+            && all_alike(self.steps.as_slice(), other.steps.as_slice())
     }
 }
 

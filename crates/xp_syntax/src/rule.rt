@@ -1,8 +1,8 @@
 // Template rules (XSLT 1.0, section 5).
 ghost use Rattle.std.specs.Prelude.{◌≡◌};
 ghost use Rattle.std.specs.Bool.{Decides};
-ghost use Rattle.xp_syntax.specs.Trees as trees;
-ghost use Rattle.xp_syntax.specs.TreeView.{rule_of};
+ghost use Rattle.spec_stylesheet.specs.Sheet as trees;
+ghost use Rattle.xp_syntax.specs.SheetView.{rule_of};
 
 use crate::alike::Alike;
 use crate::names::same_name;

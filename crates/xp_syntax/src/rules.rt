@@ -1,7 +1,7 @@
 // The template rules of a stylesheet (XSLT 1.0, section 5).
 ghost use Rattle.std.specs.Prelude.{◌≡◌};
 ghost use Rattle.std.specs.Bool.{Decides};
-ghost use Rattle.xp_syntax.specs.TreeView.{rules_of};
+ghost use Rattle.xp_syntax.specs.SheetView.{rules_of};
 
 use crate::alike::all_alike;
 use crate::rule::Rule;

@@ -1,7 +1,7 @@
 // Stylesheets (XSLT 1.0, section 2).
 ghost use Rattle.std.specs.Prelude.{◌≡◌};
 ghost use Rattle.std.specs.Bool.{Decides};
-ghost use Rattle.xp_syntax.specs.Sheets as sheets;
+ghost use Rattle.spec_stylesheet.specs.Sheet as sheets;
 ghost use Rattle.xp_syntax.specs.SheetView.{sheet_of, alias_of};
 
 use crate::alike::{Alike, all_alike};
@@ -24,14 +24,7 @@ pub struct Sheet {
 }
 
 /// An output method (XSLT 1.0, section 16).
-#[derive(Drop)]
-pub enum Method {
-    Xml,
-    Html,
-    Text,
-    /// A name with a prefix.
-    Other(Expanded),
-}
+pub type Method = spec_stylesheet::Method<Expanded>;
 
 /// An xsl:namespace-alias that counts (XSLT 1.0, section 7.1.1).
 #[derive(Drop)]
@@ -42,21 +35,6 @@ pub struct Alias {
     pub prefix: Text,
     /// The URI in the result.
     pub result: Text,
-}
-
-impl Method {
-    /// Whether both are the same method. Takes no memory.
-    pub fn same(&self, other: &Method) -> bool
-        ensures { Decides result (self.now ≡ other.now) }
-    {
-        match (self, other) {
-            (Method::Xml, Method::Xml) => true,
-            (Method::Html, Method::Html) => true,
-            (Method::Text, Method::Text) => true,
-            (Method::Other(name), Method::Other(other)) => name.same(other),
-            _ => false,
-        }
-    }
 }
 
 impl Alias {
@@ -99,7 +77,10 @@ fn same_method(one: &Option<Method>, other: &Option<Method>) -> bool
 {
     match (one, other) {
         (None, None) => true,
-        (Some(method), Some(other)) => method.same(other),
+        (Some(Method::Xml), Some(Method::Xml)) => true,
+        (Some(Method::Html), Some(Method::Html)) => true,
+        (Some(Method::Text), Some(Method::Text)) => true,
+        (Some(Method::Other(name)), Some(Method::Other(other))) => name.same(other),
         _ => false,
     }
 }

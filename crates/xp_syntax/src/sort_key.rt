@@ -1,19 +1,19 @@
 // Sort keys (XSLT 1.0, section 10).
 ghost use Rattle.std.specs.Prelude.{◌≡◌};
 ghost use Rattle.std.specs.Bool.{Decides};
-ghost use Rattle.xp_syntax.specs.Trees as trees;
-ghost use Rattle.xp_syntax.specs.TreeView.{sort_key_of};
+ghost use Rattle.spec_stylesheet.specs.Instruction as trees;
+ghost use Rattle.xp_syntax.specs.PartView.{sort_key_of};
 
 use crate::alike::Alike;
 use crate::avt::Avt;
 use crate::expr::Expr;
-use crate::place::ElementPlace;
+use xt_base::Place;
 
 /// An xsl:sort (XSLT 1.0, section 10). A missing attribute has its default here: `.`, `text`,
 /// `ascending`.
 #[derive(Drop)]
 pub struct SortKey {
-    pub place: ElementPlace,
+    pub place: Place,
     pub select: Expr,
     pub data_type: Avt,
     pub order: Avt,

@@ -1,8 +1,8 @@
 // Which elements lose their texts of white space (XSLT 1.0, section 3.4).
 ghost use Rattle.std.specs.Prelude.{◌≡◌};
 ghost use Rattle.std.specs.Bool.{Decides};
-ghost use Rattle.xp_syntax.specs.Trees as trees;
-ghost use Rattle.xp_syntax.specs.TreeView.{space_rules_of, space_rule_of};
+ghost use Rattle.spec_stylesheet.specs.Sheet as trees;
+ghost use Rattle.xp_syntax.specs.SheetView.{space_rules_of, space_rule_of};
 
 use crate::alike::{Alike, all_alike};
 use crate::expr::Test;

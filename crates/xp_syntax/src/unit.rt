@@ -1,7 +1,7 @@
 // What a stylesheet declares one by one (XSLT 1.0, sections 5, 6, 7.1.4, 11 and 12.2).
 ghost use Rattle.std.specs.Prelude.{◌≡◌};
 ghost use Rattle.std.specs.Bool.{Decides};
-ghost use Rattle.xp_syntax.specs.Sheets as sheets;
+ghost use Rattle.spec_stylesheet.specs.Sheet as sheets;
 ghost use Rattle.xp_syntax.specs.SheetView.{unit_of, declared_of, template_of, global_of, attribute_set_of, key_of};
 
 use crate::alike::Alike;
@@ -9,14 +9,15 @@ use crate::expr::Expr;
 use crate::instr::{Binding, Instr, same_bindings, same_instrs};
 use crate::names::{same_name, same_names};
 use crate::pattern::Pattern;
-use crate::place::ElementPlace;
+use xt_base::Place;
 use xt_names::Expanded;
 
 /// A template, a global variable or parameter, an attribute set or a key: an element at the top of a
 /// stylesheet that is run by itself.
 #[derive(Drop)]
 pub struct Unit {
-    pub place: ElementPlace,
+    /// Where its element stands; it always has a module.
+    pub place: Place,
     /// The import precedence of its stylesheet, higher for what counts more (XSLT 1.0, section 2.6.2).
     pub precedence: u64,
     pub declared: Declared,

@@ -8,11 +8,11 @@
 #![tactic(auto)]
 
 mod language;
-mod parts;
-mod places;
+mod positions;
 mod rewriting;
+mod search;
 
 pub use language::lang_matches;
-pub use parts::{concat, length, substring};
-pub use places::{after, before, contains, starts_with};
-pub use rewriting::{normalize, translate};
+pub use positions::{length, substring};
+pub use rewriting::{concat, normalize, translate};
+pub use search::{after, before, contains, starts_with};

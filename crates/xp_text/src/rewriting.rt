@@ -1,11 +1,22 @@
-// Texts rewritten character by character.
+// Texts put together, and rewritten character by character.
 ghost use Rattle.std.specs.Prelude.{◌≡◌, ◌++◌, [], ◌∷◌, ◌&&◌, ◌==◌, not, length, IfOk, OnOk, option_to_list, if◌then◌else◌};
+ghost use Rattle.std.specs.List.{concat};
 ghost use Rattle.std.specs.Str.{chars};
-ghost use Rattle.spec_document.specs.Character.{is_space};
 ghost use Rattle.spec_expression.specs.Strings.{normalized, translation_of, translated};
 
 use std::alloc::Global;
-use xt_text::{Memory, Text};
+use xt_text::{Memory, Text, is_space};
+
+/// The parts one after another (`concat`).
+pub fn concat(alloc: Global, parts: &[Text]) -> Result<Text, Memory>
+    ensures { IfOk result (λ t. t ≡ concat parts.now) }
+{
+    let mut whole = Text::new(alloc);
+    for part in parts {
+        whole.push_str(part.as_str())?;
+    }
+    Ok(whole)
+}
 
 /// The words of the text, parted by one space (`normalize-space`). A word is what stands between white space.
 pub fn normalize(alloc: Global, text: &str) -> Result<Text, Memory>
@@ -32,12 +43,6 @@ fn push_word_part(normal: &mut Text, is_apart: bool, character: char) -> Result<
         normal.push(' ')?;
     }
     normal.push(character)
-}
-
-fn is_space(character: char) -> bool
-    ensures { result ≡ is_space character }
-{
-    matches!(character, ' ' | '\t' | '\r' | '\n')
 }
 
 /// The text with each character replaced (`translate`): by the one of `to` at the first place that it has in

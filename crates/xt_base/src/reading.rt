@@ -3,11 +3,11 @@ ghost use Rattle.std.specs.Prelude.{◌≡◌, ◌&&◌, ◌==◌, ◌+◌, leng
 ghost use Rattle.std.specs.List.{list_all, before_first, after_first, position};
 ghost use Rattle.std.specs.Char.{is_ascii_digit};
 ghost use Rattle.std.specs.Str.Parse.{digits_value};
-ghost use Rattle.spec_document.specs.Character.{is_space};
 ghost use Rattle.spec_expression.specs.Number.{greatest, is_point, trimmed, without_front, without_end, signed_number, unsigned_number, number_of};
 ghost use Rattle.xt_base.specs.Fault.{Gives};
 
 use crate::{Num, NumFault};
+use xt_text::is_space;
 
 /// The greatest value of a numeral.
 const GREATEST: u64 = 9_007_199_254_740_991;
@@ -41,7 +41,7 @@ fn without_front(text: &[u8]) -> &[u8]
     ensures { result.now ≡ without_front text.now }
 {
     let mut start = 0;
-    while start < text.len() && is_space(text[start]) {
+    while start < text.len() && is_space(char::from(text[start])) {
         start += 1;
     }
     &text[start..]
@@ -51,16 +51,10 @@ fn without_end(text: &[u8]) -> &[u8]
     ensures { result.now ≡ without_end text.now }
 {
     let mut end = text.len();
-    while end > 0 && is_space(text[end - 1]) {
+    while end > 0 && is_space(char::from(text[end - 1])) {
         end -= 1;
     }
     &text[..end]
-}
-
-fn is_space(byte: u8) -> bool
-    ensures { result ≡ is_space byte }
-{
-    matches!(byte, b' ' | b'\t' | b'\r' | b'\n')
 }
 
 /// The number of a text without sign: of a numeral, or NaN.

@@ -2,6 +2,7 @@
 use Rattle.std.proofs.Common.{min, true, false, ltb-true, ltb-false, zero, suc, subst, length-append, ◌≡◌, ◌≤◌, ◌<◌, ℕ, ◌+◌, ◌-◌, ◌^◌, List, [], ◌∷◌, ◌++◌, map, drop, length, Option, Some, None, Result, Ok, Err, refl, sym, ap, ◌∙◌, arith, inl, inr}
 use Rattle.std.proofs.lemmas.List.{drop_all}
 use Rattle.std.specs.Prelude.{◌⊎◌, nat_lt}
+use Rattle.spec_document.specs.declared.parent.Parent.{Parent}
 use Rattle.spec_document.specs.Scope.{Scope}
 use Rattle.spec_document.specs.Forest.{Forest, Empty, Node, labels, size, numbered}
 use Rattle.spec_document.specs.Fault.{Fault, least, answer_of}
@@ -10,7 +11,7 @@ use Rattle.spec_document.specs.Balance.{LineNumbers, unbalanced_line, forest_of}
 use Rattle.spec_document.specs.Top.{top_faults, kept, without_texts}
 use Rattle.spec_document.specs.NodeFaults.{node_faults}
 use Rattle.spec_document.specs.Numbering.{number_faults, number_limit}
-use Rattle.spec_document.specs.Document.{made_of, nodes_by, document_by}
+use Rattle.spec_document.specs.Document.{made_of, nodes_by, document_by, depth_of, elements_beside}
 use Rattle.xt_build.specs.Least.{merged}
 use Rattle.xt_build.proofs.Least.{merged-assoc, least-append}
 
@@ -79,11 +80,20 @@ made make body f none some =
     answer_least (line_faults body) (made_of make (events_at body)) None none
     ∙ ap (λ o. elim o [ None ↦ Err (record { number = 9; line = unbalanced_line None [] (events_at body) }) | Some forest ↦ make forest ]) some
 
+-- the siblings below a parent at this depth, which where it is a root has so many elements besides
+abbrev pub nodes_below : Scope → ℕ → ℕ → Option ℕ → Forest LineNumbers → Result (Forest ℕ) Fault
+nodes_below scope first depth others f =
+    answer_of (top_faults others f ++ node_faults scope (depth + 1) f ++ number_faults first (map (λ l. l.first) (labels (kept others f)))) (Ok (numbered first (kept others f)))
+
+pub nodes_by-below : (scope : Scope) (first : ℕ) (parent : Parent) (depth : ℕ) (others : Option ℕ) (f : Forest LineNumbers) → depth ≡ depth_of parent
+    → others ≡ elements_beside parent → nodes_by scope first parent f ≡ nodes_below scope first depth others f
+nodes_by-below scope first parent depth others f d o = λ i. nodes_below scope first (sym d i) (sym o i) f
+
 -- the siblings: no fault is found, or this one
 pub nodes_made : (scope : Scope) (first depth : ℕ) (others : Option ℕ) (f : Forest LineNumbers) (top names found : Option Fault)
     → top ≡ least (top_faults others f) → names ≡ merged top (least (node_faults scope (depth + 1) f))
     → found ≡ merged names (least (number_faults first (map (λ l. l.first) (labels (kept others f)))))
-    → nodes_by scope first depth others f ≡ elim found [ None ↦ Ok (numbered first (kept others f)) | Some fault ↦ Err fault ]
+    → nodes_below scope first depth others f ≡ elim found [ None ↦ Ok (numbered first (kept others f)) | Some fault ↦ Err fault ]
 nodes_made scope first depth others f top names found t n m =
     let lines = map (λ l. l.first) (labels (kept others f)) in
     let is = m ∙ ap (λ a. merged a (least (number_faults first lines))) (n ∙ ap (λ a. merged a (least (node_faults scope (depth + 1) f))) t) in
@@ -140,7 +150,7 @@ document_made scope first second f top names root found next t n r m =
     ∙ found_together tops named (number_faults first (0 ∷ lines)) in
     answer_least _ (Ok (record { root = first; nodes = numbered (first + 1) (without_texts f) })) found (sym together)
 
-size_numbered : {L : Type 0} (n : ℕ) (f : Forest L) → size (numbered n f) ≡ size f
+pub size_numbered : {L : Type 0} (n : ℕ) (f : Forest L) → size (numbered n f) ≡ size f
 size_numbered n Empty = refl
 size_numbered n (Node label content children siblings) =
     let below = size_numbered (n + 1) children in let behind = size_numbered (n + 1 + size children) siblings in omega (arith, below, behind)

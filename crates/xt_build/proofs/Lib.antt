@@ -5,7 +5,6 @@ pub mod Building
 pub mod Counting
 pub mod Declared
 pub mod Fronts
-pub mod Keys
 pub mod Least
 pub mod Levels
 pub mod Making
@@ -19,5 +18,4 @@ pub mod RoundTripForest
 pub mod RoundTripLines
 pub mod Runs
 pub mod Stacks
-pub mod Words
 pub mod Writing

@@ -6,10 +6,10 @@ use denote.Enum.Bare.{sameb}
 use Rattle.spec_document.specs.contracts.kind.Kind.{the_type}
 use Rattle.spec_document.specs.declared.kind.Kind.TheVariants as kind
 use Rattle.spec_document.specs.Place.{kind_by}
-use Rattle.spec_document.specs.Forest.{Forest, Empty, Node, Written, Content, Element, Text, Comment, Instruction, numbered, size}
+use Rattle.spec_document.specs.Forest.{Forest, Empty, Node, Written, Content, Element, Text, Comment, Instruction, followed, numbered, size}
 use Rattle.spec_document.specs.Balance.{LineNumbers}
 use Rattle.spec_document.specs.Top.{kept}
-use Rattle.xt_tree.specs.View.{content_of, followed}
+use Rattle.xt_tree.specs.View.{content_of}
 use Rattle.xt_build.specs.Piece.{node_before}
 use Rattle.xt_build.proofs.OpenNodes.{close, close_all, behind, coming, whole, followed-empty, followed-assoc, close_all-append, level}
 use Rattle.xt_build.proofs.Stacks.{is_element}
@@ -46,6 +46,11 @@ whole-ends os o done n others s =
 
 pub size-ends : (others : Option ℕ) (s : List (Forest LineNumbers)) → open_size (kept_open others (Empty ∷ s)) ≡ open_size (kept_open others s)
 size-ends others s = let e = ap open_size (kept-ends others s) in omega (arith, e)
+
+-- nothing is left after the last piece
+pub size-end : (others : Option ℕ) → open_size (kept_open others (Empty ∷ [])) ≡ 0
+size-end None = refl
+size-end (Some n) = refl
 
 -- a node that is no element. It is kept unless it is a text at the top of a root
 kept-leaf : (others : Option ℕ) (l : LineNumbers) (c : Content) (f g : Forest LineNumbers) → (is_text c && is_some others) ≡ false

@@ -1,8 +1,8 @@
 -- Elements that are open: what they make of the nodes that are done and of those that are still to come.
 use Rattle.std.proofs.Common.{◌≡◌, ℕ, suc, ◌+◌, ◌-◌, List, [], ◌∷◌, ◌++◌, length, Option, refl, ap, arith}
-use Rattle.spec_document.specs.Forest.{Forest, Empty, Node, size}
+use Rattle.spec_document.specs.Forest.{Forest, Empty, Node, followed, size}
 use Rattle.spec_document.specs.Balance.{LineNumbers}
-use Rattle.xt_tree.specs.View.{content_of, followed}
+use Rattle.xt_tree.specs.View.{content_of}
 use Rattle.xt_build.specs.Left.{kept_open, open_numbered}
 use Rattle.xt_build.specs.declared.make.Open.{Open}
 

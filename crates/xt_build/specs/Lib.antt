@@ -4,5 +4,4 @@ pub mod Least
 pub mod Left
 pub mod Names
 pub mod Piece
-pub mod Seen
 pub mod View

@@ -5,6 +5,7 @@ use Rattle.std.specs.declared.vec.Vec.{Vec}
 use Rattle.std.specs.declared.alloc.Global.{Global}
 use Rattle.std.specs.Option.{option_map}
 use Rattle.spec_document.specs.declared.event.Event.{Event}
+use Rattle.spec_document.specs.Forest.{Forest, Document}
 use Rattle.spec_document.specs.Pyx.{event_of}
 use Rattle.spec_document.specs.Fault.{Fault, least, answer_of}
 use Rattle.spec_document.specs.Body.{line_faults, events_at, is_bad}
@@ -12,6 +13,8 @@ use Rattle.spec_document.specs.Balance.{forest_of}
 use Rattle.spec_document.specs.Document.{made_of}
 use Rattle.xt_text.specs.declared.memory.Memory.{Memory}
 use Rattle.xt_base.specs.Code.{edit_number}
+use Rattle.xt_build.specs.declared.document.Built.{Built}
+use Rattle.xt_build.specs.declared.document.BuiltNodes.{BuiltNodes}
 use Rattle.xt_build.specs.declared.fault.BuildFault.{BuildFault}
 use Rattle.xt_build.specs.declared.fault.BuildFault.TheVariants as variant
 use Rattle.xt_build.specs.declared.fault.Fault.{Fault as Found}
@@ -29,11 +32,17 @@ fault_of f = record { number = edit_number f.code; line = f.line }
 abbrev pub found_of : Option Found → Option Fault
 found_of found = option_map fault_of found
 
--- the call gives the defined answer, a value or a fault. Want of memory is free
-abbrev pub Gives : {A : Type 0} → Result A BuildFault → Result A Fault → Type 0
-Gives (Ok value) answer = answer ≡ Ok value
-Gives (Err variant.Memory) answer = Unit {0}
-Gives (Err (variant.Refused finding)) answer = answer ≡ Err (fault_of finding)
+-- what is built is the defined answer, or its fault is. Want of memory is free
+abbrev pub Builds : {B A : Type 0} → (B → A) → Result B BuildFault → Result A Fault → Type 0
+Builds value_in (Ok built) answer = answer ≡ Ok (value_in built)
+Builds value_in (Err variant.Memory) answer = Unit {0}
+Builds value_in (Err (variant.Refused finding)) answer = answer ≡ Err (fault_of finding)
+
+abbrev pub document_in : Built → Document ℕ
+document_in built = built.document
+
+abbrev pub nodes_in : BuiltNodes → Forest ℕ
+nodes_in built = built.nodes
 
 -- an event with its line
 abbrev pub located_of : Located → ℕ × Event (List ℕ)

@@ -1,8 +1,10 @@
 // From lines to documents.
-ghost use Rattle.std.specs.Prelude.{◌≡◌};
+ghost use Rattle.std.specs.Prelude.{◌≡◌, ◌+◌, IfOk};
+ghost use Rattle.spec_document.specs.Forest.{size};
+ghost use Rattle.spec_document.specs.Document as spec;
 ghost use Rattle.spec_document.specs.Document.{document_by, document_of, nodes_by, nodes_of};
 ghost use Rattle.xt_build.specs.Piece.{forest_in, IsWhole};
-ghost use Rattle.xt_build.specs.View.{Gives, pieces_of, ReadsPieces};
+ghost use Rattle.xt_build.specs.View.{Builds, document_in, nodes_in, pieces_of, ReadsPieces};
 
 use crate::balance::unbalanced;
 use crate::make::make_nodes;
@@ -12,11 +14,28 @@ use crate::piece::{Piece, pieces};
 use crate::read::read_events;
 use crate::top::check_top;
 use crate::{BuildFault, Fault};
+use spec_document::Parent;
 use std::alloc::Global;
 use xt_base::EditCode;
 use xt_io::Line;
 use xt_names::Scope;
 use xt_tree::{Doc, NodeId, Nodes};
+
+/// A document, and the first number that none of its nodes has.
+#[derive(Drop)]
+pub struct Built {
+    pub document: Doc,
+    /// The number after the last.
+    pub next: NodeId,
+}
+
+/// Siblings, and the first number that none of them has, nor any node below them.
+#[derive(Drop)]
+pub struct BuiltNodes {
+    pub nodes: Nodes,
+    /// The number after the last.
+    pub next: NodeId,
+}
 
 /// The document of the lines, its names read in this scope, its nodes numbered in document order from
 /// `first` on, the root first. Else the least fault of the lines: a line that is not UTF-8 or no line of
@@ -24,8 +43,14 @@ use xt_tree::{Doc, NodeId, Nodes};
 /// white space; a bad name, prefix or declaration; an element at depth 257; a node that would have the
 /// number 2^62; an element with two attributes of one name (XML 1.0, sections 2 and 3; Namespaces in XML
 /// 1.0, sections 3 to 6).
-pub fn build(alloc: Global, body: &[Line], scope: &Scope, first: NodeId) -> Result<Doc, BuildFault>
-    ensures { Gives result (document_of scope.now first.number body.now) }
+pub fn build(
+    alloc: Global,
+    body: &[Line],
+    scope: &Scope,
+    first: NodeId,
+) -> Result<Built, BuildFault>
+    ensures answer { Builds document_in result (document_of scope.now first.number body.now) }
+    ensures next { IfOk result (λ built. built.next.number ≡ first.number + 1 + size built.document.nodes) }
 {
     let pieces = read_pieces(alloc, body)?;
     document(alloc, pieces, scope, first)
@@ -37,9 +62,10 @@ fn document(
     pieces: Vec<Piece>,
     scope: &Scope,
     first: NodeId,
-) -> Result<Doc, BuildFault>
+) -> Result<Built, BuildFault>
     requires { IsWhole (pieces_of pieces.items) }
-    ensures { Gives result (document_by scope.now first.number (forest_in (pieces_of pieces.items))) }
+    ensures answer { Builds document_in result (document_by scope.now first.number (forest_in (pieces_of pieces.items))) }
+    ensures next { IfOk result (λ built. built.next.number ≡ first.number + 1 + size built.document.nodes) }
 {
     let whole = pieces.as_slice();
     let mut found = None;
@@ -51,24 +77,45 @@ fn document(
     if let Some(fault) = found {
         return Err(BuildFault::Refused(fault));
     }
-    let nodes = make_nodes(alloc, pieces, Some(0), second)?;
-    Ok(Doc::numbered(first, nodes))
+    let built = make_nodes(alloc, pieces, Some(0), second)?;
+    let next = built.next;
+    let document = Doc::numbered(first, built.nodes);
+    Ok(Built { document, next })
 }
 
-/// The same for siblings that are to stand below a parent of this depth with this scope inside. Where
-/// the parent is a root, `elements` is the number of elements that it has besides them.
+/// The same for siblings that are to stand below this parent, with this scope inside it.
 pub fn build_nodes(
     alloc: Global,
     body: &[Line],
     scope: &Scope,
     first: NodeId,
-    depth: u64,
-    elements: Option<u64>,
-) -> Result<Nodes, BuildFault>
-    ensures { Gives result (nodes_of scope.now first.number depth elements body.now) }
+    parent: Parent,
+) -> Result<BuiltNodes, BuildFault>
+    ensures answer { Builds nodes_in result (nodes_of scope.now first.number parent body.now) }
+    ensures next { IfOk result (λ built. built.next.number ≡ first.number + size built.nodes) }
 {
     let pieces = read_pieces(alloc, body)?;
-    siblings(alloc, pieces, scope, first.number, depth, elements)
+    siblings(alloc, pieces, scope, first.number, parent)
+}
+
+// How many elements a root has besides; None below an element.
+fn elements_beside(parent: Parent) -> Option<u64>
+    ensures { result ≡ spec.elements_beside parent }
+{
+    match parent {
+        Parent::Root { elements } => Some(elements),
+        Parent::Element { .. } => None,
+    }
+}
+
+// How deep the parent is.
+fn depth_of(parent: Parent) -> u64
+    ensures { result ≡ spec.depth_of parent }
+{
+    match parent {
+        Parent::Root { .. } => 0,
+        Parent::Element { depth } => depth,
+    }
 }
 
 // The siblings of these pieces, or the least of their faults.
@@ -77,16 +124,17 @@ fn siblings(
     pieces: Vec<Piece>,
     scope: &Scope,
     first: u64,
-    depth: u64,
-    elements: Option<u64>,
-) -> Result<Nodes, BuildFault>
+    parent: Parent,
+) -> Result<BuiltNodes, BuildFault>
     requires { IsWhole (pieces_of pieces.items) }
-    ensures { Gives result (nodes_by scope.now first depth elements (forest_in (pieces_of pieces.items))) }
+    ensures answer { Builds nodes_in result (nodes_by scope.now first parent (forest_in (pieces_of pieces.items))) }
+    ensures next { IfOk result (λ built. built.next.number ≡ first + size built.nodes) }
 {
+    let elements = elements_beside(parent);
     let whole = pieces.as_slice();
     let mut found = None;
     check_top(alloc, whole, elements, &mut found)?;
-    check_nodes(alloc, whole, scope, depth, &mut found)?;
+    check_nodes(alloc, whole, scope, depth_of(parent), &mut found)?;
     check_numbers(whole, elements, first, &mut found);
     if let Some(fault) = found {
         return Err(BuildFault::Refused(fault));

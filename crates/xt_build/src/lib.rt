@@ -4,9 +4,9 @@
 //! definitions.
 //!
 //! ```text
-//! let doc = build(alloc, &body, &Scope::root(alloc)?, NodeId { number: 0 })?;
+//! let built = build(alloc, &body, &Scope::root(alloc)?, NodeId { number: 0 })?;
 //! // Err(Refused(Fault { code: Unbalanced, line: 3 })): line 3 may not follow those before it
-//! let again = lines(alloc, &doc)?;   // lines that make this document again
+//! let again = lines(alloc, &built.document)?;   // lines that make this document again
 //! ```
 #![tactic(auto)]
 
@@ -18,11 +18,11 @@ mod names;
 mod numbers;
 mod piece;
 mod read;
-mod seen;
 mod top;
 mod write;
 
-pub use document::{build, build_nodes};
+pub use document::{Built, BuiltNodes, build, build_nodes};
 pub use fault::{BuildFault, Fault};
 pub use write::lines;
+pub use spec_document::Parent;
 pub use xt_io::Line;

@@ -4,13 +4,13 @@ ghost use Rattle.spec_document.specs.Forest.{numbered, size};
 ghost use Rattle.spec_document.specs.Top.{kept};
 ghost use Rattle.xt_build.specs.Piece.{forest_in, IsWhole};
 ghost use Rattle.xt_build.specs.View.{pieces_of};
-ghost use Rattle.xt_tree.specs.View.{tree_of, content_of};
 
+use crate::BuiltNodes;
 use crate::numbers::is_dropped;
 use crate::piece::Piece;
 use std::alloc::Global;
 use xt_text::Memory;
-use xt_tree::{Content, Kind, Node, NodeId, Nodes};
+use xt_tree::{Content, Kind, NodeId, Nodes};
 
 // An element that is open: its number, what it is, and the siblings before it.
 #[derive(Drop)]
@@ -20,17 +20,18 @@ struct Open {
     before: Nodes,
 }
 
-/// The nodes of the pieces, numbered in document order from `first` on. Texts at the top of a root are
-/// dropped.
+/// The nodes of the pieces, numbered in document order from `first` on, and the next number. Texts at
+/// the top of a root are dropped.
 pub(crate) fn make_nodes(
     alloc: Global,
     pieces: Vec<Piece>,
     others: Option<u64>,
     first: u64,
-) -> Result<Nodes, Memory>
+) -> Result<BuiltNodes, Memory>
     requires whole { IsWhole (pieces_of pieces.items) }
     requires numbers { first + size (kept others (forest_in (pieces_of pieces.items))) < 2 ^ 64 }
-    ensures { IfOk result (λ nodes. nodes ≡ numbered first (kept others (forest_in (pieces_of pieces.items)))) }
+    ensures nodes { IfOk result (λ built. built.nodes ≡ numbered first (kept others (forest_in (pieces_of pieces.items)))) }
+    ensures next { IfOk result (λ built. built.next.number ≡ first + size (kept others (forest_in (pieces_of pieces.items)))) }
 {
     let mut next = first;
     let mut open: Vec<Open> = Vec::new(alloc);
@@ -39,9 +40,12 @@ pub(crate) fn make_nodes(
         match piece {
             Piece::Ends => {
                 if let Some(element) = open.pop() {
-                    let made = node(element.number, element.content, nodes);
+                    let id = NodeId {
+                        number: element.number,
+                    };
+                    let children = nodes;
                     nodes = element.before;
-                    nodes.push(alloc, made)?;
+                    nodes.push(alloc, id, element.content, children)?;
                 }
             }
             Piece::Begins {
@@ -60,21 +64,15 @@ pub(crate) fn make_nodes(
                     })?;
                     nodes = Nodes::new(alloc);
                 } else {
-                    nodes.push(alloc, node(next, content, Nodes::new(alloc)))?;
+                    let id = NodeId { number: next };
+                    nodes.push(alloc, id, content, Nodes::new(alloc))?;
                 }
                 next += 1;
             }
         }
     }
-    Ok(nodes)
-}
-
-fn node(number: u64, content: Content, children: Nodes) -> Node
-    ensures { tree_of result ≡ record { number = number; content = content_of content; children = children } }
-{
-    Node {
-        id: NodeId { number },
-        content,
-        children: children.into_list(),
-    }
+    Ok(BuiltNodes {
+        nodes,
+        next: NodeId { number: next },
+    })
 }

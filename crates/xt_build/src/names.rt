@@ -1,11 +1,11 @@
 // The faults of nodes themselves: of their names, declarations and attributes, and of their depth
 // (Namespaces in XML 1.0, sections 3, 5 and 6).
-ghost use Rattle.std.specs.Prelude.{◌≡◌, ◌+◌, [], ◌||◌, ◌&&◌, not, List, map, nat_lt, slice_index, IfOk, OnOk, bytes_eq};
+ghost use Rattle.std.specs.Prelude.{◌≡◌, ◌+◌, [], List, map, nat_lt, slice_index, IfOk, OnOk};
 ghost use Rattle.std.specs.List.{list_any};
 ghost use Rattle.std.specs.Option.{option_copied};
 ghost use Rattle.spec_document.specs.Scope as spec;
 ghost use Rattle.spec_document.specs.Forest.{Forest};
-ghost use Rattle.spec_document.specs.Declaration.{declared_all, is_declaration as declares, is_barred, is_there, is_xml, is_xmlns, xmlns_uri, is_reserved_target};
+ghost use Rattle.spec_document.specs.Declaration.{declared_all, is_declaration as declares};
 ghost use Rattle.spec_document.specs.Fault.{least};
 ghost use Rattle.spec_document.specs.Balance.{LineNumbers};
 ghost use Rattle.spec_document.specs.NodeFaults.{greatest_depth, is_wrong_element, is_wrong_target, is_wrong_use, expanded_by, attribute_faults, node_faults};
@@ -19,11 +19,13 @@ ghost use Rattle.xt_build.specs.View.{found_of, piece_of, pieces_of};
 use crate::Fault;
 use crate::fault::keep_if;
 use crate::piece::Piece;
-use crate::seen::Seen;
 use std::alloc::Global;
 use std::rc::Rc;
 use xt_base::EditCode;
-use xt_names::{Expanded, QName, Scope, Use, is_declaration, is_ncname, use_of};
+use xt_names::{
+    AttributeNames, Expanded, QName, Scope, Use, is_barred, is_declaration, is_ncname,
+    is_reserved_target, use_of,
+};
 use xt_text::{Memory, Text};
 use xt_tree::{Content, Written};
 
@@ -149,13 +151,7 @@ fn is_wrong_element(alloc: Global, scope: &Scope, name: &Text) -> Result<bool, M
 fn is_wrong_target(target: &Text) -> bool
     ensures { result ≡ is_wrong_target target.now }
 {
-    !is_ncname(target.as_str()) || is_reserved(target)
-}
-
-fn is_reserved(target: &Text) -> bool
-    ensures { result ≡ is_reserved_target target.now }
-{
-    target.as_str().eq_ignore_ascii_case("xml")
+    !is_ncname(target.as_str()) || is_reserved_target(target.as_str())
 }
 
 // Finds the faults of an element's attributes, whose names are read in the scope inside it.
@@ -168,14 +164,15 @@ fn check_attributes(
 ) -> Result<(), Memory>
     ensures { OnOk result (found_of found.new ≡ merged (found_of found.old) (least (attribute_faults scope.now [] lines.now (map written_of attributes.now)))) }
 {
-    let mut seen = Seen::new(alloc);
+    let mut names = AttributeNames::new(alloc);
     for (i, attribute) in attributes.iter().enumerate() {
         let line = line_at(lines, i);
-        let usage = use_of(alloc, attribute.name.as_str())?;
+        let written = attribute.name.as_str();
+        let usage = use_of(alloc, written)?;
         let name = expanded(alloc, scope, &usage)?;
         let is_wrong = is_wrong(&usage, name.as_ref(), &attribute.value);
         keep_if(found, is_wrong, EditCode::BadName, line);
-        let is_double = seen.insert(alloc, &attribute.name, name.as_ref())?;
+        let is_double = names.insert(alloc, written, name.as_ref())?;
         keep_if(found, is_double, EditCode::DoubleAttribute, line);
     }
     Ok(())
@@ -203,36 +200,8 @@ fn is_wrong(usage: &Use, name: Option<&Expanded>, value: &Text) -> bool
     ensures { (scope : spec.Scope) → option_copied name.entry ≡ expanded_by scope usage.now → result ≡ is_wrong_use scope usage.now value.now }
 {
     match usage {
-        Use::Declares { prefix } => is_barred(prefix, value),
+        Use::Declares { prefix } => is_barred(prefix.as_str(), value.as_str()),
         Use::Names { .. } => name.is_none(),
         Use::NoName => true,
     }
-}
-
-// Whether no such declaration may stand.
-fn is_barred(prefix: &Text, uri: &Text) -> bool
-    ensures { result ≡ is_barred prefix.now uri.now }
-{
-    undeclares(prefix, uri) || parts_xml(prefix, uri) || names_xmlns(prefix, uri)
-}
-
-// Whether a prefix is undeclared, which only the default namespace can be.
-fn undeclares(prefix: &Text, uri: &Text) -> bool
-    ensures { result ≡ (is_there prefix.now && not (is_there uri.now)) }
-{
-    !prefix.is_empty() && uri.is_empty()
-}
-
-// Whether `xml` or its URI is declared without the other: they belong to each other alone.
-fn parts_xml(prefix: &Text, uri: &Text) -> bool
-    ensures { result ≡ ((is_xml prefix.now && not (bytes_eq uri.now spec.xml_uri)) || (not (is_xml prefix.now) && bytes_eq uri.now spec.xml_uri)) }
-{
-    prefix.is("xml") != uri.is("http://www.w3.org/XML/1998/namespace")
-}
-
-// Whether the prefix `xmlns` or its URI is declared, which neither can be.
-fn names_xmlns(prefix: &Text, uri: &Text) -> bool
-    ensures { result ≡ (is_xmlns prefix.now || bytes_eq uri.now xmlns_uri) }
-{
-    prefix.is("xmlns") || uri.is("http://www.w3.org/2000/xmlns/")
 }

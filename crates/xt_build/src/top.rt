@@ -13,8 +13,7 @@ use crate::fault::keep_if;
 use crate::piece::Piece;
 use std::alloc::Global;
 use xt_base::EditCode;
-use xt_names::is_space;
-use xt_text::{Memory, Text};
+use xt_text::{Memory, Text, is_space};
 use xt_tree::Content;
 
 /// Finds the faults of siblings under a root that has so many elements besides; below an element, where

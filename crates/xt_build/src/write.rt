@@ -11,7 +11,9 @@ ghost use Rattle.xt_build.specs.Leaf.{leaf_events};
 
 use std::alloc::Global;
 use std::rc::Rc;
-use xt_pyx::{Event, write_event};
+use xt_pyx::{
+    write_attribute, write_comment, write_data, write_end, write_instruction, write_start,
+};
 use xt_text::{Memory, Text};
 use xt_tree::{Content, Doc, Node, Written};
 
@@ -32,14 +34,14 @@ fn push_lines(alloc: Global, lines: &mut Vec<Text>, siblings: &[Rc<Node>]) -> Re
     ensures { OnOk result (lines.new.items ≡ lines.old.items ++ lines_of (forest_of siblings.now)) }
 {
     for sibling in siblings {
-        match &sibling.content {
+        match sibling.content() {
             Content::Element { name, attributes } => {
                 push_start(alloc, lines, name, attributes.as_slice())?;
-                push_lines(alloc, lines, sibling.children.as_slice())?;
+                push_lines(alloc, lines, sibling.children())?;
                 push_end(alloc, lines, name)?;
             }
             Content::Text { .. } | Content::Comment { .. } | Content::Instruction { .. } => {
-                push_leaf(alloc, lines, &sibling.content)?;
+                push_leaf(alloc, lines, sibling.content())?;
             }
         }
     }
@@ -55,54 +57,30 @@ fn push_start(
 ) -> Result<(), Memory>
     ensures { OnOk result (lines.new.items ≡ lines.old.items ++ line_of (event.Start name.now) ∷ map line_of (map attribute_event (map written_of attributes.now))) }
 {
-    let name = name.copy(alloc)?;
-    push_event(alloc, lines, &Event::Start { name })?;
+    lines.push(write_start(alloc, name)?)?;
     for attribute in attributes {
-        push_attribute(alloc, lines, attribute)?;
+        lines.push(write_attribute(alloc, &attribute.name, &attribute.value)?)?;
     }
     Ok(())
-}
-
-fn push_attribute(alloc: Global, lines: &mut Vec<Text>, attribute: &Written) -> Result<(), Memory>
-    ensures { OnOk result (lines.new.items ≡ lines.old.items ++ line_of (attribute_event (written_of attribute.now)) ∷ []) }
-{
-    let name = attribute.name.copy(alloc)?;
-    let value = attribute.value.copy(alloc)?;
-    push_event(alloc, lines, &Event::Attribute { name, value })
 }
 
 fn push_end(alloc: Global, lines: &mut Vec<Text>, name: &Text) -> Result<(), Memory>
     ensures { OnOk result (lines.new.items ≡ lines.old.items ++ line_of (event.End name.now) ∷ []) }
 {
-    let name = name.copy(alloc)?;
-    push_event(alloc, lines, &Event::End { name })
+    lines.push(write_end(alloc, name)?)?;
+    Ok(())
 }
 
 // Adds the line of a node that nothing is below. An element adds none.
 fn push_leaf(alloc: Global, lines: &mut Vec<Text>, content: &Content) -> Result<(), Memory>
     ensures { OnOk result (lines.new.items ≡ lines.old.items ++ map line_of (leaf_events (content_of content.now))) }
 {
-    match content {
-        Content::Element { .. } => Ok(()),
-        Content::Text { text } => {
-            let text = text.copy(alloc)?;
-            push_event(alloc, lines, &Event::Data { text })
-        }
-        Content::Comment { text } => {
-            let text = text.copy(alloc)?;
-            push_event(alloc, lines, &Event::Comment { text })
-        }
-        Content::Instruction { target, text } => {
-            let target = target.copy(alloc)?;
-            let text = text.copy(alloc)?;
-            push_event(alloc, lines, &Event::Instruction { target, text })
-        }
-    }
-}
-
-fn push_event(alloc: Global, lines: &mut Vec<Text>, event: &Event) -> Result<(), Memory>
-    ensures { OnOk result (lines.new.items ≡ lines.old.items ++ line_of event.now ∷ []) }
-{
-    lines.push(write_event(alloc, event)?)?;
+    let line = match content {
+        Content::Element { .. } => return Ok(()),
+        Content::Text { text } => write_data(alloc, text)?,
+        Content::Comment { text } => write_comment(alloc, text)?,
+        Content::Instruction { target, text } => write_instruction(alloc, target, text)?,
+    };
+    lines.push(line)?;
     Ok(())
 }

@@ -1,5 +1,6 @@
 -- Bytes without an LF, and the place of the first LF.
-use Rattle.std.proofs.Common.{◌≡◌, ℕ, suc, ◌+◌, ◌-◌, ◌<◌, ◌≤◌, Bool, true, false, not, ◌||◌, cond, eqb, ltb, List, [], ◌∷◌, ◌++◌, length, take, drop, Option, Some, None, MatchOption, IsTrue, refl, sym, ◌∙◌, ap, subst, arith, add-one, length-append}
+use Rattle.std.proofs.Common.{◌≡◌, ℕ, suc, ◌+◌, ◌-◌, ◌<◌, ◌≤◌, Bool, true, false, not, ◌||◌, cond, ltb, List, []}
+use Rattle.std.proofs.Common.{◌∷◌, ◌++◌, length, take, drop, Option, Some, None, MatchOption, IsTrue, refl, sym, ◌∙◌, ap, subst, arith}
 use Rattle.std.specs.List.{list_any, position_or_len}
 use Rattle.std.specs.Str.Lines.{strip_carriage_return}
 use Rattle.std.proofs.lemmas.List.Folds.{list_any-append}
@@ -7,7 +8,7 @@ use Rattle.std.proofs.lemmas.List.{append_assoc, take_all, take-take, length-tak
 use Rattle.std.proofs.lemmas.Bool.{ltb-true}
 use Rattle.std.proofs.lemmas.Bool.Decides.{nat_tests}
 use Rattle.spec_lines.specs.Lines.{HasNoNewline, is_newline}
-use Rattle.xt_io.specs.Steps.{IsNewlineAt, EndsLine, SkipsEnded, SkipsAll}
+use Rattle.xt_io.specs.Steps.{IsNewlineAt, EndsLine}
 
 none_or : (a b : Bool) → IsTrue (not a) → IsTrue (not b) → IsTrue (not (a || b))
 none_or true b h k = absurd (cc)
@@ -17,7 +18,10 @@ pub HasNoNewline-append : (xs ys : List ℕ) → HasNoNewline xs → HasNoNewlin
 HasNoNewline-append xs ys h k = rw (list_any-append is_newline xs ys) (none_or (list_any is_newline xs) (list_any is_newline ys) h k)
 
 -- how a first byte moves the place of the first LF
-found_in : (b : ℕ) (bs : List ℕ) (t : Bool) → is_newline b ≡ t → (position_or_len is_newline bs < length bs → IsNewlineAt bs (position_or_len is_newline bs)) → cond (not t) (1 + position_or_len is_newline bs) 0 < length (b ∷ bs) → IsNewlineAt (b ∷ bs) (cond (not t) (1 + position_or_len is_newline bs) 0)
+found_in : (b : ℕ) (bs : List ℕ) (t : Bool) → is_newline b ≡ t
+    → (position_or_len is_newline bs < length bs → IsNewlineAt bs (position_or_len is_newline bs))
+    → cond (not t) (1 + position_or_len is_newline bs) 0 < length (b ∷ bs)
+    → IsNewlineAt (b ∷ bs) (cond (not t) (1 + position_or_len is_newline bs) 0)
 found_in b bs true e h lt =
     let same : b ≡ 10 = grind (arith, nat_tests) in
     record { within = omega arith; first = refl; parts = ap (λ x. x ∷ bs) same }
@@ -37,7 +41,8 @@ pub found : (bytes : List ℕ) → position_or_len is_newline bytes < length byt
 found [] lt = absurd (omega arith)
 found (b ∷ bs) lt = found_in b bs (is_newline b) refl (found bs) lt
 
-missed_in : (b : ℕ) (bs : List ℕ) (t : Bool) → (length bs ≤ position_or_len is_newline bs → HasNoNewline bs) → length (b ∷ bs) ≤ cond (not t) (1 + position_or_len is_newline bs) 0 → IsTrue (not (t || list_any is_newline bs))
+missed_in : (b : ℕ) (bs : List ℕ) (t : Bool) → (length bs ≤ position_or_len is_newline bs → HasNoNewline bs)
+    → length (b ∷ bs) ≤ cond (not t) (1 + position_or_len is_newline bs) 0 → IsTrue (not (t || list_any is_newline bs))
 missed_in b bs true h le = absurd (omega arith)
 missed_in b bs false h le = h (omega arith)
 
@@ -45,16 +50,20 @@ pub missed : (bytes : List ℕ) → length bytes ≤ position_or_len is_newline 
 missed [] le = refl
 missed (b ∷ bs) le = missed_in b bs (is_newline b) (missed bs) le
 
-picked : (bytes : List ℕ) (t : Bool) → ltb (position_or_len is_newline bytes) (length bytes) ≡ t → MatchOption (cond t (Some (position_or_len is_newline bytes)) None) (HasNoNewline bytes) (IsNewlineAt bytes)
+picked : (bytes : List ℕ) (t : Bool) → ltb (position_or_len is_newline bytes) (length bytes) ≡ t
+    → MatchOption (cond t (Some (position_or_len is_newline bytes)) None) (HasNoNewline bytes) (IsNewlineAt bytes)
 picked bytes true e = found bytes (ltb-true _ _ e)
 picked bytes false e = missed bytes (grind (arith, nat_tests))
 
 -- what a search for the first LF answers
-pub searched : (bytes : List ℕ) (answer : Option ℕ) → answer ≡ cond (ltb (position_or_len is_newline bytes) (length bytes)) (Some (position_or_len is_newline bytes)) None → MatchOption answer (HasNoNewline bytes) (IsNewlineAt bytes)
+pub searched : (bytes : List ℕ) (answer : Option ℕ)
+    → answer ≡ cond (ltb (position_or_len is_newline bytes) (length bytes)) (Some (position_or_len is_newline bytes)) None
+    → MatchOption answer (HasNoNewline bytes) (IsNewlineAt bytes)
 searched bytes answer e = subst (λ (a : Option ℕ). MatchOption a (HasNoNewline bytes) (IsNewlineAt bytes)) (sym e) (picked bytes _ refl)
 
 -- the bytes gathered before those with the first LF
-pub ends : (gathered bytes line : List ℕ) (place : ℕ) → HasNoNewline gathered → IsNewlineAt bytes place → line ≡ strip_carriage_return (gathered ++ take place bytes) → EndsLine (gathered ++ bytes) line (drop (place + 1) bytes)
+pub ends : (gathered bytes line : List ℕ) (place : ℕ) → HasNoNewline gathered → IsNewlineAt bytes place
+    → line ≡ strip_carriage_return (gathered ++ take place bytes) → EndsLine (gathered ++ bytes) line (drop (place + 1) bytes)
 ends gathered bytes line place none at e = record {
   raw = gathered ++ take place bytes;
   whole = HasNoNewline-append gathered (take place bytes) none at.first;
@@ -85,7 +94,9 @@ strip_again_in l true = ap (λ n. take n l) (length-take-le (length l - 1) l (om
 strip_again_in l false = take_all (length l) l (omega arith)
 
 -- the line that is left of the gathered bytes
-pub ends_line : (gathered bytes whole line rest : List ℕ) (place : ℕ) → HasNoNewline gathered → IsNewlineAt bytes place → whole ≡ gathered ++ take place bytes → line ≡ take (length (strip_carriage_return whole)) whole → rest ≡ drop (place + 1) bytes → EndsLine (gathered ++ bytes) line rest
-ends_line gathered bytes whole line rest place none at is cut behind =
+pub ends_line : (gathered bytes whole line rest : List ℕ) (place : ℕ) → HasNoNewline gathered → IsNewlineAt bytes place
+    → whole ≡ gathered ++ take place bytes → line ≡ take (length (strip_carriage_return whole)) whole → rest ≡ drop (place + 1) bytes
+    → EndsLine (gathered ++ bytes) line rest
+ends_line gathered bytes whole line rest place none at is cut left =
     let line_is : line ≡ strip_carriage_return (gathered ++ take place bytes) = cut ∙ strip_again_in whole _ ∙ ap strip_carriage_return is in
-    subst (λ xs. EndsLine (gathered ++ bytes) line xs) (sym behind) (ends gathered bytes line place none at line_is)
+    subst (λ xs. EndsLine (gathered ++ bytes) line xs) (sym left) (ends gathered bytes line place none at line_is)

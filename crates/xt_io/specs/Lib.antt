@@ -1,5 +1,5 @@
 pub mod Fault
 pub mod Front
-pub mod Held
+pub mod LineBuffer
 pub mod Steps
 pub mod Memory

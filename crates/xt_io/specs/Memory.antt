@@ -24,17 +24,24 @@ pub record MemorySink : Type 0 where
   pub calls : ℕ
   pub faults : ℕ
 
--- the number of the next call, where this is that of the last
-abbrev pub called : ℕ → ℕ
-called calls = min (calls + 1) 18446744073709551615
+-- a count of calls, or of faults, after one more
+abbrev pub one_more : ℕ → ℕ
+one_more count = min (count + 1) 18446744073709551615
 
--- after a read of so many bytes: the list stays, and one more call is counted
+-- after a read of so many bytes: one more call is counted
 abbrev pub after_read : MemorySource → ℕ → MemorySource
-after_read source count = record source { left = drop count source.left; calls = called source.calls }
+after_read source count = record source { left = drop count source.left; calls = one_more source.calls }
 
--- after a write of these bytes, likewise
+-- after a read that failed: one more call is counted, and one more fault
+abbrev pub after_failed_read : MemorySource → MemorySource
+after_failed_read source = record source { calls = one_more source.calls; faults = one_more source.faults }
+
+-- after a write of these bytes, and after one that failed, likewise
 abbrev pub after_write : MemorySink → List ℕ → MemorySink
-after_write sink piece = record sink { bytes = sink.bytes ++ piece; calls = called sink.calls }
+after_write sink piece = record sink { bytes = sink.bytes ++ piece; calls = one_more sink.calls }
+
+abbrev pub after_failed_write : MemorySink → MemorySink
+after_failed_write sink = record sink { calls = one_more sink.calls; faults = one_more sink.faults }
 
 -- a sink that takes all bytes
 pub record MemoryTold : Type 0 where

@@ -1,5 +1,6 @@
 -- The steps of a reader of lines.
-use Rattle.std.specs.Prelude.{ℕ, ◌≡◌, ◌+◌, ◌<◌, List, [], ◌∷◌, ◌++◌, length, take, drop, Option, None, IfSome, IsSomeAnd, MatchOption}
+use Rattle.std.specs.Prelude.{ℕ, ◌≡◌, ◌+◌, ◌<◌, List, [], ◌∷◌, ◌++◌, length, take, drop, Option, None, IfSome, IsSomeAnd}
+use Rattle.std.specs.Prelude.{MatchOption}
 use Rattle.std.specs.Str.Lines.{strip_carriage_return}
 use Rattle.spec_lines.specs.Lines.{HasNoNewline, Reader}
 
@@ -35,4 +36,5 @@ pub record SkipsAll (old bytes new rest : List ℕ) : Type 0 where
 
 -- the bytes that were kept and those that were taken have no LF
 abbrev pub TakesNoNewline : Reader → Option (List ℕ) → Option (List ℕ) → Type 0
-TakesNoNewline old before after = IfSome before (λ left. IsSomeAnd after (λ rest. (taken : List ℕ) × (left ≡ taken ++ rest) × HasNoNewline (old.kept ++ taken)))
+TakesNoNewline old before after =
+    IfSome before (λ left. IsSomeAnd after (λ rest. (taken : List ℕ) × (left ≡ taken ++ rest) × HasNoNewline (old.kept ++ taken)))

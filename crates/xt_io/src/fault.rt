@@ -20,7 +20,7 @@ pub enum LineFault {
     /// A read failed: what was read before it is kept.
     #[error("the read failed")]
     Failed,
-    /// The line is not whole within the bytes that may be read, and the source goes on behind them.
+    /// The line is not whole within the bytes that may be read, and the source goes on after them.
     #[error("the input is longer than its limit")]
     Over,
 }
@@ -31,7 +31,7 @@ pub enum SkipFault {
     /// A read failed: what was read of the line before it is lost.
     #[error("the read failed")]
     Failed,
-    /// The line is not whole within the bytes that may be read, and the source goes on behind them.
+    /// The line is not whole within the bytes that may be read, and the source goes on after them.
     #[error("the input is longer than its limit")]
     Over,
 }

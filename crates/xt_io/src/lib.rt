@@ -14,8 +14,8 @@
 mod buffer;
 mod fault;
 mod head;
-mod held;
 mod line;
+mod line_buffer;
 mod lines;
 mod memory_sink;
 mod memory_source;
@@ -32,6 +32,3 @@ pub use memory_source::{MemSource, SureSource};
 pub use sink::{Sink, write_all};
 pub use source::Source;
 pub use standard::{StdSink, StdSource};
-
-#[cfg(test)]
-mod tests;

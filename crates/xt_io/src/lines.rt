@@ -7,8 +7,8 @@ ghost use Rattle.xt_io.specs.Steps.{TakesNoNewline};
 
 use crate::fault::{LineFault, SkipFault};
 use crate::head::{Front, Head};
-use crate::held::{Filled, Held};
 use crate::line::Line;
+use crate::line_buffer::{Filled, LineBuffer};
 use crate::source::Source;
 use std::alloc::Global;
 use std::marker::Model;
@@ -19,7 +19,7 @@ use xt_text::Memory;
 /// and whether it has seen the end of the source, which it then reads no more.
 #[derive(Drop)]
 pub struct Lines {
-    held: Held,
+    buffer: LineBuffer,
 }
 
 impl Model for Lines {
@@ -27,9 +27,9 @@ impl Model for Lines {
 
     ghost Value = { Reader };
 
-    ghost use Rattle.xt_io.specs.Held.{reader_of};
+    ghost use Rattle.xt_io.specs.LineBuffer.{reader_of};
 
-    ghost view = { λ lines. reader_of lines.held };
+    ghost view = { λ lines. reader_of lines.buffer };
 }
 
 impl Lines {
@@ -39,7 +39,7 @@ impl Lines {
         ensures { IfOk result (λ lines. lines ≡ record { kept = []; room = limit; at_end = false }) }
     {
         Ok(Lines {
-            held: Held::new(alloc, limit)?,
+            buffer: LineBuffer::new(alloc, limit)?,
         })
     }
 
@@ -65,12 +65,12 @@ impl Lines {
         ensures cause { HasLineCause (I.faults from.old) (I.faults from.new) result }
     {
         loop {
-            if let Some(line) = self.held.take_ended()? {
+            if let Some(line) = self.buffer.take_ended()? {
                 return Ok(Some(line));
             }
-            match self.held.fill(from)? {
+            match self.buffer.fill(from)? {
                 Filled::More => {}
-                Filled::End => return Ok(self.held.take_last()),
+                Filled::End => return Ok(self.buffer.take_last()),
                 Filled::Over => return Err(LineFault::Over),
             }
         }
@@ -97,12 +97,12 @@ impl Lines {
         ensures cause { HasSkipCause (I.faults from.old) (I.faults from.new) result }
     {
         let mut front = Front::new();
-        self.held.skip_gathered(&mut front);
+        self.buffer.skip_gathered(&mut front);
         loop {
-            if self.held.skip_ended(&mut front) {
+            if self.buffer.skip_ended(&mut front) {
                 return Ok(Some(front.ended_head()));
             }
-            match self.held.fill(from)? {
+            match self.buffer.fill(from)? {
                 Filled::More => {}
                 Filled::End => return Ok(front.last_head()),
                 Filled::Over => return Err(SkipFault::Over),

@@ -1,7 +1,7 @@
 // Sinks over memory.
 ghost use Rattle.std.specs.Prelude.{◌≡◌, ◌↔◌, ◌⊎◌, ◌<◌, ◌+◌, [], Some, None, length, IfOk, OnOk, OnErr, IsOk, IsErr, Contains, MatchOption};
-ghost use Rattle.spec_lines.specs.Outside.{HasRisen};
-ghost use Rattle.xt_io.specs.Memory.{MemorySink, MemoryTold, called, after_write, told_after};
+ghost use Rattle.spec_lines.specs.Outside.{HasCause};
+ghost use Rattle.xt_io.specs.Memory.{MemorySink, MemoryTold, one_more, after_write, after_failed_write, told_after};
 
 use crate::fault::Failed;
 use crate::sink::Sink;
@@ -74,8 +74,8 @@ impl Sink for SureSink {
 }
 
 /// A sink over memory of which some writes fail. Contracts see the bytes written, its room, the
-/// numbers of the writes that fail, the number of the last write (at most 2^64 - 1), and how many
-/// failed.
+/// numbers of the writes that fail, the number of the last write and how many failed (each at most
+/// 2^64 - 1).
 #[derive(Drop)]
 pub struct MemSink {
     bytes: Vec<u8>,
@@ -131,12 +131,13 @@ impl Sink for MemSink {
     ghost faults = { λ sink. sink.faults };
 
     /// Fails exactly where the number of this write is listed, or the piece has no place in the room
-    /// that is left; else takes the whole piece. Takes no memory.
+    /// that is left, and counts one fault more; else takes the whole piece. Takes no memory.
     fn write(&mut self, piece: &[u8]) -> Result<usize, Failed>
-        ensures fails { IsErr result ↔ (Contains self.old.fails (called self.old.calls) ⊎ (self.old.room < length self.old.bytes + length piece.now)) }
+        ensures fails { IsErr result ↔ (Contains self.old.fails (one_more self.old.calls) ⊎ (self.old.room < length self.old.bytes + length piece.now)) }
         ensures all { IfOk result (λ count. count ≡ length piece.now) }
         ensures written { OnOk result (self.new ≡ after_write self.old piece.now) }
-        ensures unwritten { OnErr result ((self.new ≡ record (after_write self.old []) { faults = self.new.faults }) × HasRisen self.old.faults self.new.faults) }
+        ensures unwritten { OnErr result (self.new ≡ after_failed_write self.old) }
+        ensures cause { HasCause self.old.faults self.new.faults result }
     {
         self.calls = self.calls.saturating_add(1);
         if self.fails.as_slice().contains(&self.calls)

@@ -1,7 +1,7 @@
 // Sources over memory.
 ghost use Rattle.std.specs.Prelude.{◌≡◌, ◌↔◌, ◌<◌, Some, [], length, min, take, drop, IfOk, OnErr, IsOk, IsErr, Contains};
-ghost use Rattle.spec_lines.specs.Outside.{HasRisen};
-ghost use Rattle.xt_io.specs.Memory.{MemorySource, called, after_read};
+ghost use Rattle.spec_lines.specs.Outside.{HasCause};
+ghost use Rattle.xt_io.specs.Memory.{MemorySource, one_more, after_read, after_failed_read};
 
 use crate::fault::Failed;
 use crate::source::Source;
@@ -68,8 +68,8 @@ impl Source for SureSource {
 }
 
 /// A source over memory of which some reads fail. Contracts see the bytes left, the numbers of the
-/// reads that fail, the number of the last read (at most 2^64 - 1), how many failed, and how many
-/// bytes a read gives at most.
+/// reads that fail, the number of the last read and how many failed (each at most 2^64 - 1), and
+/// how many bytes a read gives at most.
 #[derive(Drop)]
 pub struct MemSource {
     source: SureSource,
@@ -125,15 +125,16 @@ impl Source for MemSource {
 
     ghost faults = { λ source. source.faults };
 
-    /// Fails exactly where the number of this read is listed; else gives as many bytes as there are,
+    /// Fails exactly where the number of this read is listed, and counts one fault more; else gives as many bytes as there are,
     /// as the piece has place for, and as a read gives at most. Takes no memory.
     fn read(&mut self, into: &mut [u8]) -> Result<usize, Failed>
-        ensures fails { IsErr result ↔ Contains self.old.fails (called self.old.calls) }
+        ensures fails { IsErr result ↔ Contains self.old.fails (one_more self.old.calls) }
         ensures count { IfOk result (λ count. count ≡ min (min (length into.old) self.old.most) (length self.old.left)) }
         ensures bytes { IfOk result (λ count. take count into.new ≡ take count self.old.left) }
         ensures rest { IfOk result (λ count. self.new ≡ after_read self.old count) }
         ensures end { IfOk result (λ count. count ≡ 0 → 0 < length into.old → self.old.left ≡ []) }
-        ensures unread { OnErr result ((self.new ≡ record (after_read self.old 0) { faults = self.new.faults }) × HasRisen self.old.faults self.new.faults) }
+        ensures unread { OnErr result (self.new ≡ after_failed_read self.old) }
+        ensures cause { HasCause self.old.faults self.new.faults result }
     {
         self.calls = self.calls.saturating_add(1);
         if self.fails.as_slice().contains(&self.calls) {

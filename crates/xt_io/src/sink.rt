@@ -9,7 +9,7 @@ pub trait Sink {
     /// The bytes written, where the sink tells them.
     ghost written: { Self → Option (List ℕ) };
 
-    /// How often it has failed, up to 2^64 - 1.
+    /// How often it has failed, up to 2^64 - 1: it rises at each failure, and never falls.
     ghost faults: { Self → ℕ };
 
     /// Writes some bytes of the front of a piece and answers how many: at least one of a piece that

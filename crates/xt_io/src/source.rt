@@ -9,7 +9,7 @@ pub trait Source {
     /// The bytes left, where the source tells them.
     ghost remaining: { Self → Option (List ℕ) };
 
-    /// How often it has failed, up to 2^64 - 1.
+    /// How often it has failed, up to 2^64 - 1: it rises at each failure, and never falls.
     ghost faults: { Self → ℕ };
 
     /// Reads some bytes into the front of a piece and answers how many; 0 at a piece that is not

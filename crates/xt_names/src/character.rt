@@ -13,13 +13,6 @@ pub fn is_char(character: char) -> bool
     )
 }
 
-/// Whether it is white space (production 3): space, tab, carriage return or line feed.
-pub fn is_space(character: char) -> bool
-    ensures { result ≡ spec.is_space character }
-{
-    matches!(character, ' ' | '\t' | '\r' | '\n')
-}
-
 /// Whether an NCName may begin with it (production 4, without the colon).
 #[tactic(auto, unfolding(spec_document::specs::Character::is_name_start))]
 pub fn is_name_start(character: char) -> bool

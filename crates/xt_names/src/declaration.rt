@@ -63,7 +63,7 @@ impl Scope {
         ensures err { OnErr result (self.new ≡ self.old) }
     {
         match use_of(alloc, written)? {
-            Use::Declares { prefix } => self.bind(prefix.as_str(), value),
+            Use::Declares { prefix } => self.bind(alloc, prefix.as_str(), value),
             Use::Names { .. } | Use::NoName => Ok(()),
         }
     }

@@ -3,24 +3,26 @@
 //!
 //! ```text
 //! let mut scope = Scope::root(alloc)?;
-//! scope.bind("p", "urn:plants")?;                    // xmlns:p="urn:plants"
+//! scope.bind(alloc, "p", "urn:plants")?;             // xmlns:p="urn:plants"
 //! let name = QName::read(alloc, "p:rose")?;          // Some: the prefix p, the local part rose
 //! let uri = scope.resolve("p");                      // Some: urn:plants
 //! ```
 #![tactic(auto)]
 
+mod attribute_names;
+mod barred;
 mod character;
 mod declaration;
 mod name;
 mod namespaces;
-mod order;
 mod scope;
-mod split;
+mod uri;
 
-pub use character::{is_char, is_name_part, is_name_start, is_space};
+pub use attribute_names::AttributeNames;
+pub use barred::{is_barred, is_reserved_target};
+pub use character::{is_char, is_name_part, is_name_start};
 pub use declaration::{Use, is_declaration, use_of};
 pub use name::{Expanded, QName, is_ncname};
 pub use namespaces::Namespace;
-pub use order::compare;
 pub use scope::Scope;
-pub use split::split_first;
+pub use uri::{XML_URI, XMLNS_URI, XSLT_URI};

@@ -5,10 +5,9 @@ ghost use Rattle.std.specs.Str.{chars};
 ghost use Rattle.spec_document.specs.Name as spec;
 
 use crate::character::{is_name_part, is_name_start};
-use crate::split::split_first;
 use std::alloc::Global;
 use std::marker::Model;
-use xt_text::{Memory, Text};
+use xt_text::{Memory, Text, split_first};
 
 /// Whether the text is an NCName: a name without a colon (production 4). Takes no memory.
 pub fn is_ncname(text: &str) -> bool
@@ -22,7 +21,7 @@ pub fn is_ncname(text: &str) -> bool
 }
 
 /// A QName in its parts (productions 7 to 11).
-#[derive(Drop)]
+#[derive(Debug, Drop)]
 pub struct QName {
     prefix: Option<Text>,
     local: Text,
@@ -77,7 +76,7 @@ impl QName {
 
 /// An expanded name: a namespace URI, empty for no namespace, and a local part (Namespaces in XML
 /// 1.0, section 2.1).
-#[derive(Drop)]
+#[derive(Debug, Drop)]
 pub struct Expanded {
     uri: Text,
     local: Text,
@@ -117,7 +116,7 @@ impl Expanded {
     /// Whether both have the same URI and the same local part, character by character. Takes no
     /// memory.
     pub fn same(&self, other: &Expanded) -> bool
-        ensures { result ≡ (bytes_eq self.now.uri other.now.uri && bytes_eq self.now.local other.now.local) }
+        ensures { result ≡ spec.same_name self.now other.now }
     {
         self.uri.same(&other.uri) && self.local.same(&other.local)
     }

@@ -5,12 +5,11 @@ ghost use Rattle.std.specs.Cmp.Lexicographic.{slice_cmp};
 ghost use Rattle.std.specs.FinMap.Entries.{put};
 ghost use Rattle.xt_names.specs.View.{entry_of};
 
-use crate::order::compare;
 use std::cmp::Ordering;
-use xt_text::{Memory, Text};
+use xt_text::{Memory, Text, compare};
 
 /// A namespace in scope.
-#[derive(Drop)]
+#[derive(Debug, Drop)]
 pub struct Namespace {
     /// The prefix, empty for the default namespace.
     pub prefix: Text,

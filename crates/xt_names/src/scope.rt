@@ -7,6 +7,7 @@ ghost use Rattle.spec_document.specs.Scope as spec;
 ghost use Rattle.spec_document.specs.Declaration.{namespaces_in, is_there};
 ghost use Rattle.xt_names.specs.View.{entry_of};
 
+use crate::XML_URI;
 use crate::namespaces::{Namespace, put};
 use std::alloc::Global;
 use std::collections::VecDeque;
@@ -49,17 +50,16 @@ impl Scope {
         let mut scope = Scope {
             bindings: VecDeque::new(alloc),
         };
-        scope.bind("xml", "http://www.w3.org/XML/1998/namespace")?;
+        scope.bind(alloc, "xml", XML_URI)?;
         Ok(scope)
     }
 
     /// Declares the prefix, the empty one for the default namespace; an older declaration of it no
     /// longer counts. After want of memory the scope is as before.
-    pub fn bind(&mut self, prefix: &str, uri: &str) -> Result<(), Memory>
+    pub fn bind(&mut self, alloc: Global, prefix: &str, uri: &str) -> Result<(), Memory>
         ensures ok { OnOk result (self.new ≡ spec.bound self.old (chars prefix.now) (chars uri.now)) }
         ensures err { OnErr result (self.new ≡ self.old) }
     {
-        let alloc = *self.bindings.allocator();
         let binding = Binding {
             prefix: Text::from_str(alloc, prefix)?,
             uri: Text::from_str(alloc, uri)?,

@@ -8,8 +8,8 @@ ghost use Rattle.spec_document.specs.Pyx as spec;
 use crate::escape::unescape;
 use crate::{BadLine, Event};
 use std::alloc::Global;
-use xt_names::{is_char, split_first};
-use xt_text::{Memory, Text};
+use xt_names::is_char;
+use xt_text::{Memory, Text, split_first};
 
 /// The event of a line, which is given without its line end. `Bad` exactly where the line has none: it
 /// begins with none of the six signs, or holds a character that is no XML Char.

@@ -7,7 +7,7 @@ use std::alloc::Global;
 use std::marker::Model;
 
 /// A text in memory of its own. Contracts see the list of its characters.
-#[derive(Drop)]
+#[derive(Debug, Drop)]
 pub struct Text {
     inner: String,
 }

@@ -7,7 +7,7 @@ use Rattle.std.specs.declared.rc.Rc.{Rc}
 use Rattle.std.specs.declared.alloc.Global.{Global}
 use Rattle.spec_document.specs.Forest as spec
 use Rattle.xt_tree.specs.declared.node.Node.{Node, out-Node, fold_out-Node}
-use Rattle.xt_tree.specs.View.{Tree, tree_of, content_of, forest, forest_of, followed, first_tree, tree_at, node_step}
+use Rattle.xt_tree.specs.View.{Tree, tree_of, content_of, forest, forest_of, first_tree, tree_at, node_step}
 
 pub view-Node : (n : Node) → tree_of n ≡ record { number = (out-Node n).id.number; content = content_of (out-Node n).content; children = forest_of (out-Node n).children.items }
 view-Node n = fold_out-Node Tree node_step n ∙ rw map-map refl
@@ -53,6 +53,6 @@ tree_at-index (x ∷ xs) p d h g =
     ] refl
 
 -- siblings behind siblings
-pub forest_of-append : (xs ys : List (Rc Node Global)) → forest_of (xs ++ ys) ≡ followed (forest_of xs) (forest_of ys)
+pub forest_of-append : (xs ys : List (Rc Node Global)) → forest_of (xs ++ ys) ≡ spec.followed (forest_of xs) (forest_of ys)
 forest_of-append [] ys = refl
 forest_of-append (x ∷ xs) ys = ap (spec.Node (tree_of x.value).number (tree_of x.value).content (tree_of x.value).children) (forest_of-append xs ys)

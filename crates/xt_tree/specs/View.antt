@@ -44,11 +44,6 @@ tree_of = fold-Node Tree node_step
 abbrev pub forest_of : List (Rc Node Global) → spec.Forest ℕ
 forest_of nodes = forest (map (λ c. tree_of c.value) nodes)
 
--- siblings, and others behind them
-abbrev pub followed : spec.Forest ℕ → spec.Forest ℕ → spec.Forest ℕ
-followed spec.Empty others = others
-followed (spec.Node label content children siblings) others = spec.Node label content children (followed siblings others)
-
 -- what a part of a node is
 abbrev pub part_of : Part → Found ℕ → Option (Item ℕ)
 part_of part.Itself node = Some (TreeNode node)

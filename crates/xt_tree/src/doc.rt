@@ -2,17 +2,17 @@
 ghost use Rattle.std.specs.Prelude.{ℕ, List, ◌≡◌, ◌==◌, ◌+◌, ◌<◌, map, IfOk, OnOk, OnErr, ◌∷◌, [], MatchOption, IsSome, is_some, Some, None};
 ghost use Rattle.std.specs.Option.{option_map, option_and_then, ForSome};
 ghost use Rattle.spec_document.specs.Numbering.{number_limit};
-ghost use Rattle.spec_document.specs.Forest.{numbered, size};
+ghost use Rattle.spec_document.specs.Forest.{followed, numbered, size};
 ghost use Rattle.spec_document.specs.Name.{qname_of};
 ghost use Rattle.spec_document.specs.Declaration.{namespaces_in, attribute_name};
 ghost use Rattle.spec_document.specs.Place.{TreeNode, expanded_name, name_by, node_at, scope_at, kind_of, kind_by, string_value, string_value_by, attributes_of, namespaces_of, at_number};
-ghost use Rattle.xt_tree.specs.View.{itself, IsWayTo, item_of, numbered_node, written_of, followed, forest, forest_of, tree_of};
+ghost use Rattle.xt_tree.specs.View.{itself, IsWayTo, item_of, numbered_node, written_of, content_of, forest_of, tree_of};
 ghost use Rattle.xt_tree.specs.Numbers.{IsNumbered};
 ghost use Rattle.spec_document.specs.Forest as spec;
 
 use crate::find::{find, lead, push_texts, push_value, sibling_at};
 use crate::part::{attribute_at, attribute_name, content_name, enter, namespace_at};
-use crate::{Node, NodeId, NodeRef, Part, Written};
+use crate::{Content, Node, NodeId, NodeRef, Part, Written};
 use spec_document::Kind;
 use std::alloc::Global;
 use std::marker::Model;
@@ -75,12 +75,18 @@ impl Nodes {
         }
     }
 
-    /// Adds the node as the last sibling. After want of memory the siblings are as before.
-    pub fn push(&mut self, alloc: Global, node: Node) -> Result<(), Memory>
-        ensures ok { OnOk result (self.new ≡ followed self.old (forest (tree_of node ∷ []))) }
+    /// Adds a node as the last sibling. After want of memory the siblings are as before.
+    pub fn push(
+        &mut self,
+        alloc: Global,
+        id: NodeId,
+        content: Content,
+        children: Nodes,
+    ) -> Result<(), Memory>
+        ensures ok { OnOk result (self.new ≡ followed self.old (spec.Node id.number (content_of content) children spec.Empty)) }
         ensures err { OnErr result (self.new ≡ self.old) }
     {
-        let shared = Rc::new(alloc, node)?;
+        let shared = Rc::new(alloc, node(id, content, children))?;
         self.list.push(shared)?;
         Ok(())
     }
@@ -97,6 +103,17 @@ impl Nodes {
         ensures { forest_of result.items ≡ self }
     {
         self.list
+    }
+}
+
+// The node of these parts.
+fn node(id: NodeId, content: Content, children: Nodes) -> Node
+    ensures { tree_of result ≡ record { number = id.number; content = content_of content; children = children } }
+{
+    Node {
+        id,
+        content,
+        children: children.into_list(),
     }
 }
 

@@ -1,7 +1,8 @@
 // Nodes of the tree.
 ghost use Rattle.std.specs.Prelude.{◌≡◌, Some};
 ghost use Rattle.spec_document.specs.Place.{kind_by};
-ghost use Rattle.xt_tree.specs.View.{content_of};
+ghost use Rattle.xt_tree.specs.View.{content_of, forest_of, tree_of};
+ghost use Rattle.xt_tree.specs.declared.node.Node.{out-Node};
 
 use crate::NodeId;
 use spec_document::Kind;
@@ -55,7 +56,31 @@ impl Content {
 /// A node with its number and what is below it.
 #[derive(Drop)]
 pub struct Node {
-    pub id: NodeId,
-    pub content: Content,
-    pub children: Vec<Rc<Node>>,
+    pub(crate) id: NodeId,
+    pub(crate) content: Content,
+    pub(crate) children: Vec<Rc<Node>>,
+}
+
+impl Node {
+    /// Its number.
+    pub fn id(&self) -> NodeId
+        ensures { result.number ≡ (tree_of self.now).number }
+    {
+        self.id
+    }
+
+    /// What it is.
+    pub fn content(&self) -> &Content
+        ensures { content_of result.now ≡ (tree_of self.now).content }
+    {
+        &self.content
+    }
+
+    /// The nodes directly below it, in their order.
+    pub fn children(&self) -> &[Rc<Node>]
+        ensures forest { forest_of result.now ≡ (tree_of self.now).children }
+        ensures list { result.now ≡ (out-Node self.now).children.items }
+    {
+        self.children.as_slice()
+    }
 }

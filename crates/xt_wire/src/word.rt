@@ -7,7 +7,7 @@ ghost use Rattle.spec_session.specs.Request as spec;
 ghost use Rattle.xt_wire.specs.View.{characters, rest_of, words_in};
 
 use std::alloc::Global;
-use xt_names::split_first;
+use xt_text::split_first;
 use xt_pyx::unescape;
 use xt_text::{Memory, Text};
 

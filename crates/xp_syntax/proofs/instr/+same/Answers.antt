@@ -1,6 +1,6 @@
 use Rattle.std.proofs.Common.{arith}
 use Rattle.xp_syntax.specs.InstrView.{instr_of, branch_of, binding_of}
-use Rattle.xp_syntax.specs.Instructions.{instrs, branches, bindings}
+use Rattle.spec_stylesheet.specs.Instruction.{instrs, branches, bindings}
 use Rattle.xp_syntax.proofs.Lists.{different_length, different_at}
 use Rattle.xp_syntax.proofs.Contents.{same_instrs, same_branches, same_bindings}
 use Rattle.xp_syntax.proofs.instr.+same.Goals as goal

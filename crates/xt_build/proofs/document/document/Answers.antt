@@ -5,11 +5,12 @@ use Rattle.spec_document.specs.Numbering.{number_limit}
 use Rattle.spec_document.specs.Document.{document_by}
 use Rattle.xt_build.specs.View.{found_of, pieces_of, fault_of}
 use Rattle.xt_build.specs.Piece.{forest_in}
-use Rattle.xt_build.proofs.Building.{document_made, document_has_room, answered, second_is_next, second_number, AreMade, are_made}
+use Rattle.xt_build.proofs.Building.{document_made, document_has_room, answered, second_is_next, second_number, AreMade, are_made, size_numbered}
 use Rattle.xt_build.proofs.document.document.Goals as goal
+use Rattle.xt_build.proofs.document.document.Goals.{In_ok-built, In_default}
 
-pub returns-in-Some : goal.returns-in-Some
-returns-in-Some c =
+pub returns-in-Some-clause-answer : goal.returns-in-Some-clause-answer
+returns-in-Some-clause-answer c =
     ap (λ ps. document_by c.args.scope.now c.args.first.number (forest_in (pieces_of ps))) (sym c.as_slice-whole.ensures.value)
     ∙ answered _ _ (found_of c.check_numbers.new.found) (Some (fault_of c.in-Some.fault))
     (document_made c.args.scope.now c.args.first.number c.saturating_add-second.result (forest_in (pieces_of c.as_slice-whole.result.now))
@@ -18,7 +19,7 @@ returns-in-Some c =
     (ap found_of c.in-Some.is)
 
 -- there is room for all numbers
-room : (c : goal.In_default) → c.args.first.number + size (without_texts (forest_in (pieces_of c.args.pieces.items))) < number_limit
+room : (c : In_default) → c.args.first.number + size (without_texts (forest_in (pieces_of c.args.pieces.items))) < number_limit
 room c =
     subst (λ ps. c.args.first.number + size (without_texts (forest_in (pieces_of ps))) < number_limit) c.as_slice-whole.ensures.value
     (document_has_room c.args.first.number c.saturating_add-second.result (found_of c.check_nodes.new.found) (found_of c.check_number.new.found) (found_of c.check_numbers.new.found)
@@ -31,22 +32,30 @@ make_nodes-requires-clause-numbers c =
     let behind = second_number _ _ _ c.saturating_add-second.ensures fits in
     omega (arith, fits, behind)
 
-made : (c : goal.In_ok-nodes) → AreMade c.args.first.number (without_texts (forest_in (pieces_of c.args.pieces.items))) c.in_ok-nodes.nodes
-made c = are_made _ _ _ _ c.saturating_add-second.ensures (room c.before.before.before) c.in_ok-nodes.ensures
+made : (c : In_ok-built) → AreMade c.args.first.number (without_texts (forest_in (pieces_of c.args.pieces.items))) c.in_ok-built.built.nodes
+made c = are_made _ _ _ _ c.saturating_add-second.ensures (room c.before.before.before) (c.in_ok-built.ensures {u = tt}).nodes
 
-pub numbered-requires-clause-order : goal.numbered-requires-clause-order
-numbered-requires-clause-order c = (made c).again
+pub numbered-document-requires-clause-order : goal.numbered-document-requires-clause-order
+numbered-document-requires-clause-order c = (made c.before).again
 
-pub numbered-requires-clause-limit : goal.numbered-requires-clause-limit
-numbered-requires-clause-limit c = (made c).fit
+pub numbered-document-requires-clause-limit : goal.numbered-document-requires-clause-limit
+numbered-document-requires-clause-limit c = (made c.before).fit
 
 pub returns : goal.returns
 returns c =
-    ap (λ ps. document_by c.args.scope.now c.args.first.number (forest_in (pieces_of ps))) (sym c.as_slice-whole.ensures.value)
-    ∙ answered _ _ (found_of c.check_numbers.new.found) None
-    (document_made c.args.scope.now c.args.first.number c.saturating_add-second.result (forest_in (pieces_of c.as_slice-whole.result.now))
-    (found_of c.check_top.new.found) (found_of c.check_nodes.new.found) (found_of c.check_number.new.found) (found_of c.check_numbers.new.found)
-    (second_is_next _ _ c.saturating_add-second.ensures) c.in_ok-check_top.ensures c.in_ok-check_nodes.ensures c.check_number.ensures c.check_numbers.ensures)
-    (ap found_of c.in_default.is)
-    ∙ ap (λ ps. Ok (record { root = c.args.first.number; nodes = numbered (c.args.first.number + 1) (without_texts (forest_in (pieces_of ps))) })) c.as_slice-whole.ensures.value
-    ∙ ap (λ nodes. Ok (record { root = c.args.first.number; nodes = nodes })) (sym (made c.before).are) ∙ ap Ok (sym c.numbered.ensures)
+    let m = made c.before.before in
+    let f = without_texts (forest_in (pieces_of c.args.pieces.items)) in
+    let doc = c.numbered-document.ensures in
+    let second = second_number _ _ _ c.saturating_add-second.ensures (room c.before.before.before.before.before) in
+    let count = ap (λ d. size d.nodes) doc ∙ ap size m.are ∙ size_numbered (c.args.first.number + 1) f in
+    record {
+      answer = ap (λ ps. document_by c.args.scope.now c.args.first.number (forest_in (pieces_of ps))) (sym c.as_slice-whole.ensures.value)
+          ∙ answered _ _ (found_of c.check_numbers.new.found) None
+          (document_made c.args.scope.now c.args.first.number c.saturating_add-second.result (forest_in (pieces_of c.as_slice-whole.result.now))
+          (found_of c.check_top.new.found) (found_of c.check_nodes.new.found) (found_of c.check_number.new.found) (found_of c.check_numbers.new.found)
+          (second_is_next _ _ c.saturating_add-second.ensures) c.in_ok-check_top.ensures c.in_ok-check_nodes.ensures c.check_number.ensures c.check_numbers.ensures)
+          (ap found_of c.in_default.is)
+          ∙ ap (λ ps. Ok (record { root = c.args.first.number; nodes = numbered (c.args.first.number + 1) (without_texts (forest_in (pieces_of ps))) })) c.as_slice-whole.ensures.value
+          ∙ ap (λ nodes. Ok (record { root = c.args.first.number; nodes = nodes })) (sym m.are) ∙ ap Ok (sym doc);
+      next = (c.in_ok-built.ensures {u = tt}).next ∙ ap (λ n. n + size f) second ∙ ap (λ n. c.args.first.number + 1 + n) (sym count);
+    }

@@ -1,8 +1,8 @@
 use Rattle.std.specs.Prelude.{is_some}
 use Rattle.std.proofs.Common.{length, ◌≡◌, ◌+◌, [], ◌∷◌, ◌++◌, ◌∙◌, refl, sym, ap, arith}
-use Rattle.spec_document.specs.Forest.{Empty, Node}
+use Rattle.spec_document.specs.Forest.{Empty, Node, followed}
 use Rattle.spec_document.specs.Balance.{LineNumbers}
-use Rattle.xt_tree.specs.View.{content_of, followed, forest}
+use Rattle.xt_tree.specs.View.{content_of}
 use Rattle.xt_build.specs.Piece.{Begins, open_in, node_before}
 use Rattle.xt_build.specs.Left.{kept_open, open_size, open_numbered, is_text}
 use Rattle.xt_build.specs.View.{pieces_of}
@@ -10,7 +10,7 @@ use Rattle.xt_build.specs.declared.make.Open.{Open}
 use Rattle.std.proofs.lemmas.List.{nil_from_length}
 use Rattle.xt_build.proofs.Stacks.{open-some, closed-rest, closed-element}
 use Rattle.xt_build.proofs.OpenNodes.{whole, coming, level}
-use Rattle.xt_build.proofs.Making.{whole-ends, size-ends, whole-leaf, whole-element, open_size-leaf, open_size-element, kept-dropped, text-no_element, length-leaf, test-dropped, test-kept, kind-element, whole-end}
+use Rattle.xt_build.proofs.Making.{whole-ends, size-ends, whole-leaf, whole-element, open_size-leaf, open_size-element, kept-dropped, text-no_element, length-leaf, test-dropped, test-kept, kind-element, whole-end, size-end}
 use denote.Enum.Bare.{sameb}
 use Rattle.spec_document.specs.contracts.kind.Kind.{the_type}
 use Rattle.spec_document.specs.declared.kind.Kind.TheVariants as kind
@@ -24,7 +24,7 @@ loop-piece-preserved-in-Continue-1 c =
     let rest = open_in (pieces_of c.next.new.self.rest.items) in
     let step = (c.in-Some.ensures {u = tt}).steps.0 ∙ ap (λ p. p ∷ c.next.new.self.rest.items) c.in-Ends.is in
     let o = c.in-Some-pop.element in
-    let made = c.in_ok-push-in-Ends.ensures.ok ∙ ap (λ t. followed o.before (forest (t ∷ []))) c.node-made.ensures in
+    let made = c.in_ok-push-in-Ends.ensures.ok in
     record {
       goes = (tt, tt);
       made = ap (λ f. whole c.pop.new.self.items f (coming next others rest)) made
@@ -130,8 +130,7 @@ loop-piece-preserved c =
           let as_deep : length rest ≡ c.len.result + 1 = omega (arith, c.len.ensures, deep, long) in
           let stays = test-kept others content rest c.len.result as_deep (sym c.is_dropped.ensures ∙ c.if-is_dropped.false) in
           let size = open_size-leaf others lines content rest (kind ∙ w.if-eq.false) some stays in
-          let node = ap (λ t. forest (t ∷ [])) w.node.ensures ∙ ap (λ f. Node next content f Empty) w.new.ensures in
-          let done = w.nodes-is ∙ w.in_ok-push-in-Begins-2.ensures.ok ∙ ap (followed c.loop-piece.nodes) node in
+          let done = w.nodes-is ∙ w.in_ok-push-in-Begins-2.ensures.ok ∙ ap (λ f. followed c.loop-piece.nodes (Node next content f Empty)) w.new.ensures in
           record {
             goes = (tt, tt);
             made = ap (λ v. whole v.items c.if-eq.nodes (coming (next + 1) others rest)) w.open-is
@@ -147,4 +146,9 @@ returns c =
     let others = c.args.others in
     let end : c.loop-piece.piece-iterator.rest.items ≡ [] = nil_from_length _ (sym c.loop-piece.piece-iterator.rest.ok.0 ∙ (c.in-None.ensures {u = tt}).steps.0) in
     let made = ap (λ ps. whole c.loop-piece.open.items c.loop-piece.nodes (coming c.loop-piece.next others (open_in (pieces_of ps)))) (sym end) ∙ c.loop-piece.invariant.made in
-    whole-end c.loop-piece.open.items c.loop-piece.nodes c.loop-piece.next others _ made
+    let left = ap (λ ps. c.loop-piece.next + open_size (kept_open others (open_in (pieces_of ps)))) (sym end) ∙ c.loop-piece.invariant.left in
+    let none = size-end others in
+    record {
+      nodes = whole-end c.loop-piece.open.items c.loop-piece.nodes c.loop-piece.next others _ made;
+      next = omega (arith, left, none);
+    }

@@ -10,7 +10,7 @@ use Rattle.spec_document.specs.NodeFaults.{attribute_faults, expanded_by, is_wro
 use Rattle.xt_tree.specs.View.{written_of}
 use Rattle.xt_build.specs.Least.{merged}
 use Rattle.xt_build.specs.Names.{expanded_names}
-use Rattle.xt_build.specs.Seen.{has_expanded}
+use Rattle.xt_names.specs.NamesSoFar.{has_written, has_expanded}
 use Rattle.xt_build.specs.View.{found_of}
 use Rattle.xt_build.proofs.Attributes.{any_behind, double_is, passed}
 use Rattle.xt_build.proofs.names.check_attributes.Goals as goal
@@ -21,9 +21,10 @@ loop-i-preserved c =
     let i = c.loop-i.i in
     let x = c.index-attributes-i.result in
     let scope = c.args.scope.now in
-    let seen = c.loop-i.seen in
+    let seen = c.loop-i.names in
     let before = map written_of (take i xs) in
-    let usage : c.in_ok-usage.usage ≡ use_of x.name = c.in_ok-usage.ensures ∙ ap use_of c.as_str.ensures.characters in
+    let is = c.as_str-written.ensures.characters in
+    let usage : c.in_ok-usage.usage ≡ use_of x.name = c.in_ok-usage.ensures ∙ ap use_of is in
     let name : c.in_ok-name.name ≡ expanded_by scope (use_of x.name) = c.in_ok-name.ensures ∙ ap (expanded_by scope) usage in
     let took : map written_of (take (i + 1) xs) ≡ before ++ written_of x ∷ [] =
     ap (map written_of) (take_more xs i x (omega arith)) ∙ map-append written_of (take i xs) _ ∙ ap (λ y. before ++ written_of y ∷ []) (sym c.index-attributes-i.is) in
@@ -35,6 +36,7 @@ loop-i-preserved c =
     let written = list_any (λ b. bytes_eq b.name x.name) before in
     let double : c.in_ok-is_double.is_double ≡ list_any (λ b. is_same_attribute scope b (written_of x)) before =
     c.in_ok-is_double.ensures.before
+    ∙ ap (λ n. has_written seen n || has_expanded seen (option_copied c.as_ref-in-loop-i.result)) is
     ∙ ap (λ b. b || has_expanded seen (option_copied c.as_ref-in-loop-i.result)) (c.loop-i.invariant.written x.name)
     ∙ ap (λ n. written || has_expanded seen n) own
     ∙ ap (λ b. written || b) (c.loop-i.invariant.expanded (expanded_by scope (use_of x.name)))
@@ -46,7 +48,7 @@ loop-i-preserved c =
           c.line_at-line.ensures wrong double c.keep_if.ensures c.keep_if-in-loop-i.ensures
           ∙ ap (λ ws. merged (found_of c.loop-i.found) (least (attribute_faults scope before (drop i c.args.lines.now) ws))) (sym left)
           ∙ c.loop-i.invariant.told);
-      written = λ other. c.in_ok-is_double.ensures.written other ∙ ap (λ b. b || bytes_eq x.name other) (c.loop-i.invariant.written other)
+      written = λ other. c.in_ok-is_double.ensures.written other ∙ ap (λ n. has_written seen other || bytes_eq n other) is ∙ ap (λ b. b || bytes_eq x.name other) (c.loop-i.invariant.written other)
           ∙ sym (ap (list_any (λ b. bytes_eq b.name other)) took ∙ any_behind (λ b. bytes_eq b.name other) before (written_of x));
       expanded = λ other. c.in_ok-is_double.ensures.expanded other
           ∙ ap (λ b. b || same_expanded (option_copied c.as_ref-in-loop-i.result) other) (c.loop-i.invariant.expanded other)

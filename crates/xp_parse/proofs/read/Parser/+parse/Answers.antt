@@ -4,7 +4,7 @@ use Rattle.spec_document.specs.Name.{Expanded}
 use Rattle.spec_expression.specs.declared.Operator.TheVariants.{Subtract}
 use Rattle.spec_expression.specs.declared.Level.{Level}
 use Rattle.spec_expression.specs.declared.Level.TheVariants.{AndExpr, EqualityExpr, RelationalExpr, AdditiveExpr, MultiplicativeExpr, UnaryExpr, PathExpr}
-use Rattle.spec_expression.specs.Rank.{rank}
+use Rattle.spec_expression.proofs.Rank.{rank}
 use Rattle.spec_expression.proofs.Ranks.{chain_rank}
 use Rattle.spec_expression.specs.Token.{Token, Open, Close, OpenSquare, CloseSquare, Comma, Slash, SlashSlash, Dot, DotDot, Binary, Name, Variable, Literal, Number}
 use Rattle.spec_expression.specs.Syntax as tree

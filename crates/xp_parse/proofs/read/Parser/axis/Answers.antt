@@ -1,5 +1,5 @@
 use Rattle.std.proofs.Common.{◌≡◌, ◌+◌, List, Some, sym, subst}
-use Rattle.spec_expression.specs.declared.Axis.TheVariants.{Attribute}
+use Rattle.spec_document.specs.declared.axis.Axis.TheVariants.{Attribute}
 use Rattle.spec_expression.specs.Token.{Token, Name, At, ColonColon}
 use Rattle.spec_expression.specs.Grammar.{axis_of}
 use Rattle.xp_parse.specs.View.{name_of}

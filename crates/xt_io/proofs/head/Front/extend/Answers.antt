@@ -12,5 +12,6 @@ pub loop-byte-preserved : goal.loop-byte-preserved
 loop-byte-preserved c = (
   omega arith,
   length-set _ _ _ ∙ c.loop-byte.invariant.1,
-  front_grows c.loop-byte.self-inside.bytes c.args.self.now c.args.more.now c.loop-byte.byte-index c.loop-byte.self-inside.count (omega arith) c.loop-byte.invariant.1 c.loop-byte-test.true c.loop-byte.invariant.2,
+  front_grows c.loop-byte.self-inside.bytes c.args.self.now c.args.more.now c.loop-byte.byte-index c.loop-byte.self-inside.count (omega arith)
+      c.loop-byte.invariant.1 c.loop-byte-test.true c.loop-byte.invariant.2,
 )

@@ -1,0 +1,5 @@
+pub mod Place
+pub mod Pattern
+pub mod ValueTemplate
+pub mod Instruction
+pub mod Sheet
