@@ -1,5 +1,6 @@
 -- Texts that are cut at their first space.
-use Rattle.std.proofs.Common.{◌≡◌, ℕ, ◌==◌, Bool, true, false, not, List, [], ◌∷◌, length, bytes_eq, Option, None, Some, refl, sym, ap, ◌∙◌, arith}
+use Rattle.std.proofs.Common.{◌≡◌, ℕ, ◌==◌, Bool, true, false, not, List, [], ◌∷◌, length, bytes_eq, Option, None, Some, refl, sym, ap}
+use Rattle.std.proofs.Common.{◌∙◌, arith}
 use Rattle.std.specs.Prelude.{codes}
 use Rattle.std.specs.List.{list_any}
 use Rattle.std.specs.Option.{option_and_then}
@@ -9,16 +10,10 @@ use Rattle.xt_text.proofs.Chars.{no_chars}
 use Rattle.spec_document.specs.Pyx.{is_blank}
 use Rattle.spec_document.specs.Declaration.{is_there}
 use Rattle.spec_document.proofs.First.{before_first-none}
-use Rattle.spec_session.specs.Request.{Words, words_of, filled, only_word, document_named, module_named, SourceName, ModuleName}
+use Rattle.spec_session.specs.Request.{words_of, only_word, document_named, module_named, SourceName, ModuleName}
 
 pub uncut : (text : List ℕ) → list_any is_blank text ≡ false → words_of text ≡ record { first = text; rest = None }
 uncut text h = rw (before_first-none is_blank text h, h) refl
-
-pub is_filled : (words : Words) (r : Bool) → r ≡ is_there words.first → r ≡ true → filled words ≡ Some words
-is_filled words r e t = rw (sym e ∙ t) refl
-
-pub not_filled : (words : Words) (r : Bool) → r ≡ is_there words.first → r ≡ false → filled words ≡ None
-not_filled words r e t = rw (sym e ∙ t) refl
 
 there : (cs : List ℕ) → is_there cs ≡ not (length cs == 0)
 there [] = refl
@@ -35,8 +30,10 @@ names_source word h = rw h refl
 pub names_module : (word : List ℕ) → bytes_eq word (codes "source") ≡ false → document_named word ≡ ModuleName word
 names_module word h = rw h refl
 
-pub no_module : (rest : Option (List ℕ)) (word : List ℕ) → Some word ≡ only_word rest → bytes_eq word (codes "source") ≡ true → option_and_then module_named (only_word rest) ≡ None
+pub no_module : (rest : Option (List ℕ)) (word : List ℕ) → Some word ≡ only_word rest → bytes_eq word (codes "source") ≡ true
+    → option_and_then module_named (only_word rest) ≡ None
 no_module rest word e h = ap (option_and_then module_named) (sym e) ∙ rw h refl
 
-pub a_module : (rest : Option (List ℕ)) (word : List ℕ) → Some word ≡ only_word rest → bytes_eq word (codes "source") ≡ false → option_and_then module_named (only_word rest) ≡ Some word
+pub a_module : (rest : Option (List ℕ)) (word : List ℕ) → Some word ≡ only_word rest → bytes_eq word (codes "source") ≡ false
+    → option_and_then module_named (only_word rest) ≡ Some word
 a_module rest word e h = ap (option_and_then module_named) (sym e) ∙ rw h refl

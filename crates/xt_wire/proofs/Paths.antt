@@ -1,5 +1,7 @@
 -- Paths, read from the bytes of their words.
-use Rattle.std.proofs.Common.{◌≡◌, ◌≢◌, ℕ, ◌+◌, ◌^◌, ◌<◌, ◌≤◌, nat_le, ◌==◌, Bool, true, false, ◌&&◌, if◌then◌else◌, List, [], ◌∷◌, ◌++◌, length, map, get_or, drop, Option, None, Some, Result, refl, sym, ap, ◌∙◌, arith, append-nil, append_assoc, rules}
+use Rattle.std.proofs.Common.{◌≡◌, ◌≢◌, ℕ, ◌+◌, ◌^◌, ◌<◌, ◌≤◌, nat_le, ◌==◌, Bool, true, false, ◌&&◌}
+use Rattle.std.proofs.Common.{if◌then◌else◌, List, [], ◌∷◌, ◌++◌, length, map, get_or, drop, Option, None, Some, Result, refl, sym, ap}
+use Rattle.std.proofs.Common.{◌∙◌, arith, append-nil, append_assoc, rules, lit<}
 use Rattle.std.specs.Prelude.{is_some}
 use Rattle.std.specs.List.{list_all, slice_split}
 use Rattle.std.specs.List as std
@@ -14,6 +16,11 @@ use Rattle.std.proofs.lemmas.Bool.Decides.{nat_tests}
 use Rattle.std.proofs.lemmas.List.{drop_all}
 use Rattle.std.proofs.lemmas.Str.{chars-IsAscii, encodes-IsAscii, encodes-chars}
 use Rattle.std.proofs.lemmas.Str.Parse.{IsNumeralModel, numerals_by_fold, parse_gives, digits_value_short}
+use Rattle.std.proofs.lemmas.Iterator.{YieldsList}
+use Rattle.std.proofs.lemmas.Iterator.Splits.{YieldsList-from_str_split}
+use Rattle.std.specs.declared.str.Split.{Split}
+use Rattle.std.specs.Str.Iter.{split_steps, split_text, split_has_more, split_pattern}
+use Rattle.std.specs.Str.Pattern.{FindsChar}
 use Rattle.spec_document.specs.Character.{is_between}
 use Rattle.spec_document.specs.Forest.{in_front}
 use Rattle.spec_session.specs.Request.{is_slash, is_digit, onto_first, parts_of, number_from, position_of, all_there, positions_of, path_of}
@@ -38,7 +45,8 @@ in_range c cs digits few =
     let short : length (c ∷ cs) ≤ 18 = grind (arith, nat_tests) in
     omega (arith, digits_value_short own (c ∷ cs) 18 digits short)
 
-pub position_parsed : {E : Type 0} (bs : List ℕ) (r : Result ℕ E) → ParsesUnsigned 64 10 bs r → is_some (position_of bs) ≡ true → result_ok r ≡ position_of bs
+pub position_parsed : {E : Type 0} (bs : List ℕ) (r : Result ℕ E) → ParsesUnsigned 64 10 bs r → is_some (position_of bs) ≡ true
+    → result_ok r ≡ position_of bs
 position_parsed [] r h e = absurd (cc)
 position_parsed (c ∷ cs) r h e = go (is_between 0x31 0x39 c) (list_all is_digit cs) (nat_le (length cs) 17) refl refl refl e
   where
@@ -70,10 +78,19 @@ parts_split (c ∷ cs) =
     ap (λ (parts : List (List ℕ)). if is_slash c then [] ∷ parts else onto_first c parts) (parts_split cs)
     ∙ ap (λ (parts : List (List ℕ)). if is_slash c then [] ∷ slice_split is_slash cs else parts) (onto c (slice_split is_slash cs))
 
-rest_more : (all : List (List ℕ)) (n : ℕ) (part : List ℕ) → (n < length all) × (part ≡ get_or all n part) → drop n all ≡ part ∷ drop (n + 1) all
+-- what `split` gives
+pub parts_given : (text : List ℕ) (from split : Split ℕ) → from ≡ split → split_text split ≡ text → split_has_more split ≡ true
+    → split_pattern split ≡ 0x2F
+    → YieldsList (split_steps FindsChar (λ a b. b ≡ a)) (λ part. part.now) from (slice_split is_slash text)
+parts_given text from split e t m p =
+    YieldsList-from_str_split 0x2F text (lit< tt) (ap split_text e ∙ t) (ap split_has_more e ∙ m) (ap split_pattern e ∙ p)
+
+rest_more : (all : List (List ℕ)) (n : ℕ) (part : List ℕ) → (n < length all) × (part ≡ get_or all n part)
+    → drop n all ≡ part ∷ drop (n + 1) all
 rest_more all n part turn = drop-cons all n part turn.0 ∙ rw (← turn.1, add-one) refl
 
-one_more : (path : List ℕ) (position : ℕ) (rest : Option (List ℕ)) → behind path (in_front (Some position) rest) ≡ behind (path ++ position ∷ []) rest
+one_more : (path : List ℕ) (position : ℕ) (rest : Option (List ℕ))
+    → behind path (in_front (Some position) rest) ≡ behind (path ++ position ∷ []) rest
 one_more path position None = refl
 one_more path position (Some more) = ap Some (sym (append_assoc path (position ∷ []) more))
 
@@ -81,8 +98,10 @@ pub at_start : (path : List ℕ) (rest : Option (List ℕ)) → path ≡ [] → 
 at_start path None e = refl
 at_start path (Some more) e = ap Some (ap (λ (p : List ℕ). p ++ more) (sym e))
 
-pub position_more : (all : List (List ℕ)) (path new part : List ℕ) (n position : ℕ) → (n < length all) × (part ≡ get_or all n part) → Some position ≡ position_of part
-    → new ≡ path ++ position ∷ [] → positions all ≡ behind path (positions (drop n all)) → positions all ≡ behind new (positions (drop (n + 1) all))
+pub position_more : (all : List (List ℕ)) (path new part : List ℕ) (n position : ℕ) → (n < length all) × (part ≡ get_or all n part)
+    → Some position ≡ position_of part
+    → new ≡ path ++ position ∷ [] → positions all ≡ behind path (positions (drop n all))
+    → positions all ≡ behind new (positions (drop (n + 1) all))
 position_more all path new part n position turn is e so_far =
     so_far ∙ ap (λ (parts : List (List ℕ)). behind path (positions parts)) (rest_more all n part turn)
     ∙ ap (λ (o : Option ℕ). behind path (in_front o (positions (drop (n + 1) all)))) (sym is)
@@ -94,7 +113,8 @@ no_position all path part n turn is so_far =
     so_far ∙ ap (λ (parts : List (List ℕ)). behind path (positions parts)) (rest_more all n part turn)
     ∙ ap (λ (o : Option ℕ). behind path (in_front o (positions (drop (n + 1) all)))) (sym is)
 
-pub positions_end : (all : List (List ℕ)) (path : List ℕ) (n : ℕ) → n ≡ length all → positions all ≡ behind path (positions (drop n all)) → positions all ≡ Some path
+pub positions_end : (all : List (List ℕ)) (path : List ℕ) (n : ℕ) → n ≡ length all → positions all ≡ behind path (positions (drop n all))
+    → positions all ≡ Some path
 positions_end all path n e so_far =
     so_far ∙ ap (λ (parts : List (List ℕ)). behind path (positions parts)) (drop_all n all (omega arith)) ∙ ap Some (append-nil path)
 
@@ -110,7 +130,8 @@ position_digits : (part : List ℕ) (position : ℕ) → position_of part ≡ So
 position_digits [] position e = absurd (cc)
 position_digits (c ∷ cs) position e = go (is_between 0x31 0x39 c) (list_all is_digit cs) (nat_le (length cs) 17) refl refl e
   where
-    go : (x y z : Bool) → is_between 0x31 0x39 c ≡ x → list_all is_digit cs ≡ y → tested x y z c cs ≡ Some position → list_all is_digit (c ∷ cs) ≡ true
+    go : (x y z : Bool) → is_between 0x31 0x39 c ≡ x → list_all is_digit cs ≡ y → tested x y z c cs ≡ Some position
+        → list_all is_digit (c ∷ cs) ≡ true
     go true true z p q t = and_from (is_digit c) (list_all is_digit cs) (first_is_digit c p) q
     go true false z p q t = absurd (cc)
     go false y z p q t = absurd (cc)
@@ -118,8 +139,10 @@ position_digits (c ∷ cs) position e = go (is_between 0x31 0x39 c) (list_all is
 abbrev are_digits : List (List ℕ) → Bool
 are_digits parts = list_all (list_all is_digit) parts
 
-one_there : (part : List ℕ) (parts : List (List ℕ)) (o : Option ℕ) (rest : Option (List ℕ)) (path : List ℕ) → position_of part ≡ o → positions parts ≡ rest
-    → ((more : List ℕ) → positions parts ≡ Some more → are_digits parts ≡ true) → in_front o rest ≡ Some path → are_digits (part ∷ parts) ≡ true
+one_there : (part : List ℕ) (parts : List (List ℕ)) (o : Option ℕ) (rest : Option (List ℕ)) (path : List ℕ) → position_of part ≡ o
+    → positions parts ≡ rest
+    → ((more : List ℕ) → positions parts ≡ Some more → are_digits parts ≡ true) → in_front o rest ≡ Some path
+    → are_digits (part ∷ parts) ≡ true
 one_there part parts None rest path e f others t = absurd (cc)
 one_there part parts (Some x) None path e f others t = absurd (cc)
 one_there part parts (Some x) (Some more) path e f others t = and_from (list_all is_digit part) (are_digits parts) (position_digits part x e) (others more f)
@@ -194,16 +217,19 @@ some_behind : (rest : List ℕ) → length rest ≢ 0 → positions_of rest ≡ 
 some_behind [] e = absurd (e refl)
 some_behind (c ∷ cs) e = refl
 
-pub root_path : (bs rest : List ℕ) (b : Bool) → IsUtf8 bs → bs ≡ 0x2F ∷ rest → b ≡ (length rest == 0) → b ≡ true → path_of (chars bs) ≡ Some []
+pub root_path : (bs rest : List ℕ) (b : Bool) → IsUtf8 bs → bs ≡ 0x2F ∷ rest → b ≡ (length rest == 0) → b ≡ true
+    → path_of (chars bs) ≡ Some []
 root_path bs rest b u e t h = let none : length rest ≡ 0 = grind (arith, nat_tests) in path_of-chars bs u ∙ ap path_of e ∙ none_behind rest none
 
-pub longer_path : (bs rest : List ℕ) (b : Bool) → IsUtf8 bs → bs ≡ 0x2F ∷ rest → b ≡ (length rest == 0) → b ≡ false → path_of (chars bs) ≡ positions (parts_of rest)
+pub longer_path : (bs rest : List ℕ) (b : Bool) → IsUtf8 bs → bs ≡ 0x2F ∷ rest → b ≡ (length rest == 0) → b ≡ false
+    → path_of (chars bs) ≡ positions (parts_of rest)
 longer_path bs rest b u e t h = let some : length rest ≢ 0 = grind (arith, nat_tests) in path_of-chars bs u ∙ ap path_of e ∙ some_behind rest some
 
 pub stripped_none : (word : List ℕ) (r : Option (Bor (List ℕ))) → Behind word r → r ≡ None → (rest : List ℕ) → word ≢ 0x2F ∷ rest
 stripped_none word None h e = h
 stripped_none word (Some rest) h e = absurd (cc)
 
-pub stripped_some : (word : List ℕ) (r : Option (Bor (List ℕ))) (rest : Bor (List ℕ)) → Behind word r → r ≡ Some rest → word ≡ 0x2F ∷ rest.now
+pub stripped_some : (word : List ℕ) (r : Option (Bor (List ℕ))) (rest : Bor (List ℕ)) → Behind word r → r ≡ Some rest
+    → word ≡ 0x2F ∷ rest.now
 stripped_some word None rest h e = absurd (cc)
 stripped_some word (Some other) rest h e = let same : other ≡ rest = cc in h ∙ ap (λ (r : Bor (List ℕ)). 0x2F ∷ r.now) same

@@ -21,7 +21,8 @@ reads_as words body word r h reads =
     subst (λ (first : List ℕ). Reads r (request_by (record { first = first; rest = words.rest }) body)) (sym (is_it words.first word h)) reads
 
 -- where it is none of those that are taken
-pub not_asked : (words : Words) (body : List (List ℕ)) → bytes_eq words.first (codes "source") ≡ false → bytes_eq words.first (codes "module") ≡ false
+pub not_asked : (words : Words) (body : List (List ℕ)) → bytes_eq words.first (codes "source") ≡ false
+    → bytes_eq words.first (codes "module") ≡ false
     → bytes_eq words.first (codes "show") ≡ false → bytes_eq words.first (codes "dump") ≡ false → bytes_eq words.first (codes "quit") ≡ false
     → request_by words body ≡ Err 3
 not_asked words body a b c d e = rw (a, b, c, d, e) refl
@@ -29,7 +30,8 @@ not_asked words body a b c d e = rw (a, b, c, d, e) refl
 pub line_no_text : (line : List ℕ) (body : List (List ℕ)) → is_utf8 line ≡ false → request_of (record { line = line; body = body }) ≡ Err 2
 line_no_text line body h = rw h refl
 
-pub body_no_text : (line : List ℕ) (body : List (List ℕ)) → is_utf8 line ≡ true → list_all is_utf8 body ≡ false → request_of (record { line = line; body = body }) ≡ Err 2
+pub body_no_text : (line : List ℕ) (body : List (List ℕ)) → is_utf8 line ≡ true → list_all is_utf8 body ≡ false
+    → request_of (record { line = line; body = body }) ≡ Err 2
 body_no_text line body h b = rw (h, b) refl
 
 pub all_text : (line : List ℕ) (body : List (List ℕ)) → is_utf8 line ≡ true → list_all is_utf8 body ≡ true

@@ -1,5 +1,6 @@
 -- Bytes that are UTF-8, and words that are compared.
-use Rattle.std.proofs.Common.{◌≡◌, ℕ, ◌<◌, suc, Bool, true, false, List, [], ◌∷◌, Result, Ok, Err, refl, sym, ◌∙◌, arith, bytes_eq, ap, zero}
+use Rattle.std.proofs.Common.{◌≡◌, ℕ, ◌<◌, suc, Bool, true, false, List, [], ◌∷◌, Result, Ok, Err, refl, sym, ◌∙◌, arith, bytes_eq}
+use Rattle.std.proofs.Common.{ap, zero}
 use Rattle.std.specs.Prelude.{is_ok}
 use Rattle.std.specs.Char.{is_ascii}
 use Rattle.std.specs.List.{list_all}
@@ -45,7 +46,8 @@ pub ascii_chars : (word : List ℕ) → list_all is_ascii word ≡ true → char
 ascii_chars word small = chars-IsAscii word (all_ascii word small)
 
 -- a text is compared with an ASCII word, whose characters are its bytes
-pub compared : (word other : List ℕ) (r b : Bool) → list_all is_ascii other ≡ true → r ≡ bytes_eq (chars word) (chars other) → r ≡ b → bytes_eq (chars word) other ≡ b
+pub compared : (word other : List ℕ) (r b : Bool) → list_all is_ascii other ≡ true → r ≡ bytes_eq (chars word) (chars other) → r ≡ b
+    → bytes_eq (chars word) other ≡ b
 compared word other r b small e t = ap (bytes_eq (chars word)) (sym (ascii_chars other small)) ∙ sym e ∙ t
 
 pub is_it : (word other : List ℕ) → bytes_eq word other ≡ true → word ≡ other

@@ -20,17 +20,17 @@ begun text word small e = e ∙ ascii_chars word small
 pub written : (r : Result Text Memory) (one other : List ℕ) → one ≡ other → IfOk r (λ text. text ≡ one) → IfOk r (λ text. text ≡ other)
 written r one other e h = IfOk-weaker r (λ text. text ≡ one) (λ text. text ≡ other) (λ text t. t ∙ e) h
 
-pub written_words : (words : List ℕ) → list_all is_ascii words ≡ true → chars words ≡ words
-written_words words small = ascii_chars words small
-
 pub written_refusal : (words : List ℕ) (why : Refusal) → list_all is_ascii words ≡ true
     → with_newline (chars words ++ refusal_text why) ≡ flat_map with_newline ((words ++ refusal_text why) ∷ [])
-written_refusal words why small = ap (λ (w : List ℕ). with_newline (w ++ refusal_text why)) (ascii_chars words small) ∙ sym (append-nil (with_newline (words ++ refusal_text why)))
+written_refusal words why small =
+    ap (λ (w : List ℕ). with_newline (w ++ refusal_text why)) (ascii_chars words small) ∙ sym (append-nil (with_newline (words ++ refusal_text why)))
 
 -- all lines are written, and then the line that ends them
-pub all_shown : (lines : List (List ℕ)) (text new : List ℕ) (n : ℕ) → length lines ≤ n → text ++ flat_map with_newline (drop n lines) ≡ flat_map with_newline lines
+pub all_shown : (lines : List (List ℕ)) (text new : List ℕ) (n : ℕ) → length lines ≤ n
+    → text ++ flat_map with_newline (drop n lines) ≡ flat_map with_newline lines
     → new ≡ text ++ chars (codes ".\n") → new ≡ flat_map with_newline (lines ++ codes "." ∷ [])
 all_shown lines text new n h so_far e =
     e ∙ ap (λ (end : List ℕ). text ++ end) (ascii_chars (codes ".\n") refl)
-    ∙ ap (λ (t : List ℕ). t ++ codes ".\n") (sym (append-nil text) ∙ ap (λ (rest : List (List ℕ)). text ++ flat_map with_newline rest) (sym (drop_all n lines h)) ∙ so_far)
+    ∙ ap (λ (t : List ℕ). t ++ codes ".\n")
+    (sym (append-nil text) ∙ ap (λ (rest : List (List ℕ)). text ++ flat_map with_newline rest) (sym (drop_all n lines h)) ∙ so_far)
     ∙ sym (flat_map-append with_newline lines (codes "." ∷ []))

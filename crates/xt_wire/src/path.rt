@@ -36,6 +36,7 @@ fn read_positions(alloc: Global, text: &str) -> Result<Option<Path>, Memory>
     Ok(Some(path))
 }
 
+// The position that these digits write.
 fn read_position(part: &str) -> Option<u64>
     ensures { result ≡ position_of part.now }
 {

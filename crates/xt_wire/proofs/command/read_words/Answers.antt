@@ -13,17 +13,20 @@ returns-then-is_word c =
 pub returns-then-is_word-2 : goal.returns-then-is_word-2
 returns-then-is_word-2 c =
     reads_as (words_in c.args.words) c.args.body.items (codes "module") c.read_module.result
-    (compared c.args.words.first.now (codes "module") c.is_word-else-is_word.result _ refl c.is_word-else-is_word.ensures c.if-is_word-2.true) c.read_module.ensures
+    (compared c.args.words.first.now (codes "module") c.is_word-else-is_word.result _ refl c.is_word-else-is_word.ensures c.if-is_word-2.true)
+    c.read_module.ensures
 
 pub returns-then-is_word-3 : goal.returns-then-is_word-3
 returns-then-is_word-3 c =
     reads_as (words_in c.args.words) c.args.body.items (codes "show") c.read_show.result
-    (compared c.args.words.first.now (codes "show") c.is_word-else-is_word-2.result _ refl c.is_word-else-is_word-2.ensures c.if-is_word-3.true) c.read_show.ensures
+    (compared c.args.words.first.now (codes "show") c.is_word-else-is_word-2.result _ refl c.is_word-else-is_word-2.ensures c.if-is_word-3.true)
+    c.read_show.ensures
 
 pub returns-then-is_word-4 : goal.returns-then-is_word-4
 returns-then-is_word-4 c =
     reads_as (words_in c.args.words) c.args.body.items (codes "dump") c.read_dump.result
-    (compared c.args.words.first.now (codes "dump") c.is_word-else-is_word-3.result _ refl c.is_word-else-is_word-3.ensures c.if-is_word-4.true) c.read_dump.ensures
+    (compared c.args.words.first.now (codes "dump") c.is_word-else-is_word-3.result _ refl c.is_word-else-is_word-3.ensures c.if-is_word-4.true)
+    c.read_dump.ensures
 
 pub returns-then-is_word-5 : goal.returns-then-is_word-5
 returns-then-is_word-5 c =

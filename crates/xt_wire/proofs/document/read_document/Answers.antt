@@ -7,7 +7,8 @@ use Rattle.xt_wire.proofs.Texts.{compared}
 use Rattle.xt_wire.proofs.document.read_document.Goals as goal
 
 pub returns-then-is_word : goal.returns-then-is_word
-returns-then-is_word c = sym (names_source (chars c.args.word.now) (compared c.args.word.now (codes "source") c.is_word.result _ refl c.is_word.ensures c.if-is_word.true))
+returns-then-is_word c =
+    sym (names_source (chars c.args.word.now) (compared c.args.word.now (codes "source") c.is_word.result _ refl c.is_word.ensures c.if-is_word.true))
 
 pub returns : goal.returns
 returns c =

@@ -17,12 +17,15 @@ returns-then-is_empty c =
     let word = c.args.word.now in
     let stripped = strip_prefix_char 47 word c.strip_prefix.result c.strip_prefix.ensures.cases (lit< tt) in
     ap Some c.new.ensures
-    ∙ sym (root_path word c.in-Some.rest.now c.is_empty.result c.utf8.word (stripped_some word c.strip_prefix.result c.in-Some.rest stripped c.in-Some.is) c.is_empty.ensures c.if-is_empty.true)
+    ∙ sym (root_path word c.in-Some.rest.now c.is_empty.result c.utf8.word (stripped_some word c.strip_prefix.result c.in-Some.rest stripped c.in-Some.is)
+    c.is_empty.ensures c.if-is_empty.true)
 
 pub returns : goal.returns
 returns c =
     let word = c.args.word.now in
     let rest = c.in-Some.rest in
     let stripped = strip_prefix_char 47 word c.strip_prefix.result c.strip_prefix.ensures.cases (lit< tt) in
-    let all = longer_path word rest.now c.is_empty.result c.utf8.word (stripped_some word c.strip_prefix.result rest stripped c.in-Some.is) c.is_empty.ensures c.if-is_empty.false in
-    IfOk-weaker c.read_positions.result (λ path. path ≡ positions (parts_of rest.now)) (λ path. path ≡ path_of (chars word)) (λ path e. e ∙ sym all) c.read_positions.ensures
+    let all = longer_path word rest.now c.is_empty.result c.utf8.word (stripped_some word c.strip_prefix.result rest stripped c.in-Some.is)
+    c.is_empty.ensures c.if-is_empty.false in
+    IfOk-weaker c.read_positions.result (λ path. path ≡ positions (parts_of rest.now)) (λ path. path ≡ path_of (chars word))
+    (λ path e. e ∙ sym all) c.read_positions.ensures

@@ -1,12 +1,9 @@
 use Rattle.std.proofs.Common.{length, sym, ap, ◌∙◌}
 use Rattle.std.specs.List.{slice_split}
-use Rattle.std.specs.Str.Iter.{split_text, split_has_more, split_pattern}
 use Rattle.std.proofs.lemmas.List.{length_push}
 use Rattle.std.proofs.lemmas.Iterator.Consumers.{YieldsList-turn, YieldsList-end}
-use Rattle.std.proofs.lemmas.Iterator.Splits.{YieldsList-from_str_split}
-use Rattle.std.proofs.Common.{lit<}
 use Rattle.spec_session.specs.Request.{is_slash}
-use Rattle.xt_wire.proofs.Paths.{positions, parts_split, position_more, no_position, positions_end, at_start}
+use Rattle.xt_wire.proofs.Paths.{positions, parts_split, parts_given, position_more, no_position, positions_end, at_start}
 use Rattle.xt_wire.proofs.path.read_positions.Goals as goal
 
 pub loop-part-init : goal.loop-part-init
@@ -14,24 +11,30 @@ loop-part-init c = at_start c.new-path.result (positions (slice_split is_slash c
 
 pub loop-part-preserved : goal.loop-part-preserved
 loop-part-preserved c =
-    let same = c.into_iter-part-iterator.ensures.into_iter_gives in
-    let parts = YieldsList-from_str_split 47 c.args.text.now (lit< tt) (ap split_text same ∙ c.split-part-items.ensures.text) (ap split_has_more same ∙ c.split-part-items.ensures.has_more) (ap split_pattern same ∙ c.split-part-items.ensures.pattern) in
+    let split = c.split-part-items in
+    let parts = parts_given c.args.text.now _ split.result c.into_iter-part-iterator.ensures.into_iter_gives split.ensures.text split.ensures.has_more
+    split.ensures.pattern in
     let turn = YieldsList-turn parts c.loop-part.yielded _ c.loop-part.yielded_by _ _ c.in-Some.part c.in-Some.is c.next.ensures.steps in
     rw (length_push c.loop-part.yielded c.in-Some.part)
-    (position_more (slice_split is_slash c.args.text.now) c.loop-part.path c.push.new.self c.in-Some.part.now (length c.loop-part.yielded) c.in-Some-read_position.position
+    (position_more (slice_split is_slash c.args.text.now) c.loop-part.path c.push.new.self c.in-Some.part.now (length c.loop-part.yielded)
+    c.in-Some-read_position.position
     turn c.in-Some-read_position.ensures c.in_ok-push-in-Some-read_position.ensures.ok c.loop-part.invariant)
 
 pub returns-in-None-read_position : goal.returns-in-None-read_position
 returns-in-None-read_position c =
-    let same = c.into_iter-part-iterator.ensures.into_iter_gives in
-    let parts = YieldsList-from_str_split 47 c.args.text.now (lit< tt) (ap split_text same ∙ c.split-part-items.ensures.text) (ap split_has_more same ∙ c.split-part-items.ensures.has_more) (ap split_pattern same ∙ c.split-part-items.ensures.pattern) in
+    let split = c.split-part-items in
+    let parts = parts_given c.args.text.now _ split.result c.into_iter-part-iterator.ensures.into_iter_gives split.ensures.text split.ensures.has_more
+    split.ensures.pattern in
     let turn = YieldsList-turn parts c.loop-part.yielded _ c.loop-part.yielded_by _ _ c.in-Some.part c.in-Some.is c.next.ensures.steps in
     sym (ap positions (parts_split c.args.text.now)
-    ∙ no_position (slice_split is_slash c.args.text.now) c.loop-part.path c.in-Some.part.now (length c.loop-part.yielded) turn c.in-None-read_position.ensures c.loop-part.invariant)
+    ∙ no_position (slice_split is_slash c.args.text.now) c.loop-part.path c.in-Some.part.now (length c.loop-part.yielded) turn
+    c.in-None-read_position.ensures c.loop-part.invariant)
 
 pub returns : goal.returns
 returns c =
-    let same = c.into_iter-part-iterator.ensures.into_iter_gives in
-    let parts = YieldsList-from_str_split 47 c.args.text.now (lit< tt) (ap split_text same ∙ c.split-part-items.ensures.text) (ap split_has_more same ∙ c.split-part-items.ensures.has_more) (ap split_pattern same ∙ c.split-part-items.ensures.pattern) in
+    let split = c.split-part-items in
+    let parts = parts_given c.args.text.now _ split.result c.into_iter-part-iterator.ensures.into_iter_gives split.ensures.text split.ensures.has_more
+    split.ensures.pattern in
     let end = YieldsList-end parts c.loop-part.yielded _ c.loop-part.yielded_by _ _ c.in-None.is c.next.ensures.steps in
-    sym (ap positions (parts_split c.args.text.now) ∙ positions_end (slice_split is_slash c.args.text.now) c.loop-part.path (length c.loop-part.yielded) end.1 c.loop-part.invariant)
+    sym (ap positions (parts_split c.args.text.now)
+    ∙ positions_end (slice_split is_slash c.args.text.now) c.loop-part.path (length c.loop-part.yielded) end.1 c.loop-part.invariant)
