@@ -7,9 +7,8 @@ ghost use Rattle.spec_session.specs.Request as spec;
 ghost use Rattle.xt_wire.specs.View.{characters, rest_of, words_in};
 
 use std::alloc::Global;
-use xt_text::split_first;
 use xt_pyx::unescape;
-use xt_text::{Memory, Text};
+use xt_text::{Memory, Text, split_first};
 
 /// A text cut at its first space.
 #[derive(Clone, Copy)]
