@@ -1,6 +1,6 @@
 -- Document order (XPath 1.0, section 5), and the nodes of a document in it.
 use Rattle.std.specs.Prelude.{ℕ, ◌+◌, Bool, List, [], ◌∷◌, ◌++◌, map, IsTrue}
-use Rattle.std.specs.Ordering.{nat_cmp, is_lt}
+use Rattle.std.specs.Ordering.{nat_cmp, is_lt, is_eq}
 use Rattle.std.specs.declared.cmp.Ordering.{Ordering}
 use Rattle.std.specs.declared.cmp.Ordering.TheVariants.{Less, Greater}
 use Rattle.std.specs.Cmp.Lexicographic.{slice_cmp}
@@ -45,6 +45,9 @@ precedes p q = is_lt (document_cmp p q)
 
 abbrev pub comes_before : Place → Place → Bool
 comes_before p q = precedes (way_to p) (way_to q)
+
+abbrev pub is_same_place : Place → Place → Bool
+is_same_place p q = is_eq (document_cmp (way_to p) (way_to q))
 
 -- ---- The nodes of a document
 

@@ -58,7 +58,7 @@ abbrev mutual
     | false ↦ session_with line (body ++ next ∷ []) lines
   ]
 
--- the status of a call of the program: 0 at the end of the lines or at `quit`; 5 where the source goes on behind the
+-- the status of a call of the program: 0 at the end of the lines or at `quit`; 5 where the source goes on after the
 -- bytes that may be taken; 4 where it ends inside a body
 abbrev pub status_of : Bool → Ending → ℕ
 status_of goes_on Quit = 0

@@ -20,7 +20,7 @@ commands_with_bodies = refl
 pub inside_a_body : session_of (codes "module main" ∷ codes "(a" ∷ []) ≡ record { commands = []; ending = Unfinished }
 inside_a_body = refl
 
--- `quit` with anything behind it is another command
+-- `quit` with anything after it is another command
 pub quit_alone : session_of (codes "quit " ∷ []) ≡ record { commands = record { line = codes "quit "; body = [] } ∷ []; ending = Finished }
 quit_alone = refl
 

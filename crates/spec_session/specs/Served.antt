@@ -1,7 +1,9 @@
 -- What a call that serves a session has done, by the status that it answers.
-use Rattle.std.specs.Prelude.{ℕ, ◌≡◌, ◌≤◌, ◌+◌, ◌⊎◌, Bool, false, List, [], ◌∷◌, ◌++◌, length, nat_lt, bytes_eq, codes, Option, IfSome, IsSomeAnd}
+use Rattle.std.specs.Prelude.{ℕ, ◌≡◌, ◌≢◌, ◌≤◌, ◌+◌, ◌⊎◌, Bool, false, List, [], ◌∷◌, ◌++◌, length, nat_lt, bytes_eq}
+use Rattle.std.specs.Prelude.{codes, Option, IfSome, IsSomeAnd}
 use Rattle.std.specs.List.{flat_map}
 use Rattle.spec_lines.specs.Lines.{lines_within, ended_lines}
+use Rattle.spec_session.specs.declared.kinds.Ending.TheVariants.{Quit}
 use Rattle.spec_session.specs.Command.{Command, Session, session_of, status_of}
 use Rattle.spec_session.specs.Reply.{Reply, reply_bytes}
 use Rattle.spec_lines.specs.Outside.{Appends}
@@ -23,11 +25,13 @@ pub record IsServed (limit : ℕ) (bytes : List ℕ) (status : ℕ) (text : List
   pub answered : AreReplies (session_within limit bytes).commands text
   pub ends : status ≡ status_of (nat_lt limit (length bytes)) (session_within limit bytes).ending
 
--- a call that a fault of the source ended: the whole commands among the bytes taken are answered
+-- a call that a fault of the source ended: the whole commands among the bytes taken are answered, and `quit` has not ended them, since
+-- nothing is read after it
 pub record IsCutShort (bytes left : List ℕ) (text : List ℕ) : Type 0 where
   pub taken : List ℕ
   pub all : bytes ≡ taken ++ left
   pub answered : AreReplies (session_of (ended_lines taken)).commands text
+  pub goes_on : (session_of (ended_lines taken)).ending ≢ Quit
 
 -- a call that a fault of the sink ended: what is written is a prefix of the replies to the first of the commands
 pub record IsPrefixOfReplies (limit : ℕ) (bytes : List ℕ) (text : List ℕ) : Type 0 where
@@ -46,10 +50,12 @@ pub record TakesAtMost (limit : ℕ) (bytes left : List ℕ) : Type 0 where
 -- The headline. What a call that serves a session has done, where source and sink tell their bytes, by its status: 0, 4
 -- and 5 without a fault, 1 and 2 at a fault of the source or of the sink, 3 for want of memory at the start.
 pub record Serves (limit : ℕ) (before left : Option (List ℕ)) (written now : Option (List ℕ)) (status : ℕ) : Type 0 where
-  pub served : (status ≡ 0) ⊎ ((status ≡ 4) ⊎ (status ≡ 5)) → IfSome before (λ bytes. (text : List ℕ) × IsServed limit bytes status text × Appends written now text)
-  pub cut_short : status ≡ 1 → IfSome before (λ bytes. IsSomeAnd left (λ rest. (text : List ℕ) × IsCutShort bytes rest text × Appends written now text))
+  pub served : (status ≡ 0) ⊎ ((status ≡ 4) ⊎ (status ≡ 5))
+      → IfSome before (λ bytes. (text : List ℕ) × IsServed limit bytes status text × Appends written now text)
+  pub cut_short : status ≡ 1
+      → IfSome before (λ bytes. IsSomeAnd left (λ rest. (text : List ℕ) × IsCutShort bytes rest text × Appends written now text))
   pub prefix : status ≡ 2 → IfSome before (λ bytes. (text : List ℕ) × IsPrefixOfReplies limit bytes text × Appends written now text)
-  pub nothing : status ≡ 3 → Appends written now []
+  pub nothing : status ≡ 3 → (left ≡ before) × (now ≡ written)
   pub takes : IfSome before (λ bytes. IsSomeAnd left (λ rest. TakesAtMost limit bytes rest))
   pub no_other : status ≤ 5
 

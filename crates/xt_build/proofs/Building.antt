@@ -22,7 +22,7 @@ pub merged_none : (a b : Option Fault) → merged a b ≡ None → (a ≡ None) 
 merged_none None b h = (refl, h)
 merged_none (Some f) b h = absurd (cc)
 
-least_none : (xs : List Fault) → least xs ≡ None → xs ≡ []
+pub least_none : (xs : List Fault) → least xs ≡ None → xs ≡ []
 least_none [] h = refl
 least_none (x ∷ xs) h = absurd (cc)
 

@@ -19,3 +19,4 @@ pub mod RoundTripLines
 pub mod Runs
 pub mod Stacks
 pub mod Writing
+pub mod Heights

@@ -1,42 +1,134 @@
 -- How taking a command goes on and ends, between two commands and inside a body.
-use Rattle.std.proofs.Common.{◌≡◌, ℕ, ◌+◌, ◌≤◌, Bool, true, false, List, [], ◌∷◌, ◌++◌, length, Option, None, Some, refl, sym, ◌∙◌, ap, subst, arith, inl, inr}
-use Rattle.std.specs.Prelude.{IfSome, IsSomeAnd}
-use Rattle.spec_session.specs.declared.kinds.LineKind.TheVariants.{Empty, Quit as QuitLine, WithBody, Alone}
-use Rattle.spec_session.specs.declared.kinds.Ending.TheVariants.{Finished, Unfinished}
+use Rattle.std.proofs.Common.{◌≡◌, ℕ, Bool, true, false, List, [], ◌∷◌, ◌++◌, Option, refl, sym, ◌∙◌, ap, subst, inl, inr}
 use Rattle.spec_lines.specs.Lines.{Reader, GivesLine, IsFinished, IsOver, TakesUpTo, head_of}
-use Rattle.spec_session.specs.Command.{Command, session_of, session_with, kind_of, is_end}
 use Rattle.spec_session.specs.declared.kinds.LineKind.{LineKind}
+use Rattle.spec_session.specs.declared.kinds.LineKind.TheVariants.{Empty, Quit as QuitLine, WithBody, Alone}
+use Rattle.spec_session.specs.declared.kinds.Ending.TheVariants.{Finished, Quit, Unfinished}
+use Rattle.spec_session.specs.Command.{Command, Session, session_of, session_with, after, ended, kind_of, is_end}
 use Rattle.xt_session.specs.declared.command.Taken.{Taken}
 use Rattle.xt_session.specs.declared.command.Taken.TheVariants.{Command as Whole, Skipped, Stopped, Failed}
-use Rattle.xt_session.specs.Progress.{GivesCommand, IsDone, IsCut, FailsInLine, Took, IsAlone, extra_of}
-use Rattle.xt_session.proofs.Taking.{GoesOn, goes_at_start, goes_line, whole_with, done_at_end, done_at_limit, done_at_quit, session-empty, session-quit, session-body, session-alone, body-end, body-more, head-head, is_end-head, takes_both}
-use Rattle.xt_session.proofs.Giving.{one_given}
-use Rattle.xt_session.proofs.Meeting.{cut_from_fails}
+use Rattle.xt_session.specs.Progress.{GivesCommand, IsDone, IsCut, FailsInLine, Took, IsAlone}
+use Rattle.xt_session.proofs.Giving.{takes_one}
+use Rattle.xt_session.proofs.Taking.{GoesOn, goes_at_start, goes_line, whole_with, done_at_end, done_at_limit, done_at_quit, cut_in_line}
 
--- inside a body
-pub body_whole : (line : List ℕ) (body : List (List ℕ)) (next : List ℕ) (b : Reader) (q : Option (List ℕ)) (c : Reader) (r : Option (List ℕ))
-    → GivesLine b q next c r → is_end next ≡ true → GivesCommand (session_with line body) b q (record { line = line; body = body }) c r
-body_whole line body next b q c r gives e = whole_with (session_with line body) b q next (record { line = line; body = body }) c r gives (body-end line body next e)
+-- ---- Between two commands
 
-pub body_finished : (line : List ℕ) (body : List (List ℕ)) (b : Reader) (q : Option (List ℕ)) → IsFinished b q → IsDone (session_with line body) b q 4
-body_finished line body b q h = done_at_end (session_with line body) Unfinished 4 b q refl h refl (inr (inl refl))
+-- what a line does there
+session-empty : (line : List ℕ) → kind_of (head_of line) ≡ Empty → (rest : List (List ℕ)) → session_of (line ∷ rest) ≡ session_of rest
+session-empty line e rest = rw (e, session_of) refl
 
-pub body_over : (line : List ℕ) (body : List (List ℕ)) (b : Reader) (q : Option (List ℕ)) → IsOver b q → IsDone (session_with line body) b q 5
-body_over line body b q h = done_at_limit (session_with line body) Unfinished b q refl h refl
+session-quit : (line : List ℕ) → kind_of (head_of line) ≡ QuitLine → (rest : List (List ℕ)) → session_of (line ∷ rest) ≡ ended Quit
+session-quit line e rest = rw (e, session_of) refl
 
-pub body_fails : (line : List ℕ) (body : List (List ℕ)) (b : Reader) (q r : Option (List ℕ)) → FailsInLine b q r → IsCut (session_with line body) b q r
-body_fails line body b q r h = cut_from_fails (session_with line body) b q r refl h
+session-body : (line : List ℕ) → kind_of (head_of line) ≡ WithBody → (rest : List (List ℕ))
+    → session_of (line ∷ rest) ≡ session_with line [] rest
+session-body line e rest = rw (e, session_of) refl
 
-pub body_more : (f : List (List ℕ) → _) (line : List ℕ) (body : List (List ℕ)) (next : List ℕ) (a : Reader) (p : Option (List ℕ)) (b : Reader) (q : Option (List ℕ)) (c : Reader) (r : Option (List ℕ))
-    → GoesOn f a p (session_with line body) b q → GivesLine b q next c r → is_end next ≡ false → GoesOn f a p (session_with line (body ++ next ∷ [])) c r
-body_more f line body next a p b q c r on gives e = goes_line f a p (session_with line body) b q next (session_with line (body ++ next ∷ [])) c r on gives (body-more line body next e)
+session-alone : (line : List ℕ) → kind_of (head_of line) ≡ Alone → (rest : List (List ℕ))
+    → session_of (line ∷ rest) ≡ after (record { line = line; body = [] }) (session_of rest)
+session-alone line e rest = rw (e, session_of) refl
+
+-- a head tells what its line would
+head-head : (line : List ℕ) → head_of (head_of line) ≡ head_of line
+head-head (a ∷ b ∷ c ∷ d ∷ e ∷ f ∷ g ∷ rest) = refl
+head-head [] = refl
+head-head (a ∷ []) = refl
+head-head (a ∷ b ∷ []) = refl
+head-head (a ∷ b ∷ c ∷ []) = refl
+head-head (a ∷ b ∷ c ∷ d ∷ []) = refl
+head-head (a ∷ b ∷ c ∷ d ∷ e ∷ []) = refl
+head-head (a ∷ b ∷ c ∷ d ∷ e ∷ f ∷ []) = refl
+
+-- what a line is, by the line or by its head
+pub kind_by_line : {line bytes : List ℕ} {kind : LineKind} → bytes ≡ line → kind ≡ kind_of (head_of bytes) → kind_of (head_of line) ≡ kind
+kind_by_line e k = ap (λ (l : List ℕ). kind_of (head_of l)) (sym e) ∙ sym k
+
+pub kind_by_head : (line : List ℕ) {head bytes : List ℕ} {kind : LineKind}
+    → head ≡ head_of line → bytes ≡ head → kind ≡ kind_of (head_of bytes) → kind_of (head_of line) ≡ kind
+kind_by_head line h e k = ap kind_of (sym (head-head line)) ∙ ap (λ (l : List ℕ). kind_of (head_of l)) (sym h ∙ sym e) ∙ sym k
+
+pub goes_empty : {a b c : Reader} {p q r : Option (List ℕ)} {line : List ℕ}
+    → GoesOn session_of a p session_of b q → GivesLine b q line c r → TakesUpTo 0 b q c r → kind_of (head_of line) ≡ Empty
+    → GoesOn session_of a p session_of c r
+goes_empty {line = line} on gives takes e = goes_line on gives takes (session-empty line e)
+
+pub goes_body : {a b c : Reader} {p q r : Option (List ℕ)} {line : List ℕ}
+    → GoesOn session_of a p session_of b q → GivesLine b q line c r → TakesUpTo 0 b q c r → kind_of (head_of line) ≡ WithBody
+    → GoesOn session_of a p (session_with line []) c r
+goes_body {line = line} on gives takes e = goes_line on gives takes (session-body line e)
+
+pub done_quit : {b c : Reader} {q r : Option (List ℕ)} {line : List ℕ}
+    → GivesLine b q line c r → TakesUpTo 0 b q c r → kind_of (head_of line) ≡ QuitLine → IsDone session_of b q 0 c r
+done_quit {line = line} gives takes e = done_at_quit gives (takes_one takes) (session-quit line e)
+
+pub alone_whole : {b c : Reader} {q r : Option (List ℕ)} {line : List ℕ}
+    → GivesLine b q line c r → TakesUpTo 0 b q c r → kind_of (head_of line) ≡ Alone
+    → GivesCommand session_of b q (record { line = line; body = [] }) c r
+alone_whole {line = line} gives takes e = whole_with gives takes (session-alone line e)
+
+-- the command of a line that has no body
+pub alone_took : {b c : Reader} {q r : Option (List ℕ)} {line : List ℕ} (taken : Taken)
+    → IsAlone line taken → GivesLine b q line c r → TakesUpTo 0 b q c r → kind_of (head_of line) ≡ Alone → Took session_of b q taken c r
+alone_took {b = b} {c = c} {q = q} {r = r} (Whole command) is gives takes e =
+    subst (λ (made : Command). GivesCommand session_of b q made c r) (sym is) (alone_whole gives takes e)
+alone_took Skipped is gives takes e = absurd is
+alone_took (Stopped status) is gives takes e = absurd is
+alone_took Failed is gives takes e = absurd is
+
+pub done_finished : {b c : Reader} {q r : Option (List ℕ)} → IsFinished b q → TakesUpTo 0 b q c r → IsDone session_of b q 0 c r
+done_finished h takes = done_at_end session_of Finished refl refl (inl refl) h (takes_one takes)
+
+pub done_over : {b c : Reader} {q r : Option (List ℕ)} → IsOver b q → TakesUpTo 1 b q c r → IsDone session_of b q 5 c r
+done_over h takes = done_at_limit session_of Finished refl refl h takes
+
+pub done_fails : {b c : Reader} {q r : Option (List ℕ)} → FailsInLine b q r → TakesUpTo 0 b q c r → IsCut session_of b q c r
+done_fails h takes = cut_in_line session_of Finished refl (λ quit. cc) h takes
+
+-- ---- Inside a body
+
+-- what a line does there
+body-end : (line : List ℕ) (body : List (List ℕ)) (next : List ℕ) → is_end next ≡ true → (rest : List (List ℕ))
+    → session_with line body (next ∷ rest) ≡ after (record { line = line; body = body }) (session_of rest)
+body-end line body next e rest = rw (e, session_with) refl
+
+body-more : (line : List ℕ) (body : List (List ℕ)) (next : List ℕ) → is_end next ≡ false → (rest : List (List ℕ))
+    → session_with line body (next ∷ rest) ≡ session_with line (body ++ next ∷ []) rest
+body-more line body next e rest = rw (e, session_with) refl
+
+is_end-head : (line : List ℕ) → is_end (head_of line) ≡ is_end line
+is_end-head [] = refl
+is_end-head (a ∷ []) = refl
+is_end-head (a ∷ b ∷ rest) = refl
 
 -- the test for the end of a body, by the line or by its head
-pub end_by_line : (next bytes : List ℕ) (t u : Bool) → bytes ≡ next → t ≡ is_end bytes → t ≡ u → is_end next ≡ u
-end_by_line next bytes t u e f h = ap is_end (sym e) ∙ sym f ∙ h
+pub end_by_line : {next bytes : List ℕ} {found tested : Bool} → bytes ≡ next → found ≡ is_end bytes → found ≡ tested → is_end next ≡ tested
+end_by_line e f h = ap is_end (sym e) ∙ sym f ∙ h
 
-pub end_by_head : (next head bytes : List ℕ) (t u : Bool) → head ≡ head_of next → bytes ≡ head → t ≡ is_end bytes → t ≡ u → is_end next ≡ u
-end_by_head next head bytes t u k e f h = sym (is_end-head next) ∙ ap is_end (sym k) ∙ ap is_end (sym e) ∙ sym f ∙ h
+pub end_by_head : (next : List ℕ) {head bytes : List ℕ} {found tested : Bool}
+    → head ≡ head_of next → bytes ≡ head → found ≡ is_end bytes → found ≡ tested → is_end next ≡ tested
+end_by_head next k e f h = sym (is_end-head next) ∙ ap is_end (sym k) ∙ ap is_end (sym e) ∙ sym f ∙ h
+
+pub body_whole : {line : List ℕ} {body : List (List ℕ)} {b c : Reader} {q r : Option (List ℕ)} {next : List ℕ}
+    → GivesLine b q next c r → TakesUpTo 0 b q c r → is_end next ≡ true
+    → GivesCommand (session_with line body) b q (record { line = line; body = body }) c r
+body_whole {line = line} {body = body} {next = next} gives takes e = whole_with gives takes (body-end line body next e)
+
+pub body_more : {f : List (List ℕ) → Session} {line : List ℕ} {body : List (List ℕ)} {a b c : Reader} {p q r : Option (List ℕ)} {next : List ℕ}
+    → GoesOn f a p (session_with line body) b q → GivesLine b q next c r → TakesUpTo 0 b q c r → is_end next ≡ false
+    → GoesOn f a p (session_with line (body ++ next ∷ [])) c r
+body_more {line = line} {body = body} {next = next} on gives takes e = goes_line on gives takes (body-more line body next e)
+
+pub body_finished : (line : List ℕ) (body : List (List ℕ)) {b c : Reader} {q r : Option (List ℕ)}
+    → IsFinished b q → TakesUpTo 0 b q c r → IsDone (session_with line body) b q 4 c r
+body_finished line body h takes = done_at_end (session_with line body) Unfinished refl refl (inr (inl refl)) h (takes_one takes)
+
+pub body_over : (line : List ℕ) (body : List (List ℕ)) {b c : Reader} {q r : Option (List ℕ)}
+    → IsOver b q → TakesUpTo 1 b q c r → IsDone (session_with line body) b q 5 c r
+body_over line body h takes = done_at_limit (session_with line body) Unfinished refl refl h takes
+
+pub body_fails : (line : List ℕ) (body : List (List ℕ)) {b c : Reader} {q r : Option (List ℕ)}
+    → FailsInLine b q r → TakesUpTo 0 b q c r → IsCut (session_with line body) b q c r
+body_fails line body h takes = cut_in_line (session_with line body) Unfinished refl (λ quit. cc) h takes
 
 -- skipping a body, whatever its command and its lines so far
 abbrev pub Skips : Reader → Option (List ℕ) → Reader → Option (List ℕ) → Type 0
@@ -45,62 +137,8 @@ Skips a p b q = (line : List ℕ) (body : List (List ℕ)) → (now : List (List
 pub skips_at_start : (a : Reader) (p : Option (List ℕ)) → Skips a p a p
 skips_at_start a p line body = (body, goes_at_start (session_with line body) a p)
 
-pub skips_more : (a : Reader) (p : Option (List ℕ)) (b : Reader) (q : Option (List ℕ)) (next : List ℕ) (c : Reader) (r : Option (List ℕ)) → Skips a p b q → GivesLine b q next c r → is_end next ≡ false → Skips a p c r
-skips_more a p b q next c r skips gives e line body =
+pub skips_more : (a : Reader) (p : Option (List ℕ)) {b c : Reader} {q r : Option (List ℕ)} {next : List ℕ}
+    → Skips a p b q → GivesLine b q next c r → TakesUpTo 0 b q c r → is_end next ≡ false → Skips a p c r
+skips_more a p {next = next} skips gives takes e line body =
     let on = skips line body in
-    (on.0 ++ next ∷ [], body_more (session_with line body) line on.0 next a p b q c r on.1 gives e)
-
--- between two commands
-pub done_finished : (b : Reader) (q : Option (List ℕ)) → IsFinished b q → IsDone session_of b q 0
-done_finished b q h = done_at_end session_of Finished 0 b q refl h refl (inl refl)
-
-pub done_over : (b : Reader) (q : Option (List ℕ)) → IsOver b q → IsDone session_of b q 5
-done_over b q h = done_at_limit session_of Finished b q refl h refl
-
-pub done_fails : (b : Reader) (q r : Option (List ℕ)) → FailsInLine b q r → IsCut session_of b q r
-done_fails b q r h = cut_from_fails session_of b q r refl h
-
-pub done_quit : (line : List ℕ) (b : Reader) (q : Option (List ℕ)) (c : Reader) (r : Option (List ℕ)) → GivesLine b q line c r → kind_of (head_of line) ≡ QuitLine → IsDone session_of b q 0
-done_quit line b q c r gives e = done_at_quit session_of line b q c r (one_given b q line c r gives) (session-quit line e)
-
-pub alone_whole : (line : List ℕ) (b : Reader) (q : Option (List ℕ)) (c : Reader) (r : Option (List ℕ)) → GivesLine b q line c r → kind_of (head_of line) ≡ Alone
-    → GivesCommand session_of b q (record { line = line; body = [] }) c r
-alone_whole line b q c r gives e = whole_with session_of b q line (record { line = line; body = [] }) c r gives (session-alone line e)
-
-pub goes_empty : (a : Reader) (p : Option (List ℕ)) (b : Reader) (q : Option (List ℕ)) (line : List ℕ) (c : Reader) (r : Option (List ℕ))
-    → GoesOn session_of a p session_of b q → GivesLine b q line c r → kind_of (head_of line) ≡ Empty → GoesOn session_of a p session_of c r
-goes_empty a p b q line c r on gives e = goes_line session_of a p session_of b q line session_of c r on gives (session-empty line e)
-
-pub goes_body : (a : Reader) (p : Option (List ℕ)) (b : Reader) (q : Option (List ℕ)) (line : List ℕ) (c : Reader) (r : Option (List ℕ))
-    → GoesOn session_of a p session_of b q → GivesLine b q line c r → kind_of (head_of line) ≡ WithBody → GoesOn session_of a p (session_with line []) c r
-goes_body a p b q line c r on gives e = goes_line session_of a p session_of b q line (session_with line []) c r on gives (session-body line e)
-
--- bytes taken in two steps
-pub takes_on : (n m : ℕ) (a : Reader) (p : Option (List ℕ)) (b : Reader) (q : Option (List ℕ)) (c : Reader) (r : Option (List ℕ)) → n ≤ m → TakesUpTo 0 a p b q → TakesUpTo n b q c r → TakesUpTo m a p c r
-takes_on n m a p b q c r few g h = record { bytes = go p r (takes_both 0 n a p b q c r g h).bytes }
-  where
-    go : (o u : Option (List ℕ)) → IfSome o (λ left. IsSomeAnd u (λ rest. (taken : List ℕ) × (left ≡ taken ++ rest) × (length taken + c.room ≤ a.room + (0 + n))))
-        → IfSome o (λ left. IsSomeAnd u (λ rest. (taken : List ℕ) × (left ≡ taken ++ rest) × (length taken + c.room ≤ a.room + m)))
-    go None u e = tt
-    go (Some left) None e = absurd e
-    go (Some left) (Some rest) e = let k = e.2 in (e.0, e.1, omega arith)
-
--- what a line is, by the line or by its head
-pub kind_by_line : (line bytes : List ℕ) (kind : LineKind) → bytes ≡ line → kind ≡ kind_of (head_of bytes) → kind_of (head_of line) ≡ kind
-kind_by_line line bytes kind e k = ap (λ (l : List ℕ). kind_of (head_of l)) (sym e) ∙ sym k
-
-pub kind_by_head : (line head bytes : List ℕ) (kind : LineKind) → head ≡ head_of line → bytes ≡ head → kind ≡ kind_of (head_of bytes) → kind_of (head_of line) ≡ kind
-kind_by_head line head bytes kind h e k = ap kind_of (sym (head-head line)) ∙ ap (λ (l : List ℕ). kind_of (head_of l)) (sym h ∙ sym e) ∙ sym k
-
--- the command of a line that has no body
-pub alone_took : (line : List ℕ) (taken : Taken) (b : Reader) (q : Option (List ℕ)) (c : Reader) (r : Option (List ℕ)) → IsAlone line taken → GivesLine b q line c r → kind_of (head_of line) ≡ Alone → Took session_of b q taken c r
-alone_took line (Whole held) b q c r is gives e = subst (λ (command : Command). GivesCommand session_of b q command c r) (sym is) (alone_whole line b q c r gives e)
-alone_took line Skipped b q c r is gives e = absurd is
-alone_took line (Stopped status) b q c r is gives e = absurd is
-alone_took line Failed b q c r is gives e = absurd is
-
-pub alone_takes : (line : List ℕ) (taken : Taken) (a : Reader) (p : Option (List ℕ)) (c : Reader) (r : Option (List ℕ)) → IsAlone line taken → TakesUpTo 0 a p c r → TakesUpTo (extra_of taken) a p c r
-alone_takes line (Whole held) a p c r is takes = takes
-alone_takes line Skipped a p c r is takes = absurd is
-alone_takes line (Stopped status) a p c r is takes = absurd is
-alone_takes line Failed a p c r is takes = absurd is
+    (on.0 ++ next ∷ [], body_more on.1 gives takes e)

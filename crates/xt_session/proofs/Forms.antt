@@ -37,8 +37,10 @@ pub twelve : {X : Type 0} (xs : List X) (a b c d e f g h i j k l : X) → 12 ≤
     → a ≡ get_or xs 0 a → b ≡ get_or xs 1 b → c ≡ get_or xs 2 c → d ≡ get_or xs 3 d → e ≡ get_or xs 4 e → f ≡ get_or xs 5 f
     → g ≡ get_or xs 6 g → h ≡ get_or xs 7 h → i ≡ get_or xs 8 i → j ≡ get_or xs 9 j → k ≡ get_or xs 10 k → l ≡ get_or xs 11 l
     → xs ≡ a ∷ b ∷ c ∷ d ∷ e ∷ f ∷ g ∷ h ∷ i ∷ j ∷ k ∷ l ∷ []
-twelve (x0 ∷ x1 ∷ x2 ∷ x3 ∷ x4 ∷ x5 ∷ x6 ∷ x7 ∷ x8 ∷ x9 ∷ x10 ∷ x11 ∷ []) a b c d e f g h i j k l m n p0 p1 p2 p3 p4 p5 p6 p7 p8 p9 p10 p11 = cc
-twelve (x0 ∷ x1 ∷ x2 ∷ x3 ∷ x4 ∷ x5 ∷ x6 ∷ x7 ∷ x8 ∷ x9 ∷ x10 ∷ x11 ∷ x12 ∷ xs) a b c d e f g h i j k l m n p0 p1 p2 p3 p4 p5 p6 p7 p8 p9 p10 p11 = absurd (omega arith)
+twelve (x0 ∷ x1 ∷ x2 ∷ x3 ∷ x4 ∷ x5 ∷ x6 ∷ x7 ∷ x8 ∷ x9 ∷ x10 ∷ x11 ∷ []) a b c d e f g h i j k l m n p0 p1 p2 p3 p4 p5 p6 p7 p8 p9
+    p10 p11 = cc
+twelve (x0 ∷ x1 ∷ x2 ∷ x3 ∷ x4 ∷ x5 ∷ x6 ∷ x7 ∷ x8 ∷ x9 ∷ x10 ∷ x11 ∷ x12 ∷ xs) a b c d e f g h i j k l m n p0 p1 p2 p3 p4 p5 p6
+    p7 p8 p9 p10 p11 = absurd (omega arith)
 twelve [] a b c d e f g h i j k l m n p0 p1 p2 p3 p4 p5 p6 p7 p8 p9 p10 p11 = absurd (omega arith)
 twelve (x0 ∷ []) a b c d e f g h i j k l m n p0 p1 p2 p3 p4 p5 p6 p7 p8 p9 p10 p11 = absurd (omega arith)
 twelve (x0 ∷ x1 ∷ []) a b c d e f g h i j k l m n p0 p1 p2 p3 p4 p5 p6 p7 p8 p9 p10 p11 = absurd (omega arith)
@@ -48,21 +50,30 @@ twelve (x0 ∷ x1 ∷ x2 ∷ x3 ∷ x4 ∷ []) a b c d e f g h i j k l m n p0 p1
 twelve (x0 ∷ x1 ∷ x2 ∷ x3 ∷ x4 ∷ x5 ∷ []) a b c d e f g h i j k l m n p0 p1 p2 p3 p4 p5 p6 p7 p8 p9 p10 p11 = absurd (omega arith)
 twelve (x0 ∷ x1 ∷ x2 ∷ x3 ∷ x4 ∷ x5 ∷ x6 ∷ []) a b c d e f g h i j k l m n p0 p1 p2 p3 p4 p5 p6 p7 p8 p9 p10 p11 = absurd (omega arith)
 twelve (x0 ∷ x1 ∷ x2 ∷ x3 ∷ x4 ∷ x5 ∷ x6 ∷ x7 ∷ []) a b c d e f g h i j k l m n p0 p1 p2 p3 p4 p5 p6 p7 p8 p9 p10 p11 = absurd (omega arith)
-twelve (x0 ∷ x1 ∷ x2 ∷ x3 ∷ x4 ∷ x5 ∷ x6 ∷ x7 ∷ x8 ∷ []) a b c d e f g h i j k l m n p0 p1 p2 p3 p4 p5 p6 p7 p8 p9 p10 p11 = absurd (omega arith)
-twelve (x0 ∷ x1 ∷ x2 ∷ x3 ∷ x4 ∷ x5 ∷ x6 ∷ x7 ∷ x8 ∷ x9 ∷ []) a b c d e f g h i j k l m n p0 p1 p2 p3 p4 p5 p6 p7 p8 p9 p10 p11 = absurd (omega arith)
-twelve (x0 ∷ x1 ∷ x2 ∷ x3 ∷ x4 ∷ x5 ∷ x6 ∷ x7 ∷ x8 ∷ x9 ∷ x10 ∷ []) a b c d e f g h i j k l m n p0 p1 p2 p3 p4 p5 p6 p7 p8 p9 p10 p11 = absurd (omega arith)
+twelve (x0 ∷ x1 ∷ x2 ∷ x3 ∷ x4 ∷ x5 ∷ x6 ∷ x7 ∷ x8 ∷ []) a b c d e f g h i j k l m n p0 p1 p2 p3 p4 p5 p6 p7 p8 p9 p10 p11 =
+    absurd (omega arith)
+twelve (x0 ∷ x1 ∷ x2 ∷ x3 ∷ x4 ∷ x5 ∷ x6 ∷ x7 ∷ x8 ∷ x9 ∷ []) a b c d e f g h i j k l m n p0 p1 p2 p3 p4 p5 p6 p7 p8 p9 p10 p11 =
+    absurd (omega arith)
+twelve (x0 ∷ x1 ∷ x2 ∷ x3 ∷ x4 ∷ x5 ∷ x6 ∷ x7 ∷ x8 ∷ x9 ∷ x10 ∷ []) a b c d e f g h i j k l m n p0 p1 p2 p3 p4 p5 p6 p7 p8 p9 p10
+    p11 = absurd (omega arith)
 
 -- twelve events of which some are not as they should be
 abbrev Twelve : ((a b c d e f g h i j k l : Event (List ℕ)) → Type 0) → Type 0
 Twelve P = (a b c d e f g h i j k l : Event (List ℕ)) → P a b c d e f g h i j k l
 
-pub not_enclosed : Twelve (λ a b c d e f g h i j k l. opens a b c d e ≡ true → encloses f j ≡ false → stylesheet_of (a ∷ b ∷ c ∷ d ∷ e ∷ f ∷ g ∷ h ∷ i ∷ j ∷ k ∷ l ∷ []) ≡ None)
+pub not_enclosed : Twelve
+    (λ a b c d e f g h i j k l. opens a b c d e ≡ true → encloses f j ≡ false
+    → stylesheet_of (a ∷ b ∷ c ∷ d ∷ e ∷ f ∷ g ∷ h ∷ i ∷ j ∷ k ∷ l ∷ []) ≡ None)
 not_enclosed a b c d e f g h i j k l o n = rw (o, n) refl
 
-pub not_selected : Twelve (λ a b c d e f g h i j k l. opens a b c d e ≡ true → encloses f j ≡ true → selects g h i ≡ false → stylesheet_of (a ∷ b ∷ c ∷ d ∷ e ∷ f ∷ g ∷ h ∷ i ∷ j ∷ k ∷ l ∷ []) ≡ None)
+pub not_selected : Twelve
+    (λ a b c d e f g h i j k l. opens a b c d e ≡ true → encloses f j ≡ true → selects g h i ≡ false
+    → stylesheet_of (a ∷ b ∷ c ∷ d ∷ e ∷ f ∷ g ∷ h ∷ i ∷ j ∷ k ∷ l ∷ []) ≡ None)
 not_selected a b c d e f g h i j k l o n m = rw (o, n, m) refl
 
-pub not_closed : Twelve (λ a b c d e f g h i j k l. opens a b c d e ≡ true → encloses f j ≡ true → selects g h i ≡ true → closes k l ≡ false → stylesheet_of (a ∷ b ∷ c ∷ d ∷ e ∷ f ∷ g ∷ h ∷ i ∷ j ∷ k ∷ l ∷ []) ≡ None)
+pub not_closed : Twelve
+    (λ a b c d e f g h i j k l. opens a b c d e ≡ true → encloses f j ≡ true → selects g h i ≡ true → closes k l ≡ false
+    → stylesheet_of (a ∷ b ∷ c ∷ d ∷ e ∷ f ∷ g ∷ h ∷ i ∷ j ∷ k ∷ l ∷ []) ≡ None)
 not_closed a b c d e f g h i j k l o n m p = rw (o, n, m, p) refl
 
 pub has_form : Twelve (λ a b c d e f g h i j k l. opens a b c d e ≡ true → encloses f j ≡ true → selects g h i ≡ true → closes k l ≡ true

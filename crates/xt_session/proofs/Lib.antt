@@ -3,6 +3,7 @@ pub mod Taking
 pub mod Running
 pub mod Meeting
 pub mod Serving
+pub mod Turning
 pub mod Answering
 pub mod Forms
 pub mod Bodies

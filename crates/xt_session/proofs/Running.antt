@@ -1,170 +1,221 @@
 -- How a session goes on, and what has been done when it ends.
-use Rattle.std.proofs.Common.{◌≡◌, ℕ, Bool, false, List, [], ◌∷◌, ◌++◌, length, take, drop, Option, None, Some, refl, sym, ◌∙◌, ap, subst, arith, append_assoc, append-nil, inl}
+use Rattle.std.proofs.Common.{◌≡◌, ℕ, ◌+◌, ◌≤◌, Bool, false, List, [], ◌∷◌, ◌++◌, length, take, drop, Option, None, Some, refl}
+use Rattle.std.proofs.Common.{sym, ◌∙◌, ap, subst, arith}
+use Rattle.std.proofs.Common.{append_assoc, append-nil}
 use Rattle.std.specs.Prelude.{nat_lt, IfSome, IsSomeAnd}
 use Rattle.std.specs.List.{flat_map}
 use Rattle.std.specs.Option.{option_map}
 use Rattle.std.proofs.lemmas.List.Concat.{flat_map-append}
 use Rattle.std.proofs.lemmas.List.{take-append-drop}
-use Rattle.spec_lines.specs.Lines.{lines_within, ended_lines, Reader, ahead, allowance, HasNoNewline}
-use Rattle.spec_session.specs.Command.{Command, Session, session_of, after, status_of}
-use Rattle.spec_session.specs.Reply.{Reply, No, reply_bytes}
-use Rattle.spec_session.specs.Machine.{Documents, no_documents, Request, SetSource, SetMain, Show, Other, request_of, Answers, Step, Run}
-use Rattle.spec_session.specs.Served.{IsServed, IsCutShort, IsPrefixOfReplies, session_within}
+use Rattle.spec_lines.specs.Lines.{lines_within, ended_lines, Reader, ahead, allowance, HasNoNewline, TakesUpTo}
 use Rattle.spec_lines.proofs.Reading.{ended_lines-none}
-use Rattle.xt_session.specs.Progress.{AreBehind, GivesLines, GivesCommand, IsDone, IsCut, HasCome, in_front, reader_at_start}
-use Rattle.xt_session.proofs.Giving.{then_given, none_given, kept_by_itself}
+use Rattle.spec_session.specs.Command.{Command, Session, session_of, after, status_of}
+use Rattle.spec_session.specs.Reply.{Reply, reply_bytes}
+use Rattle.spec_session.specs.Machine.{Documents as State, no_documents as initial, Step, Run}
+use Rattle.spec_session.specs.Served.{AreReplies, IsServed, IsCutShort, IsPrefixOfReplies, TakesAtMost, session_within}
+use Rattle.xt_session.specs.Progress.{BeginsWithLines, GivesLines, IsDone, IsCut}
+use Rattle.xt_session.specs.Turn.{IsAnswered}
+use Rattle.xt_session.proofs.Giving.{then_given, none_given, kept_by_itself, takes_nothing, takes_then}
+use Rattle.xt_session.proofs.Taking.{EndsWith}
 
-pub run_more : (a : Documents) (commands : List Command) (replies : List Reply) (b : Documents) (command : Command) (reply : Reply) (c : Documents)
+-- commands in front of a session
+abbrev pub in_front : List Command → Session → Session
+in_front commands session = record { commands = commands ++ session.commands; ending = session.ending }
+
+-- a reader at the start
+abbrev pub reader_at_start : ℕ → Reader
+reader_at_start limit = record { kept = []; room = limit; at_end = false }
+
+-- how far a session of these bytes has come: the commands so far, whose replies are this text
+pub record HasCome (limit : ℕ) (bytes : List ℕ) (reader : Reader) (left : Option (List ℕ)) (state : State) (text : List ℕ) : Type 0 where
+  pub lines : List (List ℕ)
+  pub commands : List Command
+  pub replies : List Reply
+  pub given : GivesLines (reader_at_start limit) (Some bytes) lines reader left
+  pub are : (rest : List (List ℕ)) → session_of (lines ++ rest) ≡ in_front commands (session_of rest)
+  pub run : Run initial commands replies state
+  pub bytes_are : text ≡ flat_map reply_bytes replies
+  pub takes : TakesUpTo 0 (reader_at_start limit) (Some bytes) reader left
+
+run_more : (a : State) (commands : List Command) (replies : List Reply) (b : State) (command : Command) (reply : Reply) (c : State)
     → Run a commands replies b → Step b command reply c → Run a (commands ++ command ∷ []) (replies ++ reply ∷ []) c
-run_more a [] [] b command reply c run step = (c, subst (λ (d : Documents). Step d command reply c) run step, refl)
+run_more a [] [] b command reply c run step = (c, subst (λ (d : State). Step d command reply c) run step, refl)
 run_more a [] (r ∷ rs) b command reply c run step = absurd run
 run_more a (x ∷ xs) [] b command reply c run step = absurd run
 run_more a (x ∷ xs) (r ∷ rs) b command reply c run step = (run.0, run.1, run_more run.0 xs rs b command reply c run.2 step)
 
-no_memory : (old : Documents) (request : Request) → Answers old request (No 1) old
-no_memory old (SetSource tree) = (refl, refl)
-no_memory old (SetMain tree) = (refl, refl)
-no_memory old Show = (refl, refl)
-no_memory old Other = (inl refl, refl)
-
--- want of memory is always a step, and changes nothing
-pub no_memory_step : (old : Documents) (command : Command) → Step old command (No 1) old
-no_memory_step old command = no_memory old (request_of command)
-
-pub come_at_start : (limit : ℕ) (bytes : List ℕ) → HasCome limit bytes (reader_at_start limit) (Some bytes) no_documents []
+pub come_at_start : (limit : ℕ) (bytes : List ℕ) → HasCome limit bytes (reader_at_start limit) (Some bytes) initial []
 come_at_start limit bytes = record {
   lines = [];
   commands = [];
   replies = [];
-  given = none_given (reader_at_start limit) (Some bytes) (reader_at_start limit) (Some bytes) (kept_by_itself (reader_at_start limit) (Some bytes));
+  given = none_given (kept_by_itself (reader_at_start limit) (Some bytes));
   are = λ rest. refl;
   run = refl;
   bytes_are = refl;
+  takes = takes_nothing (reader_at_start limit) (Some bytes);
 }
 
-in_front-after : (commands : List Command) (command : Command) (s : Session) → in_front commands (after command s) ≡ in_front (commands ++ command ∷ []) s
-in_front-after commands command s = ap (λ (cs : List Command). record { commands = cs; ending = s.ending }) (sym (append_assoc commands (command ∷ []) s.commands))
+in_front-after : (commands : List Command) (command : Command) (s : Session)
+    → in_front commands (after command s) ≡ in_front (commands ++ command ∷ []) s
+in_front-after commands command s =
+    ap (λ (cs : List Command). record { commands = cs; ending = s.ending }) (sym (append_assoc commands (command ∷ []) s.commands))
+
+more_bytes : (replies : List Reply) (reply : Reply) (text more : List ℕ) → text ≡ flat_map reply_bytes replies → more ≡ reply_bytes reply
+    → text ++ more ≡ flat_map reply_bytes (replies ++ reply ∷ [])
+more_bytes replies reply text more e h =
+    ap (λ (t : List ℕ). t ++ more) e ∙ ap (λ (t : List ℕ). flat_map reply_bytes replies ++ t) (h ∙ sym (append-nil (reply_bytes reply)))
+    ∙ sym (flat_map-append reply_bytes replies (reply ∷ []))
 
 -- one more command, with its reply
-pub come_on : (limit : ℕ) (bytes : List ℕ) (a : Reader) (p : Option (List ℕ)) (documents : Documents) (text : List ℕ) (command : Command) (b : Reader) (q : Option (List ℕ)) (reply : Reply) (new : Documents)
-    → HasCome limit bytes a p documents text → GivesCommand session_of a p command b q → Step documents command reply new → HasCome limit bytes b q new (text ++ reply_bytes reply)
-come_on limit bytes a p documents text command b q reply new come gives step = record {
-  lines = come.lines ++ gives.lines;
-  commands = come.commands ++ command ∷ [];
-  replies = come.replies ++ reply ∷ [];
-  given = then_given (reader_at_start limit) (Some bytes) come.lines a p gives.lines b q come.given gives.given;
-  are = λ rest. ap session_of (append_assoc come.lines gives.lines rest) ∙ come.are (gives.lines ++ rest) ∙ ap (in_front come.commands) (gives.is rest) ∙ in_front-after come.commands command (session_of rest);
-  run = run_more no_documents come.commands come.replies documents command reply new come.run step;
-  bytes_are = ap (λ (t : List ℕ). t ++ reply_bytes reply) come.bytes_are
-      ∙ sym (flat_map-append reply_bytes come.replies (reply ∷ []) ∙ ap (λ (t : List ℕ). flat_map reply_bytes come.replies ++ t) (append-nil (reply_bytes reply)));
+pub come_on : {limit : ℕ} {bytes : List ℕ} {a b : Reader} {p q : Option (List ℕ)} {state next : State} {text more : List ℕ}
+    → HasCome limit bytes a p state text → IsAnswered a p state more b q next → HasCome limit bytes b q next (text ++ more)
+come_on {state = state} {next = next} come answered = record {
+  lines = come.lines ++ answered.given.lines;
+  commands = come.commands ++ answered.command ∷ [];
+  replies = come.replies ++ answered.gives.reply ∷ [];
+  given = then_given come.given answered.given.given;
+  are = λ rest.
+      ap session_of (append_assoc come.lines answered.given.lines rest) ∙ come.are (answered.given.lines ++ rest)
+      ∙ ap (in_front come.commands) (answered.given.is rest) ∙ in_front-after come.commands answered.command (session_of rest);
+  run = run_more initial come.commands come.replies state answered.command answered.gives.reply next come.run answered.gives.step;
+  bytes_are = more_bytes come.replies answered.gives.reply _ _ come.bytes_are answered.gives.bytes_are;
+  takes = takes_then come.takes answered.given.takes;
 }
 
--- the lines within the limit, where those behind and those ahead are known
-all_lines : (limit : ℕ) (bytes : List ℕ) (lines : List (List ℕ)) (b : Reader) (q : Option (List ℕ)) → GivesLines (reader_at_start limit) (Some bytes) lines b q
-    → IsSomeAnd (ahead b q) (λ rest. (lines_within limit bytes ≡ lines ++ lines_within (allowance b) rest) × (nat_lt limit (length bytes) ≡ nat_lt (allowance b) (length rest)))
+-- the lines within the limit, where those so far and those ahead are known
+abbrev IsRest : ℕ → List ℕ → List (List ℕ) → Reader → List ℕ → Type 0
+IsRest limit bytes lines reader rest =
+    (lines_within limit bytes ≡ lines ++ lines_within (allowance reader) rest) × (nat_lt limit (length bytes) ≡ nat_lt (allowance reader) (length rest))
+
+all_lines : (limit : ℕ) (bytes : List ℕ) (lines : List (List ℕ)) (b : Reader) (q : Option (List ℕ))
+    → GivesLines (reader_at_start limit) (Some bytes) lines b q
+    → IsSomeAnd (ahead b q) (IsRest limit bytes lines b)
 all_lines limit bytes lines b q given = go (ahead b q) given.told
   where
     zero : allowance (reader_at_start limit) ≡ limit
     zero = omega arith
 
-    go : (o : Option (List ℕ)) → IsSomeAnd o (λ rest. (lines_within (allowance (reader_at_start limit)) bytes ≡ lines ++ lines_within (allowance b) rest)
-        × (nat_lt (allowance (reader_at_start limit)) (length bytes) ≡ nat_lt (allowance b) (length rest)) × (b.at_end ≡ false → AreBehind bytes lines rest))
-        → IsSomeAnd o (λ rest. (lines_within limit bytes ≡ lines ++ lines_within (allowance b) rest) × (nat_lt limit (length bytes) ≡ nat_lt (allowance b) (length rest)))
+    go : (o : Option (List ℕ))
+        → IsSomeAnd o (λ rest. (lines_within (allowance (reader_at_start limit)) bytes ≡ lines ++ lines_within (allowance b) rest)
+        × (nat_lt (allowance (reader_at_start limit)) (length bytes) ≡ nat_lt (allowance b) (length rest))
+        × (b.at_end ≡ false → BeginsWithLines bytes lines rest))
+        → IsSomeAnd o (IsRest limit bytes lines b)
     go None e = absurd e
     go (Some rest) e = (ap (λ (n : ℕ). lines_within n bytes) (sym zero) ∙ e.0, ap (λ (n : ℕ). nat_lt n (length bytes)) (sym zero) ∙ e.1)
 
--- no command is left, and the status says how the lines end
-pub come_served : (limit : ℕ) (bytes : List ℕ) (a : Reader) (p : Option (List ℕ)) (documents : Documents) (text : List ℕ) (status : ℕ)
-    → HasCome limit bytes a p documents text → IsDone session_of a p status → IsServed limit bytes status text
-come_served limit bytes a p documents text status come done =
-    go (ahead done.reader done.left) (all_lines limit bytes (come.lines ++ done.lines) done.reader done.left given) done.end
-  where
-    given : GivesLines (reader_at_start limit) (Some bytes) (come.lines ++ done.lines) done.reader done.left
-    given = then_given (reader_at_start limit) (Some bytes) come.lines a p done.lines done.reader done.left come.given done.given
+-- where no command comes after those so far, their replies are all
+all_replies : {limit : ℕ} {bytes : List ℕ} {a : Reader} {p : Option (List ℕ)} {state : State} {text : List ℕ}
+    (come : HasCome limit bytes a p state text) (session last : Session)
+    → session ≡ in_front come.commands last → last.commands ≡ [] → AreReplies session.commands text
+all_replies {state = state} come session last all none = record {
+  replies = come.replies;
+  documents = state;
+  run = subst (λ (cs : List Command). Run initial cs come.replies state)
+      (sym (ap (λ (s : Session). s.commands) all ∙ ap (λ (cs : List Command). come.commands ++ cs) none ∙ append-nil come.commands)) come.run;
+  bytes = come.bytes_are;
+}
 
-    go : (o : Option (List ℕ))
-        → IsSomeAnd o (λ rest. (lines_within limit bytes ≡ (come.lines ++ done.lines) ++ lines_within (allowance done.reader) rest) × (nat_lt limit (length bytes) ≡ nat_lt (allowance done.reader) (length rest)))
-        → IfSome o (λ rest. let all : Session = session_of (done.lines ++ lines_within (allowance done.reader) rest) in (all.commands ≡ []) × (status ≡ status_of (nat_lt (allowance done.reader) (length rest)) all.ending))
+-- no command is left, and the status says how the lines end
+pub come_served : {limit : ℕ} {bytes : List ℕ} {a c : Reader} {p r : Option (List ℕ)} {state : State} {text : List ℕ} {status : ℕ}
+    → HasCome limit bytes a p state text → IsDone session_of a p status c r → IsServed limit bytes status text
+come_served {limit = limit} {bytes = bytes} {text = text} {status = status} come done =
+    go (ahead done.reader done.between) (all_lines limit bytes (come.lines ++ done.lines) done.reader done.between (then_given come.given done.given))
+    done.end
+  where
+    go : (o : Option (List ℕ)) → IsSomeAnd o (IsRest limit bytes (come.lines ++ done.lines) done.reader)
+        → IfSome o (EndsWith session_of done.lines done.reader status)
         → IsServed limit bytes status text
     go None e d = absurd e
     go (Some rest) e d =
         let last : List (List ℕ) = done.lines ++ lines_within (allowance done.reader) rest in
-        let all : session_within limit bytes ≡ in_front come.commands (session_of last) = ap session_of (e.0 ∙ append_assoc come.lines done.lines _) ∙ come.are last in
+        let all : session_within limit bytes ≡ in_front come.commands (session_of last) =
+        ap session_of (e.0 ∙ append_assoc come.lines done.lines _) ∙ come.are last in
         record {
-          answered = record {
-            replies = come.replies;
-            documents = documents;
-            run = subst (λ (cs : List Command). Run no_documents cs come.replies documents) (sym (ap (λ (s : Session). s.commands) all ∙ ap (λ (cs : List Command). come.commands ++ cs) d.0 ∙ append-nil come.commands)) come.run;
-            bytes = come.bytes_are;
-          };
-          ends = d.1 ∙ ap (λ (b : Bool). status_of b (session_of last).ending) (sym e.1) ∙ ap (λ (s : Session). status_of (nat_lt limit (length bytes)) s.ending) (sym all);
+          answered = all_replies come (session_within limit bytes) (session_of last) all d.0;
+          ends = d.1 ∙ ap (λ (b : Bool). status_of b (session_of last).ending) (sym e.1)
+              ∙ ap (λ (s : Session). status_of (nat_lt limit (length bytes)) s.ending) (sym all);
         }
 
 ahead-asking : (b : Reader) (q : Option (List ℕ)) → b.at_end ≡ false → ahead b q ≡ option_map (λ (l : List ℕ). b.kept ++ l) q
 ahead-asking b q e = rw e refl
 
--- the source failed: the whole commands among the bytes taken are answered
-pub come_cut : (limit : ℕ) (bytes : List ℕ) (a : Reader) (p : Option (List ℕ)) (documents : Documents) (text : List ℕ) (left : Option (List ℕ))
-    → HasCome limit bytes a p documents text → IsCut session_of a p left → IsSomeAnd left (λ rest. IsCutShort bytes rest text)
-come_cut limit bytes a p documents text left come cut =
-    go cut.between left (subst (λ (o : Option (List ℕ)). IsSomeAnd o (λ rest. AreBehind bytes (come.lines ++ cut.lines) rest)) (ahead-asking cut.reader cut.between cut.asked) behind) cut.open_line
+-- the source failed: the whole commands among the bytes taken are answered, and `quit` has not ended them
+pub come_cut : {limit : ℕ} {bytes : List ℕ} {a c : Reader} {p r : Option (List ℕ)} {state : State} {text : List ℕ}
+    → HasCome limit bytes a p state text → IsCut session_of a p c r → IsSomeAnd r (λ rest. IsCutShort bytes rest text)
+come_cut {limit = limit} {bytes = bytes} {r = r} {text = text} come cut =
+    go cut.between r (subst (λ (o : Option (List ℕ)). IsSomeAnd o (BeginsWithLines bytes lines)) (ahead-asking cut.reader cut.between cut.asked) begins)
+    cut.open_line
   where
-    given : GivesLines (reader_at_start limit) (Some bytes) (come.lines ++ cut.lines) cut.reader cut.between
-    given = then_given (reader_at_start limit) (Some bytes) come.lines a p cut.lines cut.reader cut.between come.given cut.given
+    lines : List (List ℕ)
+    lines = come.lines ++ cut.lines
 
-    only : (o : Option (List ℕ)) → IsSomeAnd o (λ rest. (lines_within (allowance (reader_at_start limit)) bytes ≡ (come.lines ++ cut.lines) ++ lines_within (allowance cut.reader) rest)
-        × (nat_lt (allowance (reader_at_start limit)) (length bytes) ≡ nat_lt (allowance cut.reader) (length rest)) × (cut.reader.at_end ≡ false → AreBehind bytes (come.lines ++ cut.lines) rest))
-        → IsSomeAnd o (λ rest. AreBehind bytes (come.lines ++ cut.lines) rest)
+    given : GivesLines (reader_at_start limit) (Some bytes) lines cut.reader cut.between
+    given = then_given come.given cut.given
+
+    only : (o : Option (List ℕ))
+        → IsSomeAnd o (λ rest. (lines_within (allowance (reader_at_start limit)) bytes ≡ lines ++ lines_within (allowance cut.reader) rest)
+        × (nat_lt (allowance (reader_at_start limit)) (length bytes) ≡ nat_lt (allowance cut.reader) (length rest))
+        × (cut.reader.at_end ≡ false → BeginsWithLines bytes lines rest))
+        → IsSomeAnd o (BeginsWithLines bytes lines)
     only None e = absurd e
     only (Some rest) e = e.2 cut.asked
 
-    behind : IsSomeAnd (ahead cut.reader cut.between) (λ rest. AreBehind bytes (come.lines ++ cut.lines) rest)
-    behind = only (ahead cut.reader cut.between) given.told
+    begins : IsSomeAnd (ahead cut.reader cut.between) (BeginsWithLines bytes lines)
+    begins = only (ahead cut.reader cut.between) given.told
 
-    short : (rest taken : List ℕ) → AreBehind bytes (come.lines ++ cut.lines) (cut.reader.kept ++ (taken ++ rest)) → HasNoNewline (cut.reader.kept ++ taken) → IsCutShort bytes rest text
+    short : (rest taken : List ℕ) → BeginsWithLines bytes lines (cut.reader.kept ++ (taken ++ rest)) → HasNoNewline (cut.reader.kept ++ taken)
+        → IsCutShort bytes rest text
     short rest taken h open_line =
         let opened : List ℕ = cut.reader.kept ++ taken in
-        let lines_are : ended_lines (h.behind ++ opened) ≡ come.lines ++ cut.lines =
-        h.lines_are opened ∙ ap (λ (l : List (List ℕ)). (come.lines ++ cut.lines) ++ l) (ended_lines-none opened open_line) ∙ append-nil (come.lines ++ cut.lines) in
-        let all : session_of (ended_lines (h.behind ++ opened)) ≡ in_front come.commands (session_of cut.lines) = ap session_of lines_are ∙ come.are cut.lines in
+        let all_taken : List ℕ = h.front ++ opened in
+        let lines_are : ended_lines all_taken ≡ lines =
+        h.lines_are opened ∙ ap (λ (l : List (List ℕ)). lines ++ l) (ended_lines-none opened open_line) ∙ append-nil lines in
+        let all : session_of (ended_lines all_taken) ≡ in_front come.commands (session_of cut.lines) = ap session_of lines_are ∙ come.are cut.lines in
         record {
-          taken = h.behind ++ opened;
-          all = h.cut ∙ ap (λ (l : List ℕ). h.behind ++ l) (sym (append_assoc cut.reader.kept taken rest)) ∙ sym (append_assoc h.behind opened rest);
-          answered = record {
-            replies = come.replies;
-            documents = documents;
-            run = subst (λ (cs : List Command). Run no_documents cs come.replies documents) (sym (ap (λ (s : Session). s.commands) all ∙ ap (λ (cs : List Command). come.commands ++ cs) cut.none ∙ append-nil come.commands)) come.run;
-            bytes = come.bytes_are;
-          };
+          taken = all_taken;
+          all = h.cut ∙ ap (λ (l : List ℕ). h.front ++ l) (sym (append_assoc cut.reader.kept taken rest)) ∙ sym (append_assoc h.front opened rest);
+          answered = all_replies come (session_of (ended_lines all_taken)) (session_of cut.lines) all cut.none;
+          goes_on = λ quit. cut.goes_on (sym (ap (λ (s : Session). s.ending) all) ∙ quit);
         }
 
-    go : (o q : Option (List ℕ)) → IsSomeAnd (option_map (λ (l : List ℕ). cut.reader.kept ++ l) o) (λ rest. AreBehind bytes (come.lines ++ cut.lines) rest)
-        → IfSome o (λ bytes. IsSomeAnd q (λ rest. (taken : List ℕ) × (bytes ≡ taken ++ rest) × HasNoNewline (cut.reader.kept ++ taken))) → IsSomeAnd q (λ rest. IsCutShort bytes rest text)
+    go : (o q : Option (List ℕ)) → IsSomeAnd (option_map (λ (l : List ℕ). cut.reader.kept ++ l) o) (BeginsWithLines bytes lines)
+        → IfSome o (λ bytes. IsSomeAnd q (λ rest. (taken : List ℕ) × (bytes ≡ taken ++ rest) × HasNoNewline (cut.reader.kept ++ taken)))
+        → IsSomeAnd q (λ rest. IsCutShort bytes rest text)
     go None q h e = absurd h
     go (Some x) None h e = absurd e
-    go (Some x) (Some rest) h e = short rest e.0 (subst (λ (l : List ℕ). AreBehind bytes (come.lines ++ cut.lines) (cut.reader.kept ++ l)) e.1 h) e.2
+    go (Some x) (Some rest) h e = short rest e.0 (subst (λ (l : List ℕ). BeginsWithLines bytes lines (cut.reader.kept ++ l)) e.1 h) e.2
 
 -- the sink failed in the reply to the next command: what is written is a prefix of the replies
-pub come_prefix : (limit : ℕ) (bytes : List ℕ) (a : Reader) (p : Option (List ℕ)) (documents : Documents) (text : List ℕ) (command : Command) (b : Reader) (q : Option (List ℕ)) (reply : Reply) (new : Documents) (count : ℕ)
-    → HasCome limit bytes a p documents text → GivesCommand session_of a p command b q → Step documents command reply new → IsPrefixOfReplies limit bytes (text ++ take count (reply_bytes reply))
-come_prefix limit bytes a p documents text command b q reply new count come gives step =
-    go (ahead b q) (all_lines limit bytes more.lines b q more.given)
+pub come_prefix : {limit : ℕ} {bytes : List ℕ} {a b : Reader} {p q : Option (List ℕ)} {state next : State} {text more : List ℕ} (count : ℕ)
+    → HasCome limit bytes a p state text → IsAnswered a p state more b q next → IsPrefixOfReplies limit bytes (text ++ take count more)
+come_prefix {limit = limit} {bytes = bytes} {b = b} {q = q} {next = next} {text = text} {more = more} count come answered =
+    go (ahead b q) (all_lines limit bytes on.lines b q on.given)
   where
-    more : HasCome limit bytes b q new (text ++ reply_bytes reply)
-    more = come_on limit bytes a p documents text command b q reply new come gives step
+    on : HasCome limit bytes b q next (text ++ more)
+    on = come_on come answered
 
-    go : (o : Option (List ℕ)) → IsSomeAnd o (λ rest. (lines_within limit bytes ≡ more.lines ++ lines_within (allowance b) rest) × (nat_lt limit (length bytes) ≡ nat_lt (allowance b) (length rest)))
-        → IsPrefixOfReplies limit bytes (text ++ take count (reply_bytes reply))
+    go : (o : Option (List ℕ)) → IsSomeAnd o (IsRest limit bytes on.lines b) → IsPrefixOfReplies limit bytes (text ++ take count more)
     go None e = absurd e
     go (Some rest) e = record {
-      commands = more.commands;
+      commands = on.commands;
       more = (session_of (lines_within (allowance b) rest)).commands;
-      first = ap (λ (s : Session). s.commands) (ap session_of e.0 ∙ more.are (lines_within (allowance b) rest));
-      unwritten = drop count (reply_bytes reply);
+      first = ap (λ (s : Session). s.commands) (ap session_of e.0 ∙ on.are (lines_within (allowance b) rest));
+      unwritten = drop count more;
       answered = record {
-        replies = more.replies;
-        documents = new;
-        run = more.run;
-        bytes = append_assoc text _ _ ∙ ap (λ (t : List ℕ). text ++ t) (take-append-drop count (reply_bytes reply)) ∙ more.bytes_are;
+        replies = on.replies;
+        documents = next;
+        run = on.run;
+        bytes = append_assoc text _ _ ∙ ap (λ (t : List ℕ). text ++ t) (take-append-drop count more) ∙ on.bytes_are;
       };
     }
+
+-- the bytes taken in all
+pub come_takes : {limit extra : ℕ} {bytes : List ℕ} {a c : Reader} {p r : Option (List ℕ)} {state : State} {text : List ℕ}
+    → HasCome limit bytes a p state text → TakesUpTo extra a p c r → extra ≤ 1 → IsSomeAnd r (λ rest. TakesAtMost limit bytes rest)
+come_takes {limit = limit} {extra = extra} {bytes = bytes} {c = c} {r = r} come takes few = go r (takes_then come.takes takes).bytes
+  where
+    go : (o : Option (List ℕ)) → IsSomeAnd o (λ rest. (taken : List ℕ) × (bytes ≡ taken ++ rest) × (length taken + c.room ≤ limit + extra))
+        → IsSomeAnd o (λ rest. TakesAtMost limit bytes rest)
+    go None e = absurd e
+    go (Some rest) e = let count = e.2 in record { taken = e.0; all = e.1; few = omega arith }

@@ -1,26 +1,20 @@
 -- How the parts of a session are read, and how far it has come.
-use Rattle.std.specs.Prelude.{ℕ, ◌≡◌, ◌<◌, ◌≤◌, ◌⊎◌, false, List, [], ◌++◌, length, nat_lt, Option, Some, IfSome, IsSomeAnd}
-use Rattle.std.specs.List.{flat_map}
+use Rattle.std.specs.Prelude.{ℕ, ◌≡◌, ◌≢◌, ◌<◌, ◌≤◌, ◌⊎◌, false, List, [], ◌++◌, length, nat_lt, Option, IfSome, IsSomeAnd}
 use Rattle.spec_lines.specs.Lines.{lines_within, ended_lines, Reader, ahead, allowance, HasNoNewline, GivesLine, IsFinished, IsOver, IsKept, head_of}
+use Rattle.spec_lines.specs.Lines.{TakesUpTo}
 use Rattle.spec_session.specs.Command.{Command, Session, session_of, after, status_of}
-use Rattle.spec_session.specs.Reply.{Reply, reply_bytes}
-use Rattle.spec_session.specs.Machine.{Documents, no_documents, Run}
+use Rattle.spec_session.specs.declared.kinds.Ending.TheVariants.{Quit}
 use Rattle.spec_lines.specs.Outside.{HasRisen}
 use Rattle.xt_session.specs.declared.meet.Met.{Met}
 use Rattle.xt_session.specs.declared.meet.Met.TheVariants.{Line, Head, End, Over, Failed as LineFailed}
-use Rattle.xt_session.specs.declared.command.Command.{Command as Held}
 use Rattle.xt_session.specs.declared.command.Taken.{Taken}
 use Rattle.xt_session.specs.declared.command.Taken.TheVariants.{Command as Whole, Skipped, Stopped, Failed}
 
--- a command as the definitions see it
-abbrev pub command_of : Held → Command
-command_of held = record { line = held.line; body = held.body.items }
-
--- the bytes are some that LFs end, which are these lines, and then the rest
-pub record AreBehind (bytes : List ℕ) (lines : List (List ℕ)) (rest : List ℕ) : Type 0 where
-  pub behind : List ℕ
-  pub cut : bytes ≡ behind ++ rest
-  pub lines_are : (more : List ℕ) → ended_lines (behind ++ more) ≡ lines ++ ended_lines more
+-- the bytes begin with these lines, each ended by an LF, and then comes the rest
+pub record BeginsWithLines (bytes : List ℕ) (lines : List (List ℕ)) (rest : List ℕ) : Type 0 where
+  pub front : List ℕ
+  pub cut : bytes ≡ front ++ rest
+  pub lines_are : (more : List ℕ) → ended_lines (front ++ more) ≡ lines ++ ended_lines more
 
 -- the source failed before the next line was whole; its bytes may be lost
 pub record FailsInLine (old : Reader) (before left : Option (List ℕ)) : Type 0 where
@@ -59,80 +53,61 @@ pub record GivesLines (old : Reader) (before : Option (List ℕ)) (lines : List 
   pub told : IfSome (ahead old before) (λ bytes. IsSomeAnd (ahead new after) (λ rest.
       (lines_within (allowance old) bytes ≡ lines ++ lines_within (allowance new) rest)
       × (nat_lt (allowance old) (length bytes) ≡ nat_lt (allowance new) (length rest))
-      × (new.at_end ≡ false → AreBehind bytes lines rest)))
+      × (new.at_end ≡ false → BeginsWithLines bytes lines rest)))
   pub not_at_end : new.at_end ≡ false → old.at_end ≡ false
   pub no_more : allowance new ≤ allowance old
 
 -- the lines given are the rest of this command
-pub record GivesCommand (session : List (List ℕ) → Session) (old : Reader) (before : Option (List ℕ)) (command : Command) (new : Reader) (left : Option (List ℕ)) : Type 0 where
+pub record GivesCommand (session : List (List ℕ) → Session) (old : Reader) (before : Option (List ℕ)) (command : Command) (new : Reader)
+    (left : Option (List ℕ)) : Type 0 where
   pub lines : List (List ℕ)
   pub given : GivesLines old before lines new left
   pub is : (rest : List (List ℕ)) → session (lines ++ rest) ≡ after command (session_of rest)
   pub fewer : allowance new < allowance old
+  pub takes : TakesUpTo 0 old before new left
 
--- after some lines no whole command is ahead, and this is the status
-pub record IsDone (session : List (List ℕ) → Session) (old : Reader) (before : Option (List ℕ)) (status : ℕ) : Type 0 where
+-- after some lines no whole command is ahead, and this is the status; one byte more may be taken, to see whether the source goes on
+pub record IsDone (session : List (List ℕ) → Session) (old : Reader) (before : Option (List ℕ)) (status : ℕ) (new : Reader)
+    (left : Option (List ℕ)) : Type 0 where
   pub lines : List (List ℕ)
   pub reader : Reader
-  pub left : Option (List ℕ)
-  pub given : GivesLines old before lines reader left
-  pub end : IfSome (ahead reader left) (λ rest. let all : Session = session (lines ++ lines_within (allowance reader) rest) in
+  pub between : Option (List ℕ)
+  pub given : GivesLines old before lines reader between
+  pub end : IfSome (ahead reader between) (λ rest. let all : Session = session (lines ++ lines_within (allowance reader) rest) in
       (all.commands ≡ []) × (status ≡ status_of (nat_lt (allowance reader) (length rest)) all.ending))
   pub kind : (status ≡ 0) ⊎ ((status ≡ 4) ⊎ (status ≡ 5))
+  pub takes : TakesUpTo 1 old before new left
 
--- after some lines the source failed before the next was whole, and no command was
-pub record IsCut (session : List (List ℕ) → Session) (old : Reader) (before left : Option (List ℕ)) : Type 0 where
+-- after some lines, which `quit` does not end, the source failed before the next was whole, and no command was
+pub record IsCut (session : List (List ℕ) → Session) (old : Reader) (before : Option (List ℕ)) (new : Reader) (left : Option (List ℕ)) : Type 0 where
   pub lines : List (List ℕ)
   pub reader : Reader
   pub between : Option (List ℕ)
   pub given : GivesLines old before lines reader between
   pub none : (session lines).commands ≡ []
+  pub goes_on : (session lines).ending ≢ Quit
   pub asked : reader.at_end ≡ false
   pub open_line : IfSome between (λ bytes. IsSomeAnd left (λ rest. (taken : List ℕ) × (bytes ≡ taken ++ rest) × HasNoNewline (reader.kept ++ taken)))
+  pub takes : TakesUpTo 0 old before new left
 
 -- What was taken where the session read so far goes on by `session`: a whole command; one for which there was no
 -- memory; nothing more, with the status that this gives; or a fault of the source came before the command was whole.
 abbrev pub Took : (List (List ℕ) → Session) → Reader → Option (List ℕ) → Taken → Reader → Option (List ℕ) → Type 0
-Took session old before (Whole held) new left = GivesCommand session old before (command_of held) new left
+Took session old before (Whole command) new left = GivesCommand session old before command new left
 Took session old before Skipped new left = (command : Command) × GivesCommand session old before command new left
-Took session old before (Stopped status) new left = IsDone session old before status
-Took session old before Failed new left = IsCut session old before left
+Took session old before (Stopped status) new left = IsDone session old before status new left
+Took session old before Failed new left = IsCut session old before new left
 
 -- the command of this line without a body
 abbrev pub IsAlone : List ℕ → Taken → Type 0
-IsAlone line (Whole held) = command_of held ≡ record { line = line; body = [] }
+IsAlone line (Whole command) = command ≡ record { line = line; body = [] }
 IsAlone line Skipped = ⊥
 IsAlone line (Stopped status) = ⊥
 IsAlone line Failed = ⊥
 
--- how many bytes may be taken past the room that was left: one, to see whether the source goes on
-abbrev pub extra_of : Taken → ℕ
-extra_of (Whole held) = 0
-extra_of Skipped = 0
-extra_of (Stopped status) = 1
-extra_of Failed = 0
-
 -- a fault of the source has its cause, and at any other answer there was none
 abbrev pub HasTakenCause : ℕ → ℕ → Taken → Type 0
-HasTakenCause before now (Whole held) = now ≡ before
+HasTakenCause before now (Whole command) = now ≡ before
 HasTakenCause before now Skipped = now ≡ before
 HasTakenCause before now (Stopped status) = now ≡ before
 HasTakenCause before now Failed = HasRisen before now
-
--- commands in front of a session
-abbrev pub in_front : List Command → Session → Session
-in_front commands session = record { commands = commands ++ session.commands; ending = session.ending }
-
--- a reader at the start
-abbrev pub reader_at_start : ℕ → Reader
-reader_at_start limit = record { kept = []; room = limit; at_end = false }
-
--- how far a session of these bytes has come: the commands behind, whose replies are this text
-pub record HasCome (limit : ℕ) (bytes : List ℕ) (reader : Reader) (left : Option (List ℕ)) (documents : Documents) (text : List ℕ) : Type 0 where
-  pub lines : List (List ℕ)
-  pub commands : List Command
-  pub replies : List Reply
-  pub given : GivesLines (reader_at_start limit) (Some bytes) lines reader left
-  pub are : (rest : List (List ℕ)) → session_of (lines ++ rest) ≡ in_front commands (session_of rest)
-  pub run : Run no_documents commands replies documents
-  pub bytes_are : text ≡ flat_map reply_bytes replies

@@ -1,42 +1,43 @@
 -- One turn of a session: a command is taken and answered.
-use Rattle.std.specs.Prelude.{ℕ, ◌≡◌, List, [], Option, take}
+use Rattle.std.specs.Prelude.{ℕ, ◌≡◌, List, Option, take}
 use Rattle.spec_lines.specs.Lines.{Reader}
-use Rattle.spec_session.specs.Command.{Command, session_of}
-use Rattle.spec_session.specs.Machine.{Documents, Step}
 use Rattle.spec_lines.specs.Outside.{HasRisen, Appends}
+use Rattle.spec_session.specs.Command.{Command, session_of}
+use Rattle.spec_session.specs.Machine.{Documents as State, Step}
 use Rattle.spec_session.specs.Reply.{Reply, reply_bytes}
 use Rattle.xt_session.specs.declared.session.Turn.{Turn}
 use Rattle.xt_session.specs.declared.session.Turn.TheVariants.{Answered, Stopped, ReadFailed, WriteFailed}
 use Rattle.xt_session.specs.Progress.{GivesCommand, IsDone, IsCut}
 
--- a command was taken, and the machine may give this reply to it
-pub record IsAnswered (old : Reader) (before : Option (List ℕ)) (documents : Documents) (new : Reader) (left : Option (List ℕ)) (after : Documents) : Type 0 where
-  pub command : Command
+-- from old, the machine may give a reply of these bytes to the command, and goes on to new
+pub record GivesReply (old : State) (command : Command) (bytes : List ℕ) (new : State) : Type 0 where
   pub reply : Reply
-  pub given : GivesCommand session_of old before command new left
-  pub step : Step documents command reply after
+  pub step : Step old command reply new
+  pub bytes_are : bytes ≡ reply_bytes reply
 
--- what one turn has done, and the bytes that it has written
-abbrev pub Turns : Reader → Option (List ℕ) → Documents → List ℕ → Turn → Reader → Option (List ℕ) → Documents → Type 0
-Turns old before documents piece Answered new left after = (answered : IsAnswered old before documents new left after) × (piece ≡ reply_bytes answered.reply)
-Turns old before documents piece (Stopped status) new left after = IsDone session_of old before status × (piece ≡ [])
-Turns old before documents piece ReadFailed new left after = IsCut session_of old before left × (piece ≡ [])
-Turns old before documents piece WriteFailed new left after =
-    (answered : IsAnswered old before documents new left after) × (count : ℕ) × (piece ≡ take count (reply_bytes answered.reply))
+-- a command was taken, and the machine may give a reply of these bytes to it
+pub record IsAnswered (old : Reader) (before : Option (List ℕ)) (state : State) (bytes : List ℕ) (new : Reader) (left : Option (List ℕ))
+    (next : State) : Type 0 where
+  pub command : Command
+  pub given : GivesCommand session_of old before command new left
+  pub gives : GivesReply state command bytes next
 
 -- the bytes of a reply were written, or a front of them
-abbrev pub Writes : List ℕ → Option (List ℕ) → Option (List ℕ) → Turn → Type 0
-Writes bytes before after Answered = Appends before after bytes
-Writes bytes before after (Stopped status) = ⊥
-Writes bytes before after ReadFailed = ⊥
-Writes bytes before after WriteFailed = (count : ℕ) × Appends before after (take count bytes)
+abbrev pub Writes : List ℕ → Option (List ℕ) → Turn → Option (List ℕ) → Type 0
+Writes bytes written Answered now = Appends written now bytes
+Writes bytes written (Stopped status) now = ⊥
+Writes bytes written ReadFailed now = ⊥
+Writes bytes written WriteFailed now = (count : ℕ) × Appends written now (take count bytes)
 
--- how many bytes may be taken past the room that was left
-abbrev pub turn_extra : Turn → ℕ
-turn_extra Answered = 0
-turn_extra (Stopped status) = 1
-turn_extra ReadFailed = 0
-turn_extra WriteFailed = 0
+-- what one turn has done, with source, state and sink
+abbrev pub Turns : Reader → Option (List ℕ) → State → Option (List ℕ) → Turn → Reader → Option (List ℕ) → State → Option (List ℕ)
+    → Type 0
+Turns old before state written Answered new left next now =
+    (bytes : List ℕ) × IsAnswered old before state bytes new left next × Writes bytes written Answered now
+Turns old before state written (Stopped status) new left next now = IsDone session_of old before status new left × (now ≡ written)
+Turns old before state written ReadFailed new left next now = IsCut session_of old before new left × (now ≡ written)
+Turns old before state written WriteFailed new left next now =
+    (bytes : List ℕ) × IsAnswered old before state bytes new left next × Writes bytes written WriteFailed now
 
 -- a fault of the source, of the sink, has its cause, and at any other answer there was none
 abbrev pub HasInputCause : ℕ → ℕ → Turn → Type 0

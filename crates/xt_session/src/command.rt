@@ -1,11 +1,46 @@
 // Commands, as they are taken from lines.
+ghost use Rattle.std.specs.Prelude.{◌≡◌};
+
+use std::marker::Model;
 use xt_io::Line;
 
-/// A whole command: its line, and the lines of its body, none where it has none.
+/// A whole command: its line, and the lines of its body, none where it has none. Contracts see
+/// both in bytes.
 #[derive(Drop)]
 pub(crate) struct Command {
-    pub line: Line,
-    pub body: Vec<Line>,
+    line: Line,
+    body: Vec<Line>,
+}
+
+impl Model for Command {
+    ghost use Rattle.spec_session.specs.Command as session;
+
+    ghost Value = { session.Command };
+
+    ghost view = { λ command. record { line = command.line; body = command.body.items } };
+}
+
+impl Command {
+    /// The command of this line with this body.
+    pub(crate) fn new(line: Line, body: Vec<Line>) -> Command
+        ensures { result ≡ record { line = line; body = body.items } }
+    {
+        Command { line, body }
+    }
+
+    /// Its line.
+    pub(crate) fn line(&self) -> &Line
+        ensures { result.now ≡ self.now.line }
+    {
+        &self.line
+    }
+
+    /// The lines of its body.
+    pub(crate) fn body(&self) -> &[Line]
+        ensures { result.now ≡ self.now.body }
+    {
+        self.body.as_slice()
+    }
 }
 
 /// What came next in the input.
@@ -13,7 +48,7 @@ pub(crate) struct Command {
 pub(crate) enum Taken {
     /// A whole command.
     Command(Command),
-    /// A whole command for which there was no memory: it is behind, and not kept.
+    /// A whole command for which there was no memory: it was read, and is not kept.
     Skipped,
     /// No whole command is left, and the session ends with this status.
     Stopped(u8),

@@ -15,10 +15,3 @@ pub(crate) struct Stylesheet {
     pub output: Text,
     pub select: Text,
 }
-
-/// The present documents.
-#[derive(Drop)]
-pub(crate) struct Documents {
-    pub main: Option<Stylesheet>,
-    pub source: Option<SourceDocument>,
-}

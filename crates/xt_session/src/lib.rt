@@ -20,6 +20,7 @@ mod meet;
 mod program;
 mod reply;
 mod session;
+mod state;
 mod take;
 
 pub use program::run;

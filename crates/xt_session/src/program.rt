@@ -20,6 +20,9 @@ pub fn run<I: Source, O: Sink>(alloc: Global, words: &[String], input: &mut I, o
     ensures session { IsTrue (asks_session (map string_bytes words.now)) →
         Serves session_limit (I.remaining input.old) (I.remaining input.new) (O.written output.old) (O.written output.new) result }
 
+    // Want of memory at the start leaves source and sink as they were.
+    ensures untouched { result ≡ 3 → (input.new ≡ input.old) × (output.new ≡ output.old) }
+
     // Other words are answered by the usage line.
     ensures usage { IsFalse (asks_session (map string_bytes words.now)) → result ≢ 2 → (result ≡ 64) × Appends (O.written output.old) (O.written output.new) usage_line }
     ensures usage_cut { IsFalse (asks_session (map string_bytes words.now)) → result ≡ 2 → (count : ℕ) × Appends (O.written output.old) (O.written output.new) (take count usage_line) }

@@ -26,8 +26,6 @@ pub(crate) enum Reply {
     ShowRefused(Refusal),
     /// A command that is not taken.
     NotTaken,
-    /// Want of memory.
-    NoMemory,
 }
 
 impl Reply {
@@ -43,7 +41,6 @@ impl Reply {
             Reply::ShowRefused(Refusal::NoMain) => b"refused S01 -\n",
             Reply::ShowRefused(Refusal::NoSource) => b"refused S02 -\n",
             Reply::NotTaken => b"no 13\n",
-            Reply::NoMemory => b"no 1\n",
         }
     }
 }

@@ -1,19 +1,19 @@
 // Serves a session.
-ghost use Rattle.std.specs.Prelude.{◌≡◌, ◌≢◌, ℕ, List};
-ghost use Rattle.spec_lines.specs.Lines.{TakesUpTo};
+ghost use Rattle.std.specs.Prelude.{◌≡◌, ◌≢◌};
 ghost use Rattle.spec_lines.specs.Outside.{Appends, HasRisen};
 ghost use Rattle.spec_session.specs.Served.{Serves};
-ghost use Rattle.xt_session.specs.Progress.{command_of};
-ghost use Rattle.xt_session.specs.Turn.{Turns, Writes, turn_extra, HasInputCause, HasOutputCause};
-ghost use Rattle.xt_session.specs.View.{documents_of, bytes_of, GivesReply};
+ghost use Rattle.xt_session.specs.Turn.{Turns, Writes, HasInputCause, HasOutputCause};
+ghost use Rattle.xt_session.specs.View.{state_of};
 
 use crate::answer::answer;
-use crate::command::{Command, Taken};
-use crate::document::Documents;
-use crate::reply::Reply;
+use crate::command::Taken;
+use crate::state::State;
 use crate::take::take_command;
 use std::alloc::Global;
 use xt_io::{Lines, Sink, Source, write_all};
+
+/// The bytes of the reply for want of memory.
+const NO_MEMORY: &[u8] = b"no 1\n";
 
 /// Reads commands from the input up to its end or `quit`, and answers each but `quit` with one
 /// reply, before the next line is taken. No more than `limit` bytes are taken, and one more to see
@@ -22,14 +22,17 @@ use xt_io::{Lines, Sink, Source, write_all};
 /// | Status | Comes |
 /// |---|---|
 /// | 0 | at the end of the input outside a body, or at `quit` |
-/// | 1 | only where the source has failed: the whole commands among the bytes taken are answered |
+/// | 1 | only where the source has failed: the whole commands among the bytes taken are answered, and `quit` is not among them |
 /// | 2 | only where the sink has failed: what is written is a prefix of the replies |
-/// | 3 | for want of memory at the start: nothing is written |
+/// | 3 | for want of memory at the start: nothing is read and nothing written |
 /// | 4 | where the input ends inside a body |
 /// | 5 | where a line or body is not whole within `limit` bytes and the input goes on |
 pub fn serve<I: Source, O: Sink>(alloc: Global, input: &mut I, output: &mut O, limit: u64) -> u8
     // The headline: the bytes written are the replies of a run of the machine over the whole commands.
     ensures session { Serves limit (I.remaining input.old) (I.remaining input.new) (O.written output.old) (O.written output.new) result }
+
+    // Want of memory at the start leaves source and sink as they were.
+    ensures untouched { result ≡ 3 → (input.new ≡ input.old) × (output.new ≡ output.old) }
 
     // Each status has its cause.
     ensures read_failed { result ≡ 1 → HasRisen (I.faults input.old) (I.faults input.new) }
@@ -40,12 +43,9 @@ pub fn serve<I: Source, O: Sink>(alloc: Global, input: &mut I, output: &mut O, l
     let Ok(mut lines) = Lines::new(alloc, limit) else {
         return 3;
     };
-    let mut documents = Documents {
-        main: None,
-        source: None,
-    };
+    let mut state = State::new();
     loop {
-        match take_turn(alloc, &mut lines, &mut documents, input, output) {
+        match take_turn(alloc, &mut lines, &mut state, input, output) {
             Turn::Answered => {}
             Turn::Stopped(status) => return status,
             Turn::ReadFailed => return 1,
@@ -71,40 +71,32 @@ pub(crate) enum Turn {
 fn take_turn<I: Source, O: Sink>(
     alloc: Global,
     lines: &mut Lines,
-    documents: &mut Documents,
+    state: &mut State,
     input: &mut I,
     output: &mut O,
 ) -> Turn
-    ensures turns { (piece : List ℕ) × Appends (O.written output.old) (O.written output.new) piece
-        × Turns lines.old (I.remaining input.old) (documents_of documents.old) piece result lines.new (I.remaining input.new) (documents_of documents.new) }
-    ensures takes { TakesUpTo (turn_extra result) lines.old (I.remaining input.old) lines.new (I.remaining input.new) }
+    ensures turns { Turns lines.old (I.remaining input.old) (state_of state.old) (O.written output.old) result lines.new (I.remaining input.new) (state_of state.new) (O.written output.new) }
     ensures input_cause { HasInputCause (I.faults input.old) (I.faults input.new) result }
     ensures output_cause { HasOutputCause (O.faults output.old) (O.faults output.new) result }
 {
     match take_command(alloc, lines, input) {
-        Taken::Command(command) => write_reply(&reply_to(alloc, documents, &command), output),
-        Taken::Skipped => write_reply(&Reply::NoMemory, output),
+        Taken::Command(command) => match answer(alloc, state, command) {
+            Ok(reply) => write_reply(reply.as_bytes(), output),
+            Err(_) => write_reply(NO_MEMORY, output),
+        },
+        Taken::Skipped => write_reply(NO_MEMORY, output),
         Taken::Stopped(status) => Turn::Stopped(status),
         Taken::Failed => Turn::ReadFailed,
     }
 }
 
-// Writes a reply, each by itself.
-fn write_reply<O: Sink>(reply: &Reply, output: &mut O) -> Turn
-    ensures { Writes (bytes_of reply.now) (O.written output.old) (O.written output.new) result × HasOutputCause (O.faults output.old) (O.faults output.new) result }
+// Writes the bytes of a reply.
+fn write_reply<O: Sink>(reply: &[u8], output: &mut O) -> Turn
+    ensures writes { Writes reply.now (O.written output.old) result (O.written output.new) }
+    ensures output_cause { HasOutputCause (O.faults output.old) (O.faults output.new) result }
 {
-    match write_all(output, reply.as_bytes()) {
+    match write_all(output, reply) {
         Ok(()) => Turn::Answered,
         Err(_) => Turn::WriteFailed,
-    }
-}
-
-// The reply to a command: that of `answer`, or for want of memory `no 1`.
-fn reply_to(alloc: Global, documents: &mut Documents, command: &Command) -> Reply
-    ensures { GivesReply (documents_of documents.old) (command_of command.now) result (documents_of documents.new) }
-{
-    match answer(alloc, documents, command) {
-        Ok(reply) => reply,
-        Err(_) => Reply::NoMemory,
     }
 }

@@ -1,8 +1,7 @@
 // Takes commands from lines.
 ghost use Rattle.std.specs.Prelude.{List, ℕ, []};
 ghost use Rattle.spec_session.specs.Command.{session_of, session_with};
-ghost use Rattle.spec_lines.specs.Lines.{TakesUpTo};
-ghost use Rattle.xt_session.specs.Progress.{Took, extra_of, HasTakenCause, IsAlone};
+ghost use Rattle.xt_session.specs.Progress.{Took, HasTakenCause, IsAlone};
 
 use crate::command::{Command, Taken};
 use crate::meet::{Met, is_end, kind_of, meet, meet_head};
@@ -13,7 +12,6 @@ use xt_io::{Line, Lines, Source};
 /// Takes the next command. Empty lines before it are skipped.
 pub(crate) fn take_command<I: Source>(alloc: Global, lines: &mut Lines, input: &mut I) -> Taken
     ensures taken { Took session_of lines.old (I.remaining input.old) result lines.new (I.remaining input.new) }
-    ensures takes { TakesUpTo (extra_of result) lines.old (I.remaining input.old) lines.new (I.remaining input.new) }
     ensures cause { HasTakenCause (I.faults input.old) (I.faults input.new) result }
 {
     loop {
@@ -41,16 +39,12 @@ pub(crate) fn take_command<I: Source>(alloc: Global, lines: &mut Lines, input: &
 fn alone(alloc: Global, line: Line) -> Taken
     ensures { IsAlone line result }
 {
-    Taken::Command(Command {
-        line,
-        body: Vec::new(alloc),
-    })
+    Taken::Command(Command::new(line, Vec::new(alloc)))
 }
 
 // Takes the body of the command with this line.
 fn take_body<I: Source>(alloc: Global, line: Line, lines: &mut Lines, input: &mut I) -> Taken
     ensures taken { Took (session_with line []) lines.old (I.remaining input.old) result lines.new (I.remaining input.new) }
-    ensures takes { TakesUpTo (extra_of result) lines.old (I.remaining input.old) lines.new (I.remaining input.new) }
     ensures cause { HasTakenCause (I.faults input.old) (I.faults input.new) result }
 {
     let mut body = Vec::new(alloc);
@@ -58,7 +52,7 @@ fn take_body<I: Source>(alloc: Global, line: Line, lines: &mut Lines, input: &mu
         match meet(lines, input) {
             Met::Line(next) => {
                 if is_end(next.as_bytes()) {
-                    return Taken::Command(Command { line, body });
+                    return Taken::Command(Command::new(line, body));
                 }
                 if body.push(next).is_err() {
                     return skip_body(lines, input);
@@ -80,7 +74,6 @@ fn take_body<I: Source>(alloc: Global, line: Line, lines: &mut Lines, input: &mu
 // Skips the rest of the body of a command, whatever its line and the body so far: takes no memory.
 fn skip_body<I: Source>(lines: &mut Lines, input: &mut I) -> Taken
     ensures taken { (line : List ℕ) (body : List (List ℕ)) → Took (session_with line body) lines.old (I.remaining input.old) result lines.new (I.remaining input.new) }
-    ensures takes { TakesUpTo (extra_of result) lines.old (I.remaining input.old) lines.new (I.remaining input.new) }
     ensures cause { HasTakenCause (I.faults input.old) (I.faults input.new) result }
 {
     loop {

@@ -1,8 +1,9 @@
--- The numbers of a document's nodes.
-use Rattle.std.specs.Prelude.{ℕ, Bool, true, not, ◌&&◌, nat_lt, List, [], ◌∷◌, IsTrue}
+-- The numbers of a document's nodes, and their depth.
+use Rattle.std.specs.Prelude.{ℕ, ◌+◌, ◌≤◌, Bool, true, not, ◌&&◌, nat_lt, List, [], ◌∷◌, IsTrue}
 use Rattle.std.specs.List.{list_all, list_any}
 use Rattle.std.specs.Prelude.{◌==◌}
-use Rattle.spec_document.specs.Forest.{Forest, Document, labels}
+use Rattle.spec_document.specs.Forest.{Document, labels, height}
+use Rattle.spec_document.specs.NodeFaults.{greatest_depth}
 use Rattle.spec_document.specs.Numbering.{number_limit}
 
 -- none stands twice
@@ -17,5 +18,7 @@ are_numbers ns = are_distinct ns && list_all (λ n. nat_lt n number_limit) ns
 abbrev pub IsNumbered : Document ℕ → Type 0
 IsNumbered document = IsTrue (are_numbers (document.root ∷ labels document.nodes))
 
-abbrev pub AreNumbered : Forest ℕ → Type 0
-AreNumbered forest = IsTrue (are_numbers (labels forest))
+-- the numbers of a document's nodes are so, and its elements stand at depths of at most 256, with other nodes below the deepest
+pub record IsDocument (document : Document ℕ) : Type 0 where
+  pub numbers : IsNumbered document
+  pub depth : height document.nodes ≤ greatest_depth + 1

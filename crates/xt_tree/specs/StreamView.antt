@@ -11,12 +11,12 @@ use Rattle.xt_tree.specs.declared.items.Item.{Item, Item-F, fold-Item}
 abbrev pub item_step : Item-F stream.Stream stream.Stream → stream.Stream
 item_step (Item-F.Element name uri namespaces content) = stream.Element name uri (map entry_of namespaces.items) content.value stream.Ended
 item_step (Item-F.Nameless content) = stream.Nameless content.value stream.Ended
-item_step (Item-F.Attribute name uri value) = stream.Attribute name uri value stream.Ended
+item_step (Item-F.Attribute name uri content) = stream.Attribute name uri content.value stream.Ended
 item_step (Item-F.Namespace namespace) = stream.Namespace namespace.prefix namespace.uri stream.Ended
 item_step (Item-F.Text text) = stream.Text text stream.Ended
-item_step (Item-F.Comment text) = stream.Comment text stream.Ended
-item_step (Item-F.Instruction target text) = stream.Instruction target text stream.Ended
-item_step (Item-F.Message text) = stream.Message text stream.Ended
+item_step (Item-F.Comment content) = stream.Comment content.value stream.Ended
+item_step (Item-F.Instruction target content) = stream.Instruction target content.value stream.Ended
+item_step (Item-F.Message content) = stream.Message content.value stream.Ended
 item_step (Item-F.Part items) = items.value
 item_step Item-F.Hole = stream.Hole stream.Ended
 

@@ -1,6 +1,5 @@
 -- The values that the code's values stand for.
 use Rattle.spec_meaning.specs.Value.{Value, Number, Text, Boolean, Nodes, Fragment}
-use Rattle.xt_tree.specs.StreamView.{stream_of}
 use Rattle.xt_tree.specs.declared.node_ref.NodeRef.{NodeRef}
 use Rattle.xt_tree.specs.declared.value.Value as code
 use Rattle.xt_tree.specs.declared.value.Value.TheVariants as codes
@@ -10,4 +9,4 @@ value_of (codes.Number number) = Number number
 value_of (codes.Text text) = Text text
 value_of (codes.Boolean is_true) = Boolean is_true
 value_of (codes.Nodes nodes) = Nodes nodes.items
-value_of (codes.Fragment items) = Fragment (stream_of items.value)
+value_of (codes.Fragment fragment) = Fragment fragment

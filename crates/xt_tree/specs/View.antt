@@ -96,6 +96,11 @@ abbrev pub IsWayTo : spec.Document ℕ → ℕ → Option (List ℕ) → Type 0
 IsWayTo document number None = numbered_node document number ≡ None
 IsWayTo document number (Some path) = (node_at document path ≡ numbered_node document number) × (numbered_node document number ≢ None)
 
+-- the positions lead to what the name stands for, or to the element that it belongs to; without positions it stands for nothing
+abbrev pub IsPlaceOf : spec.Document ℕ → NodeRef → Option (List ℕ) → Type 0
+IsPlaceOf document node None = item_of document node ≡ None
+IsPlaceOf document node (Some path) = (node_at document path ≡ numbered_node document node.node.number) × (item_of document node ≢ None)
+
 -- the scope inside the node that positions lead to, from siblings that stand in this scope
 abbrev pub scope_from : List ℕ → Scope → spec.Forest ℕ → Option Scope
 scope_from [] scope siblings = Some scope

@@ -1,12 +1,13 @@
 // Documents, and siblings that are to stand in one.
-ghost use Rattle.std.specs.Prelude.{ℕ, List, ◌≡◌, ◌==◌, ◌+◌, ◌<◌, map, IfOk, OnOk, OnErr, ◌∷◌, [], MatchOption, IsSome, is_some, Some, None};
+ghost use Rattle.std.specs.Prelude.{ℕ, List, ◌≡◌, ◌==◌, ◌+◌, ◌<◌, ◌≤◌, map, IfOk, OnOk, OnErr, ◌∷◌, [], MatchOption, IsSome, is_some, Some, None};
 ghost use Rattle.std.specs.Option.{option_map, option_and_then, ForSome};
 ghost use Rattle.spec_document.specs.Numbering.{number_limit};
-ghost use Rattle.spec_document.specs.Forest.{followed, numbered, size};
+ghost use Rattle.spec_document.specs.Forest.{followed, height, numbered, size};
+ghost use Rattle.spec_document.specs.NodeFaults.{greatest_depth};
 ghost use Rattle.spec_document.specs.Name.{qname_of};
 ghost use Rattle.spec_document.specs.Declaration.{namespaces_in, attribute_name};
 ghost use Rattle.spec_document.specs.Place.{TreeNode, expanded_name, name_by, node_at, scope_at, kind_of, kind_by, string_value, string_value_by, attributes_of, namespaces_of, at_number};
-ghost use Rattle.xt_tree.specs.View.{itself, IsWayTo, item_of, numbered_node, written_of, content_of, forest_of, tree_of};
+ghost use Rattle.xt_tree.specs.View.{itself, IsPlaceOf, IsWayTo, item_of, numbered_node, written_of, content_of, forest_of, tree_of};
 ghost use Rattle.xt_tree.specs.Numbers.{IsNumbered};
 ghost use Rattle.spec_document.specs.Forest as spec;
 
@@ -20,7 +21,8 @@ use std::rc::Rc;
 use xt_names::{Expanded, Scope};
 use xt_text::{Memory, Path, Text};
 
-/// A document: its root and what is below it. Its nodes have distinct numbers below 2^62. Contracts see
+/// A document: its root and what is below it. Its nodes have distinct numbers below 2^62, and its elements
+/// stand at depths of at most 256, so each recursion over it is bounded, and dropping it is. Contracts see
 /// the plain tree with the numbers as labels.
 #[derive(Drop)]
 pub struct Doc {
@@ -38,11 +40,11 @@ impl Model for Doc {
     ghost coded = { document_code };
 
     ghost use Rattle.xt_tree.specs.View.{forest_of};
-    ghost use Rattle.xt_tree.specs.Numbers.{IsNumbered};
+    ghost use Rattle.xt_tree.specs.Numbers.{IsDocument};
 
     ghost view = { λ d. record { root = d.root.number; nodes = forest_of d.children.items } };
 
-    ghost invariant = { λ d. IsNumbered (record { root = d.root.number; nodes = forest_of d.children.items }) };
+    ghost invariant = { λ d. IsDocument (record { root = d.root.number; nodes = forest_of d.children.items }) };
 }
 
 /// Siblings in their order, with what is below them. Contracts see the forest with the numbers as labels.
@@ -120,7 +122,8 @@ fn node(id: NodeId, content: Content, children: Nodes) -> Node
 impl Doc {
     /// The document with this root and these nodes below it. Takes no memory.
     pub fn new(root: NodeId, nodes: Nodes) -> Doc
-        requires { IsNumbered (record { root = root.number; nodes = nodes }) }
+        requires numbers { IsNumbered (record { root = root.number; nodes = nodes }) }
+        requires depth { height nodes ≤ greatest_depth + 1 }
         ensures { result ≡ record { root = root.number; nodes = nodes } }
     {
         Doc {
@@ -133,6 +136,7 @@ impl Doc {
     pub fn numbered(root: NodeId, nodes: Nodes) -> Doc
         requires order { numbered (root.number + 1) nodes ≡ nodes }
         requires limit { root.number + size nodes < number_limit }
+        requires depth { height nodes ≤ greatest_depth + 1 }
         ensures { result ≡ record { root = root.number; nodes = nodes } }
     {
         Doc::new(root, nodes)
@@ -168,16 +172,30 @@ impl Doc {
     }
 
     /// The path of the node, or of the element that the attribute or namespace node belongs to: the only
-    /// one that leads there. None exactly where no node of the tree has its number.
+    /// one that leads there. None exactly where the node is none of the tree, nor an attribute or a
+    /// namespace node of an element of it.
     pub fn place(&self, alloc: Global, node: &NodeRef) -> Result<Option<Path>, Memory>
-        ensures way { IfOk result (λ place. IsWayTo self.now node.now.node.number place) }
-        ensures only { IfOk result (λ place. (path : List ℕ) → option_map (λ n. n.label) (node_at self.now path) ≡ Some node.now.node.number → place ≡ Some path) }
+        ensures place { IfOk result (λ place. IsPlaceOf self.now node.now place) }
+        ensures only { IfOk result (λ place. IsSome (item_of self.now node.now)
+            → (path : List ℕ) → option_map (λ n. n.label) (node_at self.now path) ≡ Some node.now.node.number → place ≡ Some path) }
+    {
+        if self.has(alloc, node)? {
+            self.way(alloc, node.node)
+        } else {
+            Ok(None)
+        }
+    }
+
+    // The path that leads to the node of this number, the only one. None where there is no such node.
+    fn way(&self, alloc: Global, id: NodeId) -> Result<Option<Path>, Memory>
+        ensures way { IfOk result (λ place. IsWayTo self.now id.number place) }
+        ensures only { IfOk result (λ place. (path : List ℕ) → option_map (λ n. n.label) (node_at self.now path) ≡ Some id.number → place ≡ Some path) }
     {
         let mut path = Path::new(alloc);
-        if self.root == node.node {
+        if self.root == id {
             return Ok(Some(path));
         }
-        if lead(&mut path, self.children.as_slice(), node.node)? {
+        if lead(&mut path, self.children.as_slice(), id)? {
             return Ok(Some(path));
         }
         Ok(None)
@@ -270,7 +288,7 @@ impl Doc {
     fn scope_of(&self, alloc: Global, node: &NodeRef) -> Result<Scope, Memory>
         ensures { IfOk result (λ scope. ForSome (numbered_node self.now node.now.node.number) (λ node. scope ≡ scope_at node)) }
     {
-        match self.place(alloc, node)? {
+        match self.way(alloc, node.node)? {
             None => Scope::root(alloc),
             Some(path) => self.scope_along(alloc, &path),
         }

@@ -1,10 +1,10 @@
 // Streams: what instructions write, item by item.
-ghost use Rattle.std.specs.Prelude.{◌≡◌, map, length, IfOk, OnOk, OnErr};
+ghost use Rattle.std.specs.Prelude.{◌≡◌, nat_lt, map, length, IfOk, OnOk, OnErr};
 ghost use Rattle.spec_meaning.specs.Stream as stream;
 ghost use Rattle.xt_tree.specs.declared.items.Items.{out-Items};
 ghost use Rattle.xt_tree.specs.StreamView.{single_of, stream_of, streams_of};
 
-use crate::filling::filled;
+use crate::filling::{filled, has_hole};
 use std::alloc::Global;
 use std::rc::Rc;
 use xt_names::Namespace;
@@ -36,27 +36,31 @@ pub enum Item {
     Nameless {
         content: Rc<Items>,
     },
-    /// An attribute, for the element whose content it begins.
+    /// An attribute, for the element whose content it begins. Its content makes its value.
     Attribute {
         /// The name as it is written.
         name: Text,
         /// The URI of the name, empty where it is in no namespace.
         uri: Text,
-        value: Text,
+        content: Rc<Items>,
     },
     /// A namespace node.
     Namespace(Namespace),
     /// A text.
     Text(Text),
-    /// A comment.
-    Comment(Text),
-    /// A processing instruction.
+    /// A comment. Its content makes its text.
+    Comment {
+        content: Rc<Items>,
+    },
+    /// A processing instruction. Its content makes its text.
     Instruction {
         target: Text,
-        text: Text,
+        content: Rc<Items>,
     },
-    /// A message, which is no part of the result.
-    Message(Text),
+    /// A message, which is no part of the result. Its content makes its text.
+    Message {
+        content: Rc<Items>,
+    },
     /// A shared stream, whose items stand here.
     Part(Rc<Items>),
     /// The place of a stream that is not known yet.
@@ -90,7 +94,15 @@ impl Items {
         self.list.as_slice()
     }
 
-    /// The stream with the parts in place of its holes, in order. The parts are shared; all else is copied.
+    /// Whether the stream has holes. Takes no memory.
+    pub fn has_hole(&self) -> bool
+        ensures { result ≡ nat_lt 0 (stream.holes (stream_of self.now)) }
+    {
+        has_hole(self)
+    }
+
+    /// The stream with the parts in place of its holes, in order. The parts are shared, and so is what has
+    /// no holes; all else is copied.
     pub fn fill(&self, alloc: Global, parts: &[Rc<Items>]) -> Result<Rc<Items>, Memory>
         requires { stream.holes (stream_of self.now) ≡ length parts.now }
         ensures { IfOk result (λ whole. stream_of whole.value ≡ stream.filled (stream_of self.now) (streams_of parts.now)) }

@@ -22,4 +22,4 @@ pub use items::{Item, Items};
 pub use node::{Content, Node, Written};
 pub use node_ref::{NodeId, NodeRef, Part};
 pub use spec_document::Kind;
-pub use value::Value;
+pub use value::{Fragment, Value};

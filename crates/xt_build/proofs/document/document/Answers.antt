@@ -1,11 +1,12 @@
 use Rattle.std.proofs.Common.{◌+◌, ◌<◌, None, Some, Ok, sym, ap, ◌∙◌, subst, arith}
-use Rattle.spec_document.specs.Forest.{numbered, size}
+use Rattle.spec_document.specs.Forest.{height, numbered, size}
 use Rattle.spec_document.specs.Top.{without_texts}
 use Rattle.spec_document.specs.Numbering.{number_limit}
 use Rattle.spec_document.specs.Document.{document_by}
 use Rattle.xt_build.specs.View.{found_of, pieces_of, fault_of}
 use Rattle.xt_build.specs.Piece.{forest_in}
 use Rattle.xt_build.proofs.Building.{document_made, document_has_room, answered, second_is_next, second_number, AreMade, are_made, size_numbered}
+use Rattle.xt_build.proofs.Heights.{document-height}
 use Rattle.xt_build.proofs.document.document.Goals as goal
 use Rattle.xt_build.proofs.document.document.Goals.{In_ok-built, In_default}
 
@@ -40,6 +41,15 @@ numbered-document-requires-clause-order c = (made c.before).again
 
 pub numbered-document-requires-clause-limit : goal.numbered-document-requires-clause-limit
 numbered-document-requires-clause-limit c = (made c.before).fit
+
+pub numbered-document-requires-clause-depth : goal.numbered-document-requires-clause-depth
+numbered-document-requires-clause-depth c =
+    let fits = document-height c.args.scope.now (c.args.first.number + 1) (pieces_of c.as_slice-whole.result.now) (found_of c.check_top.new.found) (found_of c.check_nodes.new.found)
+    (found_of c.check_number.new.found) (found_of c.check_numbers.new.found) _ _ c.in_ok-check_nodes.ensures c.check_number.ensures c.check_numbers.ensures (ap found_of c.in_default.is) in
+    let are = (made c.before).are in
+    let same = ap (λ ps. height (numbered (c.args.first.number + 1) (without_texts (forest_in (pieces_of ps))))) c.as_slice-whole.ensures.value in
+    let here = ap height are in
+    omega (arith, fits, same, here)
 
 pub returns : goal.returns
 returns c =

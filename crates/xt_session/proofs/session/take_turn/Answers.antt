@@ -1,18 +1,29 @@
-use Rattle.xt_session.specs.Progress.{command_of}
-use Rattle.xt_session.specs.View.{documents_of}
-use Rattle.xt_session.specs.declared.reply.Reply.TheVariants.{NoMemory}
-use Rattle.xt_session.proofs.Serving.{turn_with, no_memory_reply}
+use Rattle.std.proofs.Common.{List, ℕ, subst, sym, ap}
+use Rattle.std.specs.Prelude.{codes}
+use Rattle.spec_session.specs.Machine.{Documents}
+use Rattle.xt_session.specs.Turn.{GivesReply, Writes}
+use Rattle.xt_session.specs.View.{state_of}
+use Rattle.xt_session.proofs.Turning.{turned, gives_no_memory}
 use Rattle.xt_session.proofs.session.take_turn.Goals as goal
 
-pub returns-in-Command-clause-turns : goal.returns-in-Command-clause-turns
-returns-in-Command-clause-turns g c =
-    turn_with c.args.lines.now (g.I.Source.remaining c.args.input.now) (documents_of c.args.documents.now) (command_of c.in-Command.command) c.take_command.new.lines
-    (g.I.Source.remaining c.take_command.new.input) c.reply_to.result (documents_of c.reply_to.new.documents) (g.O.Sink.written c.args.output.now) (g.O.Sink.written c.write_reply.new.output)
-    c.write_reply.result c.in-Command.ensures.taken c.reply_to.ensures c.write_reply.ensures.0
+pub returns-in-Ok-clause-turns : goal.returns-in-Ok-clause-turns
+returns-in-Ok-clause-turns g c =
+    let writes = subst (λ (bytes : List ℕ). Writes bytes (g.O.Sink.written c.args.output.now) c.write_reply.result
+    (g.O.Sink.written c.write_reply.new.output))
+    c.as_bytes.ensures c.write_reply.ensures.writes in
+    turned _ _ c.write_reply.result (record { command = c.in-Command.command; given = c.in-Command.ensures.taken; gives = c.in-Ok.ensures.ok }) writes
+
+pub returns-in-Err-clause-turns : goal.returns-in-Err-clause-turns
+returns-in-Err-clause-turns g c =
+    let command = c.in-Command.command in
+    let old = state_of c.args.state.now in
+    let same = ap state_of (sym c.in-Err.ensures.err) in
+    let gives = subst (λ (state : Documents). GivesReply old command (codes "no 1\n") state) same (gives_no_memory old command) in
+    turned _ _ c.write_reply-in-Err.result (record { command = command; given = c.in-Command.ensures.taken; gives = gives })
+    c.write_reply-in-Err.ensures.writes
 
 pub returns-in-Skipped-clause-turns : goal.returns-in-Skipped-clause-turns
 returns-in-Skipped-clause-turns g c =
     let taken = c.in-Skipped.ensures.taken in
-    turn_with c.args.lines.now (g.I.Source.remaining c.args.input.now) (documents_of c.args.documents.now) taken.0 c.take_command.new.lines (g.I.Source.remaining c.take_command.new.input)
-    NoMemory (documents_of c.args.documents.now) (g.O.Sink.written c.args.output.now) (g.O.Sink.written c.write_reply-in-Skipped.new.output) c.write_reply-in-Skipped.result taken.1
-    (no_memory_reply (documents_of c.args.documents.now) taken.0) c.write_reply-in-Skipped.ensures.0
+    let gives = gives_no_memory (state_of c.args.state.now) taken.0 in
+    turned _ _ c.write_reply-in-Skipped.result (record { command = taken.0; given = taken.1; gives = gives }) c.write_reply-in-Skipped.ensures.writes

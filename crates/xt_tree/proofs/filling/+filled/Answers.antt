@@ -1,9 +1,9 @@
-use Rattle.std.proofs.Common.{rules, ℕ, length, ◌≤◌, ◌≡◌, ◌∙◌, ◌+◌, sym, ap, drop, map, arith}
+use Rattle.std.proofs.Common.{rules, ltb-false, nat_lt, ℕ, length, ◌≤◌, ◌≡◌, ◌∙◌, ◌+◌, sym, ap, drop, map, arith}
 use Rattle.std.proofs.lemmas.List.{at_drop_more, at_drop_all}
 use Rattle.spec_meaning.specs.Stream.{all_followed, followed, holes, first_of, filled}
 use Rattle.xt_tree.specs.declared.items.Item.{the_lemmas}
 use Rattle.xt_tree.specs.StreamView.{single_of, stream_of, streams_of}
-use Rattle.xt_tree.proofs.Streams.{view-Hole, view-Part, followed-Ended, followed-followed, holes-followed, filled_first}
+use Rattle.xt_tree.proofs.Streams.{view-Hole, view-Part, followed-Ended, followed-followed, holes-followed, filled_first, filled-none}
 use Rattle.xt_tree.proofs.filling.+filled.Goals as goal
 
 pub filled_item-returns-in_ok-part-in-Hole-clause-stream :
@@ -56,3 +56,14 @@ filled-returns-clause-stream t c =
     let left = streams_of (drop c.loop-item.next c.args.parts.now) in
     let at = at_drop_all (λ xs. filled (all_followed (map single_of xs)) left) list c.loop-item.item-index (omega arith) in
     ap stream_of c.in_ok-new.ensures.ok ∙ sym (followed-Ended (stream_of c.loop-item.list)) ∙ ap (followed (stream_of c.loop-item.list)) (sym at) ∙ c.loop-item.invariant.stream
+
+-- a content without holes is as it is
+pub filled_content-returns-in_ok-clone : goal.filled_content-returns-in_ok-clone
+filled_content-returns-in_ok-clone t c =
+    let stream = stream_of c.args.content.now.value in
+    let few : holes stream ≤ 0 = ltb-false 0 (holes stream) (ap (λ i. nat_lt 0 (holes (stream_of i))) (sym c.deref.ensures) ∙ sym c.has_hole.ensures ∙ c.if-has_hole.false) in
+    let none : holes stream ≡ 0 = omega (arith, few) in
+    record {
+      next = omega (arith, none);
+      stream = ap stream_of (c.in_ok-clone.ensures {u = tt}).cases ∙ sym (filled-none stream none (streams_of (drop c.args.next.now c.args.parts.now)));
+    }

@@ -6,7 +6,3 @@ use Rattle.xt_session.proofs.reply.Reply.as_bytes.Goals as goal
 pub returns-in-NotTaken : goal.returns-in-NotTaken
 unfolding encode digits
 returns-in-NotTaken c = rw c.in-NotTaken.is refl
-
-pub returns-in-NoMemory : goal.returns-in-NoMemory
-unfolding encode digits
-returns-in-NoMemory c = rw c.in-NoMemory.is refl

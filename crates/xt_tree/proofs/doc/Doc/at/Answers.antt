@@ -18,7 +18,7 @@ returns-in_err-node c =
     let number = c.from_residual.ensures ∙ at_number_path c.args.self.now c.args.path.now None none in
     record {
       number = number;
-      item = ap (option_and_then (item_of c.args.self.now)) number ∙ item_at_number c.args.self.now c.args.path.now (subst IsNumbered c.self.view_is c.self.invariant);
+      item = ap (option_and_then (item_of c.args.self.now)) number ∙ item_at_number c.args.self.now c.args.path.now (subst IsNumbered c.self.view_is c.self.invariant.numbers);
     }
 
 pub loop-position-preserved : goal.loop-position-preserved
@@ -38,5 +38,5 @@ returns c =
     let number = ap Some c.of.ensures ∙ at_number_path c.args.self.now c.args.path.now (Some c.loop-position.id.number) at in
     record {
       number = number;
-      item = ap (option_and_then (item_of c.args.self.now)) number ∙ item_at_number c.args.self.now c.args.path.now (subst IsNumbered c.self.view_is c.self.invariant);
+      item = ap (option_and_then (item_of c.args.self.now)) number ∙ item_at_number c.args.self.now c.args.path.now (subst IsNumbered c.self.view_is c.self.invariant.numbers);
     }

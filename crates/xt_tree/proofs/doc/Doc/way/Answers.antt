@@ -3,32 +3,32 @@ use Rattle.xt_tree.specs.View.{forest_of, way_to, gone_on, IsWayTo}
 use Rattle.xt_tree.specs.Numbers.{IsNumbered}
 use Rattle.xt_tree.proofs.Distinct.{only_way}
 use Rattle.xt_tree.proofs.Ways.{root_way, place_is, no_place_is}
-use Rattle.xt_tree.proofs.doc.Doc.place.Goals as goal
+use Rattle.xt_tree.proofs.doc.Doc.way.Goals as goal
 
 pub returns-then-eq-clause-only : goal.returns-then-eq-clause-only
 returns-then-eq-clause-only c =
     let d = c.args.self.now in
-    let number = c.args.node.now.node.number in
+    let number = c.args.id.number in
     let same : (d.root == number) ≡ true = ap (λ e. e.root == number) (sym c.self.view_is) ∙ sym c.eq.ensures ∙ c.if-eq.true in
     let way = subst (λ p. IsWayTo d number (Some p)) (sym c.new-path.ensures) (root_way d number same) in
-    only_way d number (Some c.new-path.result) (subst IsNumbered c.self.view_is c.self.invariant) way
+    only_way d number (Some c.new-path.result) (subst IsNumbered c.self.view_is c.self.invariant.numbers) way
 
 pub returns-then-branch : goal.returns-then-branch
 returns-then-branch c =
     let d = c.args.self.now in
-    let number = c.args.node.now.node.number in
+    let number = c.args.id.number in
     let apart : (d.root == number) ≡ false = ap (λ e. e.root == number) (sym c.self.view_is) ∙ sym c.eq.ensures ∙ c.if-eq.false in
     let same : way_to number 1 (forest_of c.as_slice.result.now) ≡ way_to number 1 d.nodes = ap (λ xs. way_to number 1 (forest_of xs)) c.as_slice.ensures.value ∙ ap (λ e. way_to number 1 e.nodes) c.self.view_is in
     let some = sym (ap is_some same) ∙ sym c.in_ok-lead.ensures.found ∙ c.if-branch.true in
     let path = c.in_ok-lead.ensures.path ∙ ap (λ p. gone_on p (way_to number 1 (forest_of c.as_slice.result.now))) c.new-path.ensures ∙ ap (gone_on []) same in
     let way = subst (λ p. IsWayTo d number (Some p)) (sym path) (place_is d number apart some) in
-    record { way = way; only = only_way d number (Some c.lead.new.path) (subst IsNumbered c.self.view_is c.self.invariant) way }
+    record { way = way; only = only_way d number (Some c.lead.new.path) (subst IsNumbered c.self.view_is c.self.invariant.numbers) way }
 
 pub returns : goal.returns
 returns c =
     let d = c.args.self.now in
-    let number = c.args.node.now.node.number in
+    let number = c.args.id.number in
     let apart : (d.root == number) ≡ false = ap (λ e. e.root == number) (sym c.self.view_is) ∙ sym c.eq.ensures ∙ c.if-eq.false in
     let same : way_to number 1 (forest_of c.as_slice.result.now) ≡ way_to number 1 d.nodes = ap (λ xs. way_to number 1 (forest_of xs)) c.as_slice.ensures.value ∙ ap (λ e. way_to number 1 e.nodes) c.self.view_is in
     let way = no_place_is d number apart (sym (ap is_some same) ∙ sym c.in_ok-lead.ensures.found ∙ c.if-branch.false) in
-    record { way = way; only = only_way d number None (subst IsNumbered c.self.view_is c.self.invariant) way }
+    record { way = way; only = only_way d number None (subst IsNumbered c.self.view_is c.self.invariant.numbers) way }

@@ -1,0 +1,84 @@
+-- Worked examples of what a call that serves a session has done. The check computes both sides of each fact.
+use Rattle.std.specs.Prelude.{ℕ, ◌≡◌, refl, true, false, List, [], ◌∷◌, Some, codes}
+use Rattle.std.proofs.Common.{sym, ◌∙◌, ap, arith, append-nil, inl}
+use Rattle.std.specs.Str.{chars, is_utf8}
+use Rattle.std.specs.Fmt.{digits}
+use lib.Utf8.{encode}
+use Rattle.spec_lines.specs.Lines.{ended_lines}
+use Rattle.spec_session.specs.declared.kinds.Ending.TheVariants.{Finished, Quit, Unfinished}
+use Rattle.spec_session.specs.Command.{session_of, status_of}
+use Rattle.spec_session.specs.Reply.{Refused}
+use Rattle.spec_session.specs.Machine.{Failed, initial, no_main}
+use Rattle.spec_session.specs.Served.{AreReplies, IsServed, IsCutShort, Serves, asks_session}
+
+-- where the source goes on after the bytes that may be taken, the status is 5, but for a session that `quit` has ended
+pub status_goes_on : status_of true Finished ≡ 5
+status_goes_on = refl
+
+pub status_goes_on_inside_a_body : status_of true Unfinished ≡ 5
+status_goes_on_inside_a_body = refl
+
+pub status_after_quit : status_of true Quit ≡ 0
+status_after_quit = refl
+
+-- the machine's reply to `show` at the start
+abbrev shown_at_start : List ℕ
+shown_at_start = codes "refused S01 -\n"
+
+show_is_answered : AreReplies (session_of (codes "show" ∷ [])).commands shown_at_start
+unfolding chars is_utf8 encode digits
+show_is_answered = record {
+  replies = Refused no_main ∷ [];
+  state = initial;
+  run = (initial, inl ((Failed no_main, refl, refl), refl), refl);
+  bytes = refl;
+}
+
+-- a reply to each command up to `quit`
+pub answered_up_to_quit : IsServed 100 (codes "show\r\n\nquit\nshow\n") 0 shown_at_start
+answered_up_to_quit = record { answered = show_is_answered; ends = refl }
+
+-- the last line may lack its LF
+pub answered_up_to_the_end : IsServed 4 (codes "show") 0 shown_at_start
+answered_up_to_the_end = record { answered = show_is_answered; ends = refl }
+
+-- the input ends inside a body
+pub ends_inside_a_body : IsServed 100 (codes "show\nsource\n(a\n") 4 shown_at_start
+ends_inside_a_body = record { answered = show_is_answered; ends = refl }
+
+-- `quit` is not whole within four bytes, and is within five
+nothing_is_answered : AreReplies [] []
+nothing_is_answered = record { replies = []; state = initial; run = refl; bytes = refl }
+
+pub over_the_limit : IsServed 4 (codes "quit\n") 5 []
+over_the_limit = record { answered = nothing_is_answered; ends = refl }
+
+pub at_the_limit : IsServed 5 (codes "quit\n") 0 []
+at_the_limit = record { answered = nothing_is_answered; ends = refl }
+
+-- a fault of the source in the line after `show`
+pub cut_in_a_line : IsCutShort (codes "show\nqui") (codes "i") shown_at_start
+cut_in_a_line = record { taken = codes "show\nqu"; all = refl; answered = show_is_answered; goes_on = λ quit. cc }
+
+-- none comes after `quit`: nothing is read then
+pub not_cut_after_quit : (text : List ℕ) → IsCutShort (codes "quit\n") [] text → ⊥
+not_cut_after_quit text cut =
+    cut.goes_on (ap (λ (bytes : List ℕ). (session_of (ended_lines bytes)).ending) (sym (append-nil cut.taken) ∙ sym cut.all))
+
+-- a whole call
+pub served_call : Serves 100 (Some (codes "show\nquit\n")) (Some []) (Some (codes "> ")) (Some (codes "> refused S01 -\n")) 0
+served_call = record {
+  served = λ is. (shown_at_start, record { answered = show_is_answered; ends = refl }, refl);
+  cut_short = λ is. absurd (omega arith);
+  prefix = λ is. absurd (omega arith);
+  nothing = λ is. absurd (omega arith);
+  takes = record { taken = codes "show\nquit\n"; all = refl; few = omega arith };
+  no_other = omega arith;
+}
+
+-- the words that ask for a session
+pub session_asked : asks_session (codes "xt" ∷ codes "session" ∷ []) ≡ true
+session_asked = refl
+
+pub session_not_asked : asks_session (codes "xt" ∷ codes "session" ∷ codes "x" ∷ []) ≡ false
+session_not_asked = refl
