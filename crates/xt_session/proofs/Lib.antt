@@ -4,7 +4,6 @@ pub mod Running
 pub mod Meeting
 pub mod Serving
 pub mod Turning
-pub mod Answering
-pub mod Forms
-pub mod Bodies
 pub mod Commands
+pub mod Keys
+pub mod Answering

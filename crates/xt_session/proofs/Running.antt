@@ -11,7 +11,7 @@ use Rattle.spec_lines.specs.Lines.{lines_within, ended_lines, Reader, ahead, all
 use Rattle.spec_lines.proofs.Reading.{ended_lines-none}
 use Rattle.spec_session.specs.Command.{Command, Session, session_of, after, status_of}
 use Rattle.spec_session.specs.Reply.{Reply, reply_bytes}
-use Rattle.spec_session.specs.Machine.{Documents as State, no_documents as initial, Step, Run}
+use Rattle.spec_session.specs.Machine.{State, initial, Step, Run}
 use Rattle.spec_session.specs.Served.{AreReplies, IsServed, IsCutShort, IsPrefixOfReplies, TakesAtMost, session_within}
 use Rattle.xt_session.specs.Progress.{BeginsWithLines, GivesLines, IsDone, IsCut}
 use Rattle.xt_session.specs.Turn.{IsAnswered}
@@ -110,7 +110,7 @@ all_replies : {limit : ℕ} {bytes : List ℕ} {a : Reader} {p : Option (List �
     → session ≡ in_front come.commands last → last.commands ≡ [] → AreReplies session.commands text
 all_replies {state = state} come session last all none = record {
   replies = come.replies;
-  documents = state;
+  state = state;
   run = subst (λ (cs : List Command). Run initial cs come.replies state)
       (sym (ap (λ (s : Session). s.commands) all ∙ ap (λ (cs : List Command). come.commands ++ cs) none ∙ append-nil come.commands)) come.run;
   bytes = come.bytes_are;
@@ -204,7 +204,7 @@ come_prefix {limit = limit} {bytes = bytes} {b = b} {q = q} {next = next} {text 
       unwritten = drop count more;
       answered = record {
         replies = on.replies;
-        documents = next;
+        state = next;
         run = on.run;
         bytes = append_assoc text _ _ ∙ ap (λ (t : List ℕ). text ++ t) (take-append-drop count more) ∙ on.bytes_are;
       };

@@ -5,7 +5,7 @@ use Rattle.std.specs.Prelude.{IfSome, IsSomeAnd}
 use Rattle.spec_lines.specs.Lines.{Reader, TakesUpTo}
 use Rattle.spec_lines.specs.Outside.{Appends}
 use Rattle.spec_session.specs.Command.{session_of}
-use Rattle.spec_session.specs.Machine.{Documents as State, no_documents as initial}
+use Rattle.spec_session.specs.Machine.{State, initial}
 use Rattle.spec_session.specs.Served.{IsCutShort, TakesAtMost, Serves}
 use Rattle.xt_session.specs.Progress.{IsDone, IsCut}
 use Rattle.xt_session.specs.Turn.{IsAnswered}

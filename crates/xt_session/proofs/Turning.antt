@@ -1,25 +1,19 @@
 -- One turn of a session, by the reply that was written.
-use Rattle.std.proofs.Common.{◌≡◌, ℕ, List, Option, refl, inl}
+use Rattle.std.proofs.Common.{◌≡◌, ℕ, List, Option, refl, inr}
 use Rattle.std.specs.Prelude.{codes}
 use Rattle.std.specs.Fmt.{digits}
 use lib.Utf8.{encode}
 use Rattle.spec_lines.specs.Lines.{Reader}
 use Rattle.spec_session.specs.Command.{Command}
 use Rattle.spec_session.specs.Reply.{No, reply_bytes}
-use Rattle.spec_session.specs.Machine.{Documents as State, Request, SetSource, SetMain, Show, Other, request_of, Answers, Step}
+use Rattle.spec_session.specs.Machine.{State, Step}
 use Rattle.xt_session.specs.declared.session.Turn.{Turn}
 use Rattle.xt_session.specs.declared.session.Turn.TheVariants.{Answered, Stopped, ReadFailed, WriteFailed}
 use Rattle.xt_session.specs.Turn.{IsAnswered, GivesReply, Turns, Writes}
 
-no_memory : (old : State) (request : Request) → Answers old request (No 1) old
-no_memory old (SetSource tree) = (refl, refl)
-no_memory old (SetMain tree) = (refl, refl)
-no_memory old Show = (refl, refl)
-no_memory old Other = (inl refl, refl)
-
 -- want of memory is always a step, and changes nothing
 no_memory_step : (old : State) (command : Command) → Step old command (No 1) old
-no_memory_step old command = no_memory old (request_of command)
+no_memory_step old command = inr (refl, refl)
 
 -- the bytes of its reply
 no_memory_bytes : codes "no 1\n" ≡ reply_bytes (No 1)

@@ -1,3 +1,3 @@
-pub mod View
+pub mod Documents
 pub mod Progress
 pub mod Turn

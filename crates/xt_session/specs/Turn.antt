@@ -3,11 +3,17 @@ use Rattle.std.specs.Prelude.{ℕ, ◌≡◌, List, Option, take}
 use Rattle.spec_lines.specs.Lines.{Reader}
 use Rattle.spec_lines.specs.Outside.{HasRisen, Appends}
 use Rattle.spec_session.specs.Command.{Command, session_of}
-use Rattle.spec_session.specs.Machine.{Documents as State, Step}
-use Rattle.spec_session.specs.Reply.{Reply, reply_bytes}
+use Rattle.spec_session.specs.Machine.{State, Answer, Gives, Step}
+use Rattle.spec_session.specs.Reply.{Reply, reply_bytes, reply_text}
 use Rattle.xt_session.specs.declared.session.Turn.{Turn}
 use Rattle.xt_session.specs.declared.session.Turn.TheVariants.{Answered, Stopped, ReadFailed, WriteFailed}
 use Rattle.xt_session.specs.Progress.{GivesCommand, IsDone, IsCut}
+
+-- from old, the machine gives a reply of this text at this answer, and goes on to new
+pub record GivesText (old : State) (answer : Answer) (text : List ℕ) (new : State) : Type 0 where
+  pub reply : Reply
+  pub gives : Gives old answer reply new
+  pub text_is : text ≡ reply_text reply
 
 -- from old, the machine may give a reply of these bytes to the command, and goes on to new
 pub record GivesReply (old : State) (command : Command) (bytes : List ℕ) (new : State) : Type 0 where

@@ -28,18 +28,13 @@ impl Command {
         Command { line, body }
     }
 
-    /// Its line.
-    pub(crate) fn line(&self) -> &Line
-        ensures { result.now ≡ self.now.line }
+    /// Its line, and the lines of its body.
+    pub(crate) fn into_parts(self) -> (Line, Vec<Line>)
+        ensures line { result.0 ≡ self.line }
+        ensures body { result.1.items ≡ self.body }
     {
-        &self.line
-    }
-
-    /// The lines of its body.
-    pub(crate) fn body(&self) -> &[Line]
-        ensures { result.now ≡ self.now.body }
-    {
-        self.body.as_slice()
+        let Command { line, body } = self;
+        (line, body)
     }
 }
 

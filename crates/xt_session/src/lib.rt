@@ -12,15 +12,12 @@
 #![tactic(auto)]
 
 mod answer;
-mod body;
 mod command;
-mod document;
-mod form;
+mod documents;
+mod language;
 mod meet;
 mod program;
-mod reply;
 mod session;
-mod state;
 mod take;
 
 pub use program::run;

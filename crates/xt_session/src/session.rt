@@ -3,11 +3,11 @@ ghost use Rattle.std.specs.Prelude.{◌≡◌, ◌≢◌};
 ghost use Rattle.spec_lines.specs.Outside.{Appends, HasRisen};
 ghost use Rattle.spec_session.specs.Served.{Serves};
 ghost use Rattle.xt_session.specs.Turn.{Turns, Writes, HasInputCause, HasOutputCause};
-ghost use Rattle.xt_session.specs.View.{state_of};
+ghost use Rattle.xt_session.specs.Documents.{state_of};
 
 use crate::answer::answer;
 use crate::command::Taken;
-use crate::state::State;
+use crate::documents::Documents;
 use crate::take::take_command;
 use std::alloc::Global;
 use xt_io::{Lines, Sink, Source, write_all};
@@ -43,9 +43,9 @@ pub fn serve<I: Source, O: Sink>(alloc: Global, input: &mut I, output: &mut O, l
     let Ok(mut lines) = Lines::new(alloc, limit) else {
         return 3;
     };
-    let mut state = State::new();
+    let mut documents = Documents::new(alloc);
     loop {
-        match take_turn(alloc, &mut lines, &mut state, input, output) {
+        match take_turn(alloc, &mut lines, &mut documents, input, output) {
             Turn::Answered => {}
             Turn::Stopped(status) => return status,
             Turn::ReadFailed => return 1,
@@ -71,17 +71,17 @@ pub(crate) enum Turn {
 fn take_turn<I: Source, O: Sink>(
     alloc: Global,
     lines: &mut Lines,
-    state: &mut State,
+    documents: &mut Documents,
     input: &mut I,
     output: &mut O,
 ) -> Turn
-    ensures turns { Turns lines.old (I.remaining input.old) (state_of state.old) (O.written output.old) result lines.new (I.remaining input.new) (state_of state.new) (O.written output.new) }
+    ensures turns { Turns lines.old (I.remaining input.old) (state_of documents.old) (O.written output.old) result lines.new (I.remaining input.new) (state_of documents.new) (O.written output.new) }
     ensures input_cause { HasInputCause (I.faults input.old) (I.faults input.new) result }
     ensures output_cause { HasOutputCause (O.faults output.old) (O.faults output.new) result }
 {
     match take_command(alloc, lines, input) {
-        Taken::Command(command) => match answer(alloc, state, command) {
-            Ok(reply) => write_reply(reply.as_bytes(), output),
+        Taken::Command(command) => match answer(alloc, documents, command) {
+            Ok(text) => write_reply(text.as_str().as_bytes(), output),
             Err(_) => write_reply(NO_MEMORY, output),
         },
         Taken::Skipped => write_reply(NO_MEMORY, output),

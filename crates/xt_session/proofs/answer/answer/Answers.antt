@@ -1,27 +1,28 @@
-use Rattle.std.proofs.Common.{sym, ◌∙◌, ap}
-use Rattle.xt_session.specs.Turn.{GivesReply}
-use Rattle.xt_session.specs.View.{bytes_of, state_of, source_tree, main_tree, request_view, IsShowReply}
-use Rattle.spec_session.specs.Machine.{outcome_of}
-use Rattle.xt_session.proofs.Answering.{source_answer, main_answer, show_answer, other_answer, if_ok_map}
+use Rattle.std.proofs.Common.{◌≡◌, Ok, Err, sym, ◌∙◌, ap, subst}
+use Rattle.spec_session.specs.Command.{Command}
+use Rattle.spec_session.specs.Reply.{No, reply_text}
+use Rattle.xt_base.specs.Code.{edit_number}
+use Rattle.xt_base.specs.declared.codes.EditCode.{EditCode}
+use Rattle.spec_session.specs.Request.{request_of}
+use Rattle.xt_wire.specs.View.{asked_of, Reads}
+use Rattle.xt_session.specs.Documents.{state_of}
+use Rattle.xt_session.proofs.Answering.{if_ok_map, command_is, gives_asked, gives_unread}
 use Rattle.xt_session.proofs.answer.answer.Goals as goal
 
-pub returns-in-SetSource-clause-ok : goal.returns-in-SetSource-clause-ok
-returns-in-SetSource-clause-ok c =
-    source_answer (state_of c.args.state.now) c.args.command (source_tree c.in-SetSource.source) c.change_reply.result
-    (sym c.in_ok-source.ensures ∙ ap request_view c.in-SetSource.is) c.change_reply.ensures
-
-pub returns-in-SetMain-clause-ok : goal.returns-in-SetMain-clause-ok
-returns-in-SetMain-clause-ok c =
-    main_answer (state_of c.args.state.now) c.args.command (main_tree c.in-SetMain.main) c.change_reply-in-SetMain.result
-    (sym c.in_ok-source.ensures ∙ ap request_view c.in-SetMain.is) c.change_reply-in-SetMain.ensures
-
-pub returns-in-Show-clause-ok : goal.returns-in-Show-clause-ok
-returns-in-Show-clause-ok c =
-    if_ok_map (IsShowReply (outcome_of (state_of c.args.state.now)))
-    (λ reply. GivesReply (state_of c.args.state.now) c.args.command (bytes_of reply) (state_of c.args.state.now))
-    c.show.result (λ reply h. show_answer (state_of c.args.state.now) c.args.command reply (sym c.in_ok-source.ensures ∙ ap request_view c.in-Show.is) h)
-    c.show.ensures
+pub returns-in-Ok-clause-ok : goal.returns-in-Ok-clause-ok
+returns-in-Ok-clause-ok c =
+    let command = c.args.command in
+    let same = command_is command _ _ (c.as_bytes.ensures ∙ c.into_parts-line.ensures.line) c.into_parts-line.ensures.body in
+    let asks : request_of command ≡ Ok (asked_of c.in-Ok.asked) = ap request_of (sym same) ∙ c.in-Ok.ensures in
+    if_ok_map _ _ c.carry_out.result (λ text gives. gives_asked (state_of c.args.documents.now) _ command (asked_of c.in-Ok.asked) text asks gives)
+    c.carry_out.ensures.ok
 
 pub returns-clause-ok : goal.returns-clause-ok
 returns-clause-ok c =
-    other_answer (state_of c.args.state.now) c.args.command (sym c.in_ok-source.ensures ∙ ap request_view c.in-Other.is)
+    let command = c.args.command in
+    let same = command_is command _ _ (c.as_bytes.ensures ∙ c.into_parts-line.ensures.line) c.into_parts-line.ensures.body in
+    let reads = subst (λ (read : Command). Reads (Err c.in-Err.fault) (request_of read)) same c.in-Err.ensures in
+    if_ok_map _ _ c.text_of.result
+    (λ text e. gives_unread (state_of c.args.documents.now) command c.in-Err.fault text reads
+    (e ∙ ap (λ (code : EditCode). reply_text (No (edit_number code))) c.code.ensures))
+    c.text_of.ensures

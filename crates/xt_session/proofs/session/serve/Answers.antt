@@ -4,7 +4,7 @@ use Rattle.xt_session.proofs.session.serve.Goals as goal
 
 pub loop-status-init : goal.loop-status-init
 loop-status-init g c = (
-  serving_at_start c.args.limit (g.I.Source.remaining c.args.input.now) (g.O.Sink.written c.args.output.now) _ _ c.in-Ok.ensures c.new-state.ensures,
+  serving_at_start c.args.limit (g.I.Source.remaining c.args.input.now) (g.O.Sink.written c.args.output.now) _ _ c.in-Ok.ensures c.new-documents.ensures,
   refl,
   refl,
 )
