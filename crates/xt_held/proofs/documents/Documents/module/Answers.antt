@@ -1,0 +1,11 @@
+use Rattle.std.proofs.Common.{◌∙◌, ap}
+use Rattle.std.specs.Option.{option_map}
+use Rattle.spec_document.specs.Forest.{plain}
+use Rattle.xt_held.specs.Documents.{plain_of}
+use Rattle.xt_held.proofs.Keys.{by_characters, map-copied}
+use Rattle.xt_held.proofs.documents.Documents.module.Goals as goal
+
+pub returns : goal.returns
+returns c =
+    map-copied plain_of c.get.result
+    ∙ ap (option_map plain_of) (c.get.ensures.value ∙ by_characters c.args.name.now c.utf8.name c.args.self.now.modules.entries)
