@@ -1,5 +1,6 @@
 -- Modules by their names: keys are texts, names are characters.
-use Rattle.std.proofs.Common.{◌≡◌, ℕ, Bool, true, false, cond, List, [], ◌∷◌, Option, None, Some, bytes_eq, string_bytes, refl, sym, ap, ◌∙◌}
+use Rattle.std.proofs.Common.{◌≡◌, ℕ, Bool, true, false, cond, List, [], ◌∷◌, Option, None, Some, bytes_eq, string_bytes, refl, sym, ap}
+use Rattle.std.proofs.Common.{◌∙◌}
 use Rattle.std.proofs.lemmas.Str.{IsUtf8-string_bytes}
 use Rattle.std.proofs.lemmas.Slice.Eq.{bytes_eq-Decides}
 use Rattle.std.specs.Map.{lookup}
@@ -22,7 +23,8 @@ by_characters text u (e ∷ es) =
     ∙ ap (λ rest. cond (is_name (chars text) e.0) (Some e.1) rest) (by_characters text u es)
 
 -- which of two values is found, by whether the keys are one and which of them is sought
-chosen : {X : Type 0} (one first second : Bool) (v w rest : X) → (one ≡ true → first ≡ second) → (first ≡ true → second ≡ true → one ≡ true)
+chosen : {X : Type 0} (one first second : Bool) (v w rest : X) → (one ≡ true → first ≡ second)
+    → (first ≡ true → second ≡ true → one ≡ true)
     → cond one (cond second v rest) (cond second w (cond first v rest)) ≡ cond first v (cond second w rest)
 chosen true true true v w rest f g = refl
 chosen true true false v w rest f g = let e = f refl in absurd (cc)
@@ -48,17 +50,20 @@ lookup-insert {X} name key value (e ∷ es) =
     let b = chars (string_bytes e.0) in
     let same : string_eq key e.0 ≡ bytes_eq a b = same_chars (string_bytes key) (string_bytes e.0) (IsUtf8-string_bytes key) (IsUtf8-string_bytes e.0) in
     by (string_eq key e.0)
-    ∙ ap (λ rest. cond (string_eq key e.0) (cond (is_name name e.0) (Some value) (lookup (is_name name) es)) (cond (is_name name e.0) (Some e.1) rest)) (lookup-insert name key value es)
+    ∙ ap (λ rest. cond (string_eq key e.0) (cond (is_name name e.0) (Some value) (lookup (is_name name) es)) (cond (is_name name e.0) (Some e.1) rest))
+    (lookup-insert name key value es)
     ∙ chosen (string_eq key e.0) (is_name name key) (is_name name e.0) (Some value) (Some e.1) (lookup (is_name name) es)
     (λ one. ap (bytes_eq name) (equal a b (sym same ∙ one)))
     (λ first second. same ∙ is_equal a b (sym (equal name a first) ∙ equal name b second))
   where
     by : (one : Bool) → lookup (is_name name) (cond one ((e.0, value) ∷ es) (e ∷ insert_entry string_eq es key value))
-        ≡ cond one (cond (is_name name e.0) (Some value) (lookup (is_name name) es)) (cond (is_name name e.0) (Some e.1) (lookup (is_name name) (insert_entry string_eq es key value)))
+        ≡ cond one (cond (is_name name e.0) (Some value) (lookup (is_name name) es))
+        (cond (is_name name e.0) (Some e.1) (lookup (is_name name) (insert_entry string_eq es key value)))
     by true = refl
     by false = refl
 
-pub map-cond : {X Y : Type 0} (f : X → Y) (b : Bool) (v : X) (rest : Option X) → option_map f (cond b (Some v) rest) ≡ cond b (Some (f v)) (option_map f rest)
+pub map-cond : {X Y : Type 0} (f : X → Y) (b : Bool) (v : X) (rest : Option X)
+    → option_map f (cond b (Some v) rest) ≡ cond b (Some (f v)) (option_map f rest)
 map-cond f true v rest = refl
 map-cond f false v rest = refl
 
