@@ -6,4 +6,6 @@ pub mod Serving
 pub mod Turning
 pub mod Commands
 pub mod Keys
+pub mod Labels
+pub mod Words
 pub mod Answering

@@ -1,3 +1,4 @@
 pub mod Documents
+pub mod Taken
 pub mod Progress
 pub mod Turn

@@ -58,7 +58,8 @@ impl Documents {
         }
     }
 
-    /// The number of the next node: how many nodes the documents held so far had, their roots with them.
+    /// The number of the next node: how many nodes were made for the documents that were held so far, each
+    /// document's root among them.
     pub(crate) fn next(&self) -> NodeId
         ensures { result.number ≡ (state_of self.now).made }
     {

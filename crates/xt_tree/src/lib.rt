@@ -18,6 +18,7 @@ mod part;
 mod value;
 
 pub use doc::{Doc, Nodes};
+pub use find::push_texts;
 pub use items::{Item, Items};
 pub use node::{Content, Node, Written};
 pub use node_ref::{NodeId, NodeRef, Part};

@@ -1,6 +1,5 @@
 use Rattle.std.proofs.Common.{◌∙◌, ap}
 use Rattle.std.specs.Option.{option_map}
-use Rattle.spec_document.specs.Forest.{plain}
 use Rattle.xt_session.specs.Documents.{plain_of}
 use Rattle.xt_session.proofs.Keys.{by_characters, map-copied}
 use Rattle.xt_session.proofs.documents.Documents.module.Goals as goal
