@@ -7,11 +7,12 @@ ghost use Rattle.spec_document.specs.Declaration as spec;
 ghost use Rattle.std.specs.List.{filter};
 ghost use Rattle.spec_document.specs.Declaration.{is_declaration, declared_all, within};
 ghost use Rattle.spec_document.specs.Place.{at_number, attributes_in, name_by};
-ghost use Rattle.xt_names.specs.View.{entry_of};
+ghost use Rattle.xt_names.specs.View.{entry_of, entries_of};
 ghost use Rattle.xt_tree.specs.View.{written_of, content_of};
 
 use crate::{Content, Written};
 use std::alloc::Global;
+use std::rc::Rc;
 use xt_names::{Expanded, Namespace, QName, Scope, is_declaration};
 use xt_text::{Memory, Text};
 
@@ -71,8 +72,8 @@ fn declare_all(alloc: Global, scope: &mut Scope, attributes: &[Written]) -> Resu
 }
 
 /// The namespace of this number, from 1.
-pub fn namespace_at(namespaces: &[Namespace], number: u64) -> Option<&Namespace>
-    ensures { option_map (λ n. entry_of n.now) result ≡ at_number number (map entry_of namespaces.now) }
+pub fn namespace_at(namespaces: &[Rc<Namespace>], number: u64) -> Option<&Namespace>
+    ensures { option_map (λ n. entry_of n.now) result ≡ at_number number (entries_of namespaces.now) }
 {
     let mut left = number;
     for namespace in namespaces {
