@@ -16,6 +16,34 @@ use std::rc::Rc;
 use xt_names::{Expanded, Namespace, QName, Scope, is_declaration};
 use xt_text::{Memory, Text};
 
+/// The attributes of an element in their order. Other nodes have none.
+pub fn attributes_in<'a>(alloc: Global, content: &'a Content) -> Result<Vec<&'a Written>, Memory>
+    ensures { IfOk result (λ list. map (λ a. written_of a.now) list.items ≡ attributes_in (Some (content_of content.now))) }
+{
+    match content {
+        Content::Element { attributes, .. } => own_attributes(alloc, attributes.as_slice()),
+        Content::Text { .. } | Content::Comment { .. } | Content::Instruction { .. } => {
+            Ok(Vec::new(alloc))
+        }
+    }
+}
+
+// Those that are no declarations.
+fn own_attributes<'a>(
+    alloc: Global,
+    attributes: &'a [Written],
+) -> Result<Vec<&'a Written>, Memory>
+    ensures { IfOk result (λ list. map (λ a. written_of a.now) list.items ≡ filter (λ a. not (is_declaration a)) (map written_of attributes.now)) }
+{
+    let mut list = Vec::new(alloc);
+    for attribute in attributes {
+        if !is_declaration(alloc, attribute.name.as_str())? {
+            list.push(attribute)?;
+        }
+    }
+    Ok(list)
+}
+
 /// The attribute of this number, from 1.
 pub fn attribute_at<'a>(
     alloc: Global,
