@@ -7,7 +7,7 @@ ghost use Rattle.spec_document.specs.NodeFaults.{greatest_depth};
 ghost use Rattle.spec_document.specs.Name.{qname_of};
 ghost use Rattle.spec_document.specs.Declaration.{namespaces_in, attribute_name};
 ghost use Rattle.spec_document.specs.Place.{TreeNode, expanded_name, name_by, node_at, scope_at, kind_of, kind_by, string_value, string_value_by, attributes_of, namespaces_of, at_number};
-ghost use Rattle.xt_names.specs.View.{entry_of};
+ghost use Rattle.xt_names.specs.View.{entries_of};
 ghost use Rattle.xt_tree.specs.View.{itself, IsPlaceOf, IsWayTo, item_of, numbered_node, written_of, content_of, forest_of, tree_of};
 ghost use Rattle.xt_tree.specs.Numbers.{IsNumbered};
 ghost use Rattle.spec_document.specs.Forest as spec;
@@ -341,8 +341,8 @@ impl Doc {
 
     /// The namespace nodes of a node in document order: the first is the namespace node 1 of the node. Only
     /// elements have some.
-    pub fn namespaces(&self, alloc: Global, id: NodeId) -> Result<Vec<Namespace>, Memory>
-        ensures { IfOk result (λ list. ForSome (numbered_node self.now id.number) (λ node. map entry_of list.items ≡ namespaces_of node)) }
+    pub fn namespaces(&self, alloc: Global, id: NodeId) -> Result<Vec<Rc<Namespace>>, Memory>
+        ensures { IfOk result (λ list. ForSome (numbered_node self.now id.number) (λ node. entries_of list.items ≡ namespaces_of node)) }
     {
         match self.own_kind(id) {
             Kind::Element => self.scope_of(alloc, &NodeRef::of(id))?.namespaces(alloc),

@@ -1,7 +1,7 @@
 use Rattle.std.proofs.Common.{◌≡◌, ◌∙◌, sym, ap, map, Result, Ok, Err, IfOk}
 use Rattle.spec_document.specs.Declaration.{namespaces_in}
 use Rattle.spec_document.specs.Place.{scope_at}
-use Rattle.xt_names.specs.View.{entry_of}
+use Rattle.xt_names.specs.View.{entries_of}
 use Rattle.xt_tree.specs.View.{numbered_node}
 use Rattle.xt_tree.proofs.Ways.{in_element, in_no_element}
 use Rattle.xt_tree.proofs.doc.Doc.namespaces.Goals as goal
@@ -20,4 +20,4 @@ returns-in_ok-scope_of-in-Element c =
 
 pub returns-in_default : goal.returns-in_default
 returns-in_default c x e =
-    ap (map entry_of) c.new.ensures.items ∙ sym (in_no_element x.content (scope_at x) (λ is. c.in_default.not-Element (c.own_kind.ensures x e ∙ is)))
+    ap entries_of c.new.ensures.items ∙ sym (in_no_element x.content (scope_at x) (λ is. c.in_default.not-Element (c.own_kind.ensures x e ∙ is)))
