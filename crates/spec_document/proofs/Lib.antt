@@ -6,3 +6,4 @@ pub mod Reading
 pub mod Written
 pub mod Ways
 pub mod Listed
+pub mod Balanced

@@ -1,5 +1,5 @@
 -- Which forest the events of a body are, where they are balanced; else the line of the first that may not follow.
-use Rattle.std.specs.Prelude.{ℕ, Bool, true, false, List, [], ◌∷◌, map, drop, Option, None, Some, if◌then◌else◌, bytes_eq}
+use Rattle.std.specs.Prelude.{◌≡◌, ◌++◌, IsSome, ℕ, Bool, true, false, List, [], ◌∷◌, map, drop, Option, None, Some, if◌then◌else◌, bytes_eq}
 use Rattle.std.specs.Option.{option_and_then}
 use Rattle.spec_document.specs.declared.event.Event.{Event}
 use Rattle.spec_document.specs.declared.event.Event.TheVariants.{Start, Attribute, Data, Instruction as InstructionEvent, End, Comment as CommentEvent}
@@ -85,3 +85,13 @@ may_follow before names _ = true
 abbrev pub unbalanced_line : Option (Event (List ℕ)) → List (List ℕ) → List (ℕ × Event (List ℕ)) → ℕ
 unbalanced_line before names [] = 0
 unbalanced_line before names (e ∷ events) = if may_follow before names e.1 then unbalanced_line (Some e.1) (open_behind e.1 names) events else e.0
+
+-- events that can go on to those of a forest
+abbrev pub CanGoOn : List (ℕ × Event (List ℕ)) → Type 0
+CanGoOn events = (more : List (ℕ × Event (List ℕ))) × IsSome (forest_of (events ++ more))
+
+-- which line is at fault: that of the first event with which they cannot go on, or none where they can
+pub data IsUnbalanced (events : List (ℕ × Event (List ℕ))) (line : ℕ) : Type 0 where
+  refused : (before after : List (ℕ × Event (List ℕ))) → (event : Event (List ℕ)) → events ≡ before ++ (line, event) ∷ after → CanGoOn before
+      → (CanGoOn (before ++ (line, event) ∷ []) → ⊥) → IsUnbalanced events line
+  unended : line ≡ 0 → CanGoOn events → IsUnbalanced events line

@@ -1,8 +1,8 @@
 // Laws of PYX lines and of forests, which hold of the definitions alone.
-ghost use Rattle.std.specs.Prelude.{◌≡◌, ◌↔◌, ℕ, List, Some, map};
+ghost use Rattle.std.specs.Prelude.{◌≡◌, ◌↔◌, ℕ, List, [], None, Some, map};
 ghost use Rattle.std.specs.Option.{option_map};
 ghost use Rattle.spec_document.specs.declared.event.Event.{Event};
-ghost use Rattle.spec_document.specs.Balance.{forest_of};
+ghost use Rattle.spec_document.specs.Balance.{forest_of, unbalanced_line, IsUnbalanced};
 ghost use Rattle.spec_document.specs.Forest.{Plain, IsForestOf, IsNormal, plain, written};
 ghost use Rattle.spec_document.specs.Pyx.{escaped, unescaped, line_of, event_of, IsWritable};
 
@@ -32,4 +32,10 @@ pub fn forests_are_computed()
 /// elements have something below them, no text is empty and no two stand side by side.
 pub fn written_forests_read_back()
     ensures { (f : Plain) → IsNormal f → IsForestOf (written f) f }
+{}
+
+/// The line at which events are unbalanced is that of the first event with which they cannot go on to a
+/// forest, as they can with those before it; where each may follow, an end is missing, which is no line's.
+pub fn unbalanced_lines_are_the_first()
+    ensures { (events : List (ℕ × Event (List ℕ))) → IsUnbalanced events (unbalanced_line None [] events) }
 {}

@@ -3,7 +3,6 @@ pub mod Attributes
 pub mod Balanced
 pub mod Building
 pub mod Counting
-pub mod Declared
 pub mod Fronts
 pub mod Least
 pub mod Levels

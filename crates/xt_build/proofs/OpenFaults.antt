@@ -1,21 +1,17 @@
 -- The faults of open forests, one node more in front.
-use Rattle.std.proofs.Common.{◌≡◌, ℕ, ◌+◌, ◌-◌, suc, List, [], ◌∷◌, ◌++◌, map, drop, length, reverse, get_or, Option, Some, None, unwrap_or, Bor, Global, refl, sym, ap, ◌∙◌, arith, append-nil, append_assoc}
+use Rattle.std.proofs.Common.{◌≡◌, ℕ, ◌+◌, ◌-◌, suc, List, [], ◌∷◌, ◌++◌, drop, length, reverse, get_or, Option, Some, None, unwrap_or, Bor, refl, sym, ap, ◌∙◌, arith, append-nil, append_assoc}
 use Rattle.std.specs.Prelude.{nat_lt}
 use Rattle.std.specs.Option.{option_map}
-use Rattle.std.proofs.Math.ListN.{get_or-map}
-use Rattle.std.proofs.lemmas.List.{get_or-reverse, length-reverse, length-map, map-append, reverse-append}
-use Rattle.std.specs.declared.rc.Rc.{Rc}
+use Rattle.std.proofs.lemmas.List.{get_or-reverse}
 use Rattle.spec_document.specs.Scope.{Scope}
 use Rattle.spec_document.specs.Forest.{Written, Forest, Element, Instruction}
 use Rattle.spec_document.specs.Declaration.{declared_all}
 use Rattle.spec_document.specs.Fault.{Fault, least, fault_if}
 use Rattle.spec_document.specs.Balance.{LineNumbers}
 use Rattle.spec_document.specs.NodeFaults.{greatest_depth, is_wrong_element, is_wrong_target, attribute_faults, content_faults, node_faults}
-use Rattle.xt_names.specs.declared.scope.Scope.{Scope as Kept}
 use Rattle.xt_build.specs.Least.{merged}
 use Rattle.xt_build.proofs.Attributes.{kept_one, kept_three}
 use Rattle.xt_build.specs.Left.{innermost, open_faults}
-use Rattle.xt_build.specs.Names.{scopes_in}
 use Rattle.xt_build.specs.Piece.{first_of, element_before, leaf_before}
 
 -- ---- Lists of faults
@@ -79,36 +75,22 @@ instructed outside depth scopes lines target text behind found now e =
 
 -- ---- Scopes
 
-abbrev value_of : Rc Kept Global → Scope
-value_of s = s.value
-
-pub scopes_more : (xs : List (Rc Kept Global)) (x : Rc Kept Global) → scopes_in (xs ++ x ∷ []) ≡ x.value ∷ scopes_in xs
-scopes_more xs x = ap reverse (map-append value_of xs (x ∷ [])) ∙ reverse-append (map value_of xs) (x.value ∷ [])
-
-pub scopes_length : (xs : List (Rc Kept Global)) → length (scopes_in xs) ≡ length xs
-scopes_length xs = length-reverse (map value_of xs) ∙ length-map xs value_of
-
 first_or : (outside : Scope) (scopes : List Scope) → innermost outside scopes ≡ get_or scopes 0 outside
 first_or outside [] = refl
 first_or outside (scope ∷ scopes) = refl
 
-innermost_kept : (xs : List (Rc Kept Global)) (outside : Rc Kept Global) → innermost outside.value (scopes_in xs) ≡ (get_or xs (length xs - 1) outside).value
+innermost_kept : (xs : List Scope) (outside : Scope) → innermost outside (reverse xs) ≡ get_or xs (length xs - 1) outside
 innermost_kept [] outside = refl
-innermost_kept (x ∷ xs) outside =
-    first_or outside.value (scopes_in (x ∷ xs))
-    ∙ get_or-reverse (map value_of (x ∷ xs)) 0 outside.value (omega arith)
-    ∙ ap (λ n. get_or (map value_of (x ∷ xs)) n outside.value) (omega (arith, length-map xs value_of))
-    ∙ get_or-map value_of (x ∷ xs) (length (x ∷ xs) - 1) outside
+innermost_kept (x ∷ xs) outside = first_or outside (reverse (x ∷ xs)) ∙ get_or-reverse (x ∷ xs) 0 outside (omega arith) ∙ ap (λ n. get_or (x ∷ xs) n outside) (omega arith)
 
-behind_ref : (o : Option (Bor (Rc Kept Global))) (outside : Bor (Rc Kept Global)) → (unwrap_or o outside).now ≡ unwrap_or (option_map (λ x. x.now) o) outside.now
+behind_ref : (o : Option (Bor Scope)) (outside : Bor Scope) → (unwrap_or o outside).now ≡ unwrap_or (option_map (λ x. x.now) o) outside.now
 behind_ref None outside = refl
 behind_ref (Some s) outside = refl
 
 -- the last of the scopes that are kept is the innermost
-pub last_innermost : (xs : List (Rc Kept Global)) (o : Option (Bor (Rc Kept Global))) (outside : Bor (Rc Kept Global))
-    → unwrap_or (option_map (λ x. x.now) o) outside.now ≡ get_or xs (length xs - 1) outside.now
-    → (unwrap_or o outside).now.value ≡ innermost outside.now.value (scopes_in xs)
-last_innermost xs o outside e = ap value_of (behind_ref o outside ∙ e) ∙ sym (innermost_kept xs outside.now)
+pub last_innermost : (xs : List Scope) (o : Option (Bor Scope)) (outside : Bor Scope) → unwrap_or (option_map (λ x. x.now) o) outside.now ≡ get_or xs (length xs - 1) outside.now
+    → (unwrap_or o outside).now ≡ innermost outside.now (reverse xs)
+last_innermost xs o outside e = behind_ref o outside ∙ e ∙ sym (innermost_kept xs outside.now)
 
 -- ---- Where one forest is open
 

@@ -1,6 +1,6 @@
 -- The lines that are written for a document make it again.
-use Rattle.std.proofs.Common.{◌≡◌, ℕ, ◌+◌, List, [], ◌∷◌, ◌++◌, map, length, Option, Some, None, refl, sym, ap, ◌∙◌, subst, arith}
-use Rattle.std.proofs.lemmas.List.{length-map}
+use Rattle.std.proofs.Common.{◌≡◌, ◌≤◌, ◌<◌, ℕ, ◌+◌, ◌-◌, List, [], ◌∷◌, ◌++◌, map, length, Option, Some, None, refl, sym, ap, ◌∙◌, subst, arith}
+use Rattle.std.proofs.lemmas.List.{length-map, drop_all}
 use Rattle.std.specs.Prelude.{Result, Ok, Err}
 use Rattle.std.specs.Option.{option_map}
 use Rattle.std.specs.List.{enumerate_from}
@@ -13,7 +13,7 @@ use Rattle.spec_document.specs.Body.{events_at, texts_of, not_utf8, no_event, li
 use Rattle.spec_document.specs.Balance.{LineNumbers, forest_of, unbalanced_line}
 use Rattle.spec_document.specs.Top.{elements_at_top, element_faults, text_faults, top_faults, without_texts}
 use Rattle.spec_document.specs.NodeFaults.{node_faults}
-use Rattle.spec_document.specs.Numbering.{number_faults}
+use Rattle.spec_document.specs.Numbering.{number_faults, number_limit}
 use Rattle.spec_document.specs.Document.{made_of, document_by, document_of}
 use Rattle.spec_document.proofs.Reading.{computed_is_forest, forest_is_computed}
 use Rattle.spec_document.proofs.Written.{written_forest, plain_itself}
@@ -114,6 +114,9 @@ document_again scope first f g d e m =
     answer (top_faults (Some 0) g ++ node_faults scope 1 g ++ number_faults first (lines_numbered g)) (Ok (record { root = first; nodes = numbered (first + 1) (without_texts g) })) faults
     ∙ ap (λ nodes. Ok (record { root = first; nodes = nodes })) same ∙ ap Ok m.is
 
+no_number_faults : (first : ℕ) (lines : List ℕ) → length lines ≤ number_limit - first → number_faults first lines ≡ []
+no_number_faults first lines h = ap (λ rest. map (λ line. record { number = 12; line = line }) rest) (drop_all (number_limit - first) lines h)
+
 -- ---- The lines
 
 -- the events that are written for the siblings of a document
@@ -136,6 +139,33 @@ lines_again scope first events f d w forest then =
     found None is e = absurd (cc)
     found (Some g) is e =
         make_from (document_by scope first) (events_at (encoded events)) g is ∙ then g (ap (λ o. elim o [ Some z ↦ z | None ↦ f ]) e)
+
+-- a tree that lines make, whatever its numbers then: what is written for it makes it again with every first number that leaves room
+pub same_tree : (nodes : Forest ℕ) (scope : Scope) (first other : ℕ) (body : List (List ℕ)) (made_then : Document ℕ) → document_of scope first body ≡ Ok made_then
+    → plain made_then.nodes ≡ plain nodes → other + size nodes < number_limit
+    → document_of scope other (map encode_utf8_all (lines_of nodes)) ≡ Ok (record { root = other; nodes = numbered (other + 1) nodes })
+same_tree nodes scope first other body document e same_plain room =
+    let parts = made (document_by scope first) (events_at body) document (answered (line_faults body) (made_of (document_by scope first) (events_at body)) document e).1 in
+    let f = parts.0 in
+    let whole = made_parts scope first f document parts.2 in
+    let kept : Plain = without_texts (plain f) in
+    let forest = computed_is_forest (events_at body) (plain f) (ap (option_map plain) parts.1) in
+    let writable = kept_writable (plain f) (forest_writable (map (λ e. e.1) (events_at body)) (plain f) forest (all_read_writable (texts_of body))) in
+    let normal = kept_normal (plain f) (forest_normal (map (λ e. e.1) (events_at body)) (plain f) forest) in
+    let again : IsForestOf (written kept) kept = subst (IsForestOf (written kept)) (plain_itself kept) (written_forest kept normal) in
+    let tree : plain nodes ≡ kept
+    = sym same_plain ∙ sym (ap (λ d. plain d.nodes) whole.is) ∙ plain_numbered (first + 1) (without_texts f) ∙ plain_kept f in
+    let events : written nodes ≡ written kept = sym (written_plain nodes) ∙ ap written tree in
+    let count : size (without_texts (plain f)) ≡ size nodes = ap size (sym tree) ∙ size_plain nodes in
+    let lines = count_numbered f in
+    let few : length (lines_numbered f) ≤ number_limit - other = omega (arith, room, lines, count) in
+    let numbers : number_faults other (lines_numbered f) ≡ [] = no_number_faults other (lines_numbered f) few in
+    let result : Document ℕ = record { root = other; nodes = numbered (other + 1) (without_texts f) } in
+    let renumbered : Made scope other f result = record { top = whole.top; nodes = whole.nodes; numbers = numbers; is = refl } in
+    let same = same_numbered (other + 1) (without_texts f) nodes (plain_kept f ∙ sym tree) in
+    ap (λ es. document_of scope other (encoded es)) events
+    ∙ lines_again scope other (written kept) kept result writable again (λ g same. document_again scope other f g result same renumbered)
+    ∙ ap (λ n. Ok (record { root = other; nodes = n })) same
 
 pub round_trip : (document : Document ℕ) (scope : Scope) (first : ℕ) (body : List (List ℕ)) → document_of scope first body ≡ Ok document
     → document_of scope first (map encode_utf8_all (lines_of document.nodes)) ≡ Ok document

@@ -1,18 +1,16 @@
 // The faults of nodes themselves: of their names, declarations and attributes, and of their depth
 // (Namespaces in XML 1.0, sections 3, 5 and 6).
-ghost use Rattle.std.specs.Prelude.{◌≡◌, ◌+◌, [], List, map, nat_lt, slice_index, IfOk, OnOk};
-ghost use Rattle.std.specs.List.{list_any};
+ghost use Rattle.std.specs.Prelude.{◌≡◌, ◌+◌, [], List, map, reverse, nat_lt, slice_index, IfOk, OnOk};
 ghost use Rattle.std.specs.Option.{option_copied};
 ghost use Rattle.spec_document.specs.Scope as spec;
 ghost use Rattle.spec_document.specs.Forest.{Forest};
-ghost use Rattle.spec_document.specs.Declaration.{declared_all, is_declaration as declares};
+ghost use Rattle.spec_document.specs.Declaration.{declared_all};
 ghost use Rattle.spec_document.specs.Fault.{least};
 ghost use Rattle.spec_document.specs.Balance.{LineNumbers};
 ghost use Rattle.spec_document.specs.NodeFaults.{greatest_depth, is_wrong_element, is_wrong_target, is_wrong_use, expanded_by, attribute_faults, node_faults};
 ghost use Rattle.xt_tree.specs.View.{written_of};
 ghost use Rattle.xt_build.specs.Least.{merged};
 ghost use Rattle.xt_build.specs.Left.{open_faults};
-ghost use Rattle.xt_build.specs.Names.{scopes_in};
 ghost use Rattle.xt_build.specs.Piece.{forest_in, IsWhole, piece_before};
 ghost use Rattle.xt_build.specs.View.{found_of, piece_of, pieces_of};
 
@@ -20,11 +18,9 @@ use crate::Fault;
 use crate::fault::keep_if;
 use crate::piece::Piece;
 use std::alloc::Global;
-use std::rc::Rc;
 use xt_base::EditCode;
 use xt_names::{
-    AttributeNames, Expanded, QName, Scope, Use, is_barred, is_declaration, is_ncname,
-    is_reserved_target, use_of,
+    AttributeNames, Expanded, QName, Scope, Use, is_barred, is_ncname, is_reserved_target, use_of,
 };
 use xt_text::{Memory, Text};
 use xt_tree::{Content, Written};
@@ -43,10 +39,9 @@ pub(crate) fn check_nodes(
     requires { IsWhole (pieces_of pieces.now) }
     ensures { OnOk result (found_of found.new ≡ merged (found_of found.old) (least (node_faults scope.now (depth + 1) (forest_in (pieces_of pieces.now))))) }
 {
-    let outside = Rc::new(alloc, scope.copy(alloc)?)?;
-    let mut scopes: Vec<Rc<Scope>> = Vec::new(alloc);
+    let mut scopes: Vec<Scope> = Vec::new(alloc);
     for piece in pieces {
-        check_piece(alloc, piece, &outside, depth, &mut scopes, found)?;
+        check_piece(alloc, piece, scope, depth, &mut scopes, found)?;
     }
     Ok(())
 }
@@ -56,14 +51,14 @@ pub(crate) fn check_nodes(
 fn check_piece(
     alloc: Global,
     piece: &Piece,
-    outside: &Rc<Scope>,
+    outside: &Scope,
     depth: u64,
-    scopes: &mut Vec<Rc<Scope>>,
+    scopes: &mut Vec<Scope>,
     found: &mut Option<Fault>,
 ) -> Result<(), Memory>
     ensures { OnOk result ((behind : List (Forest LineNumbers))
-        → merged (found_of found.new) (least (open_faults outside.now.value (depth + 1) (scopes_in scopes.new.items) behind))
-        ≡ merged (found_of found.old) (least (open_faults outside.now.value (depth + 1) (scopes_in scopes.old.items) (piece_before (piece_of piece.now) behind)))) }
+        → merged (found_of found.new) (least (open_faults outside.now (depth + 1) (reverse scopes.new.items) behind))
+        ≡ merged (found_of found.old) (least (open_faults outside.now (depth + 1) (reverse scopes.old.items) (piece_before (piece_of piece.now) behind)))) }
 {
     match piece {
         Piece::Ends => {
@@ -108,33 +103,15 @@ fn is_too_deep(depth: u64, elements: usize) -> bool
     depth.saturating_add(elements as u64) >= GREATEST_DEPTH
 }
 
-// The scope inside an element of these attributes. It is shared where nothing is declared.
-fn scope_inside(
-    alloc: Global,
-    around: &Rc<Scope>,
-    attributes: &[Written],
-) -> Result<Rc<Scope>, Memory>
-    ensures { IfOk result (λ inside. inside.value ≡ declared_all (map written_of attributes.now) around.now.value) }
+// The scope inside an element of these attributes.
+fn scope_inside(alloc: Global, around: &Scope, attributes: &[Written]) -> Result<Scope, Memory>
+    ensures { IfOk result (λ inside. inside ≡ declared_all (map written_of attributes.now) around.now) }
 {
-    if !has_declaration(alloc, attributes)? {
-        return Ok(Rc::clone(around)?);
-    }
-    let mut scope = around.copy(alloc)?;
+    let mut scope = around.copy()?;
     for attribute in attributes {
         scope.declare(alloc, attribute.name.as_str(), attribute.value.as_str())?;
     }
-    Ok(Rc::new(alloc, scope)?)
-}
-
-fn has_declaration(alloc: Global, attributes: &[Written]) -> Result<bool, Memory>
-    ensures { IfOk result (λ has. has ≡ list_any declares (map written_of attributes.now)) }
-{
-    for attribute in attributes {
-        if is_declaration(alloc, attribute.name.as_str())? {
-            return Ok(true);
-        }
-    }
-    Ok(false)
+    Ok(scope)
 }
 
 // Whether the name is no QName, or its prefix is not declared.

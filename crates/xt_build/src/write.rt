@@ -1,8 +1,9 @@
 // The lines of a document.
-ghost use Rattle.std.specs.Prelude.{◌≡◌, ◌++◌, ◌∷◌, [], List, ℕ, IfOk, OnOk, Ok, map};
+ghost use Rattle.std.specs.Prelude.{◌≡◌, ◌+◌, ◌<◌, ◌++◌, ◌∷◌, [], List, ℕ, IfOk, OnOk, Ok, map};
 ghost use Rattle.std.specs.Str.{encode_utf8_all};
+ghost use Rattle.spec_document.specs.Numbering.{number_limit};
 ghost use Rattle.spec_document.specs.Document.{document_of};
-ghost use Rattle.spec_document.specs.Forest.{lines_of, attribute_event};
+ghost use Rattle.spec_document.specs.Forest.{Document, lines_of, attribute_event, plain, size, numbered};
 ghost use Rattle.spec_document.specs.Pyx.{line_of};
 ghost use Rattle.spec_document.specs.Scope.{Scope};
 ghost use Rattle.spec_document.specs.declared.event.Event.TheVariants as event;
@@ -18,11 +19,15 @@ use xt_text::{Memory, Text};
 use xt_tree::{Content, Doc, Node, Written};
 
 /// The lines that are written for the document, in order. Where lines make this document, these make
-/// it again, with the same numbers.
+/// it again, with the same numbers; where lines make a document of the same plain tree, these make it again
+/// with every first number that leaves room for the others.
 pub fn lines(alloc: Global, document: &Doc) -> Result<Vec<Text>, Memory>
     ensures lines { IfOk result (λ lines. lines.items ≡ lines_of document.now.nodes) }
     ensures round_trip { IfOk result (λ lines. (scope : Scope) (first : ℕ) (body : List (List ℕ)) → document_of scope first body ≡ Ok document.now
         → document_of scope first (map encode_utf8_all lines.items) ≡ Ok document.now) }
+    ensures same_tree { IfOk result (λ lines. (scope : Scope) (first other : ℕ) (body : List (List ℕ)) (made : Document ℕ)
+        → document_of scope first body ≡ Ok made → plain made.nodes ≡ plain document.now.nodes → other + size document.now.nodes < number_limit
+        → document_of scope other (map encode_utf8_all lines.items) ≡ Ok (record { root = other; nodes = numbered (other + 1) document.now.nodes })) }
 {
     let mut lines = Vec::new(alloc);
     push_lines(alloc, &mut lines, document.children())?;

@@ -14,8 +14,9 @@ mod barred;
 mod character;
 mod declaration;
 mod name;
-mod namespaces;
+mod namespace;
 mod scope;
+mod search_tree;
 mod uri;
 
 pub use attribute_names::AttributeNames;
@@ -23,6 +24,6 @@ pub use barred::{is_barred, is_reserved_target};
 pub use character::{is_char, is_name_part, is_name_start};
 pub use declaration::{Use, is_declaration, use_of};
 pub use name::{Expanded, QName, is_ncname};
-pub use namespaces::Namespace;
+pub use namespace::Namespace;
 pub use scope::Scope;
 pub use uri::{XML_URI, XMLNS_URI, XSLT_URI};

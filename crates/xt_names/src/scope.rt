@@ -1,35 +1,30 @@
 // The namespaces in scope (Namespaces in XML 1.0, section 6).
-ghost use Rattle.std.specs.Prelude.{◌≡◌, map, IfOk, OnOk, OnErr, codes};
-ghost use Rattle.std.specs.List.{filter};
+ghost use Rattle.std.specs.Prelude.{◌≡◌, IfOk, OnOk, OnErr};
+ghost use Rattle.std.specs.Bool.{Decides};
 ghost use Rattle.std.specs.Option.{option_copied};
 ghost use Rattle.std.specs.Str.{chars};
 ghost use Rattle.spec_document.specs.Scope as spec;
-ghost use Rattle.spec_document.specs.Declaration.{namespaces_in, is_there};
-ghost use Rattle.xt_names.specs.View.{entry_of};
+ghost use Rattle.spec_document.specs.Declaration.{namespaces_in};
+ghost use Rattle.xt_names.specs.View.{entries_of};
 
-use crate::XML_URI;
-use crate::namespaces::{Namespace, put};
+use crate::search_tree::{Link, find, push_namespaces, put, same, share};
+use crate::{Namespace, XML_URI};
 use std::alloc::Global;
-use std::collections::VecDeque;
 use std::marker::Model;
+use std::rc::Rc;
 use xt_text::{Memory, Text};
 
 /// Which URI each prefix stands for. The default namespace stands under the empty prefix, and the
-/// empty URI there means no namespace. Contracts see the finite map from prefixes to URIs.
+/// empty URI there means no namespace. A scope is shared: to copy it costs as good as nothing, and one
+/// with a declaration more has as good as all its memory in common with it. Contracts see the finite map
+/// from prefixes to URIs.
 #[derive(Drop)]
 pub struct Scope {
-    // the newest first, so that a binding hides the older ones of its prefix
-    bindings: VecDeque<Binding>,
-}
-
-#[derive(Drop)]
-struct Binding {
-    prefix: Text,
-    uri: Text,
+    root: Link,
 }
 
 impl Model for Scope {
-    ghost use Rattle.std.specs.Prelude.{ℕ, List, map};
+    ghost use Rattle.std.specs.Prelude.{ℕ, List};
     ghost use Rattle.std.specs.Ordering.{nat_cmp};
     ghost use Rattle.std.specs.Cmp.Lexicographic.{slice_cmp};
     ghost use Rattle.std.specs.Coded.{coded_ℕ, coded_list};
@@ -39,7 +34,11 @@ impl Model for Scope {
 
     ghost coded = { finite.code (coded_list coded_ℕ) (coded_list coded_ℕ) };
 
-    ghost view = { λ s. finite.from_entries (map (λ b. (b.prefix, b.uri)) s.bindings.items) };
+    ghost use Rattle.xt_names.specs.SearchTree.{link_entries, IsOrdered};
+
+    ghost view = { λ s. finite.from_sorted (link_entries s.root) };
+
+    ghost invariant = { λ s. IsOrdered (link_entries s.root) };
 }
 
 impl Scope {
@@ -47,83 +46,61 @@ impl Scope {
     pub fn root(alloc: Global) -> Result<Scope, Memory>
         ensures { IfOk result (λ scope. scope ≡ spec.root_scope) }
     {
-        let mut scope = Scope {
-            bindings: VecDeque::new(alloc),
-        };
+        let mut scope = Scope { root: None };
         scope.bind(alloc, "xml", XML_URI)?;
         Ok(scope)
     }
 
     /// Declares the prefix, the empty one for the default namespace; an older declaration of it no
-    /// longer counts. After want of memory the scope is as before.
+    /// longer counts. Takes a logarithm of the number of prefixes. After want of memory the scope is as
+    /// before.
     pub fn bind(&mut self, alloc: Global, prefix: &str, uri: &str) -> Result<(), Memory>
         ensures ok { OnOk result (self.new ≡ spec.bound self.old (chars prefix.now) (chars uri.now)) }
         ensures err { OnErr result (self.new ≡ self.old) }
     {
-        let binding = Binding {
-            prefix: Text::from_str(alloc, prefix)?,
-            uri: Text::from_str(alloc, uri)?,
-        };
-        self.bindings.push_front(binding)?;
+        let namespace = Rc::new(
+            alloc,
+            Namespace {
+                prefix: Text::from_str(alloc, prefix)?,
+                uri: Text::from_str(alloc, uri)?,
+            },
+        )?;
+        let root = put(alloc, &self.root, namespace)?;
+        self.root = Some(root);
         Ok(())
     }
 
-    /// The URI of the prefix. None exactly where it is not declared. Takes no memory, and time in the
-    /// number of declarations.
+    /// The URI of the prefix. None exactly where it is not declared. Takes no memory, and a logarithm of
+    /// the number of prefixes.
     pub fn resolve(&self, prefix: &str) -> Option<&Text>
         ensures { option_copied result ≡ spec.resolved self.now (chars prefix.now) }
     {
-        for binding in &self.bindings {
-            if prefix == binding.prefix.as_str() {
-                return Some(&binding.uri);
-            }
-        }
-        None
+        find(&self.root, prefix)
     }
 
-    /// The same scope, in memory of its own.
-    pub fn copy(&self, alloc: Global) -> Result<Scope, Memory>
+    /// The same scope. It shares all memory with this one, so it costs as good as nothing.
+    pub fn copy(&self) -> Result<Scope, Memory>
         ensures { IfOk result (λ scope. scope ≡ self.now) }
     {
-        let mut bindings = VecDeque::new(alloc);
-        for binding in &self.bindings {
-            bindings.push_back(Binding {
-                prefix: binding.prefix.copy(alloc)?,
-                uri: binding.uri.copy(alloc)?,
-            })?;
-        }
-        Ok(Scope { bindings })
+        Ok(Scope {
+            root: share(&self.root)?,
+        })
     }
 
-    /// The namespaces in scope, each in memory of its own: the default one first where it has a URI,
-    /// then by prefix in code point order, `xml` among them.
-    pub fn namespaces(&self, alloc: Global) -> Result<Vec<Namespace>, Memory>
-        ensures { IfOk result (λ list. map entry_of list.items ≡ namespaces_in self.now) }
+    /// Whether in both each prefix stands for the same URI, or for none. Takes no memory.
+    pub fn same(&self, other: &Scope) -> bool
+        ensures { Decides result (self.now ≡ other.now) }
+    {
+        same(&self.root, &other.root)
+    }
+
+    /// The namespaces in scope, shared: the default one first where it has a URI, then by prefix in code
+    /// point order, `xml` among them.
+    pub fn namespaces(&self, alloc: Global) -> Result<Vec<Rc<Namespace>>, Memory>
+        ensures { IfOk result (λ list. entries_of list.items ≡ namespaces_in self.now) }
     {
         let mut list = Vec::new(alloc);
-        let mut left = self.bindings.len();
-        while left > 0 {
-            left -= 1;
-            let binding = &self.bindings[left];
-            let namespace = Namespace {
-                prefix: binding.prefix.copy(alloc)?,
-                uri: binding.uri.copy(alloc)?,
-            };
-            put(&mut list, namespace)?;
-        }
-        declared(alloc, list)
+        push_namespaces(&mut list, &self.root)?;
+        Ok(list)
     }
-}
-
-// The namespaces that have a URI.
-fn declared(alloc: Global, list: Vec<Namespace>) -> Result<Vec<Namespace>, Memory>
-    ensures { IfOk result (λ kept. map entry_of kept.items ≡ filter (λ n. is_there n.1) (map entry_of list.items)) }
-{
-    let mut kept = Vec::new(alloc);
-    for namespace in list {
-        if !namespace.uri.is_empty() {
-            kept.push(namespace)?;
-        }
-    }
-    Ok(kept)
 }

@@ -7,18 +7,19 @@ ghost use Rattle.spec_document.specs.NodeFaults.{greatest_depth};
 ghost use Rattle.spec_document.specs.Name.{qname_of};
 ghost use Rattle.spec_document.specs.Declaration.{namespaces_in, attribute_name};
 ghost use Rattle.spec_document.specs.Place.{TreeNode, expanded_name, name_by, node_at, scope_at, kind_of, kind_by, string_value, string_value_by, attributes_of, namespaces_of, at_number};
+ghost use Rattle.xt_names.specs.View.{entries_of};
 ghost use Rattle.xt_tree.specs.View.{itself, IsPlaceOf, IsWayTo, item_of, numbered_node, written_of, content_of, forest_of, tree_of};
 ghost use Rattle.xt_tree.specs.Numbers.{IsNumbered};
 ghost use Rattle.spec_document.specs.Forest as spec;
 
 use crate::find::{find, lead, push_texts, push_value, sibling_at};
-use crate::part::{attribute_at, attribute_name, content_name, enter, namespace_at};
+use crate::part::{attribute_at, attribute_name, attributes_in, content_name, enter, namespace_at};
 use crate::{Content, Node, NodeId, NodeRef, Part, Written};
 use spec_document::Kind;
 use std::alloc::Global;
 use std::marker::Model;
 use std::rc::Rc;
-use xt_names::{Expanded, Scope};
+use xt_names::{Expanded, Namespace, Scope};
 use xt_text::{Memory, Path, Text};
 
 /// A document: its root and what is below it. Its nodes have distinct numbers below 2^62, and its elements
@@ -321,6 +322,31 @@ impl Doc {
                 push_value(&mut text, node)?;
                 Ok(text)
             }
+        }
+    }
+
+    /// The attributes of a node in their order: the first is the attribute 1 of the node. Only elements have
+    /// some.
+    pub fn attributes(&self, alloc: Global, id: NodeId) -> Result<Vec<&Written>, Memory>
+        ensures { IfOk result (λ list. ForSome (numbered_node self.now id.number) (λ node. map (λ a. written_of a.now) list.items ≡ attributes_of node)) }
+    {
+        if self.root == id {
+            return Ok(Vec::new(alloc));
+        }
+        match find(self.children.as_slice(), id) {
+            None => Ok(Vec::new(alloc)),
+            Some(node) => attributes_in(alloc, &node.content),
+        }
+    }
+
+    /// The namespace nodes of a node in document order: the first is the namespace node 1 of the node. Only
+    /// elements have some.
+    pub fn namespaces(&self, alloc: Global, id: NodeId) -> Result<Vec<Rc<Namespace>>, Memory>
+        ensures { IfOk result (λ list. ForSome (numbered_node self.now id.number) (λ node. entries_of list.items ≡ namespaces_of node)) }
+    {
+        match self.own_kind(id) {
+            Kind::Element => self.scope_of(alloc, &NodeRef::of(id))?.namespaces(alloc),
+            _ => Ok(Vec::new(alloc)),
         }
     }
 

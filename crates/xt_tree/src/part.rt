@@ -7,13 +7,42 @@ ghost use Rattle.spec_document.specs.Declaration as spec;
 ghost use Rattle.std.specs.List.{filter};
 ghost use Rattle.spec_document.specs.Declaration.{is_declaration, declared_all, within};
 ghost use Rattle.spec_document.specs.Place.{at_number, attributes_in, name_by};
-ghost use Rattle.xt_names.specs.View.{entry_of};
+ghost use Rattle.xt_names.specs.View.{entry_of, entries_of};
 ghost use Rattle.xt_tree.specs.View.{written_of, content_of};
 
 use crate::{Content, Written};
 use std::alloc::Global;
+use std::rc::Rc;
 use xt_names::{Expanded, Namespace, QName, Scope, is_declaration};
 use xt_text::{Memory, Text};
+
+/// The attributes of an element in their order. Other nodes have none.
+pub fn attributes_in<'a>(alloc: Global, content: &'a Content) -> Result<Vec<&'a Written>, Memory>
+    ensures { IfOk result (λ list. map (λ a. written_of a.now) list.items ≡ attributes_in (Some (content_of content.now))) }
+{
+    match content {
+        Content::Element { attributes, .. } => own_attributes(alloc, attributes.as_slice()),
+        Content::Text { .. } | Content::Comment { .. } | Content::Instruction { .. } => {
+            Ok(Vec::new(alloc))
+        }
+    }
+}
+
+// Those that are no declarations.
+fn own_attributes<'a>(
+    alloc: Global,
+    attributes: &'a [Written],
+) -> Result<Vec<&'a Written>, Memory>
+    ensures { IfOk result (λ list. map (λ a. written_of a.now) list.items ≡ filter (λ a. not (is_declaration a)) (map written_of attributes.now)) }
+{
+    let mut list = Vec::new(alloc);
+    for attribute in attributes {
+        if !is_declaration(alloc, attribute.name.as_str())? {
+            list.push(attribute)?;
+        }
+    }
+    Ok(list)
+}
 
 /// The attribute of this number, from 1.
 pub fn attribute_at<'a>(
@@ -71,8 +100,8 @@ fn declare_all(alloc: Global, scope: &mut Scope, attributes: &[Written]) -> Resu
 }
 
 /// The namespace of this number, from 1.
-pub fn namespace_at(namespaces: &[Namespace], number: u64) -> Option<&Namespace>
-    ensures { option_map (λ n. entry_of n.now) result ≡ at_number number (map entry_of namespaces.now) }
+pub fn namespace_at(namespaces: &[Rc<Namespace>], number: u64) -> Option<&Namespace>
+    ensures { option_map (λ n. entry_of n.now) result ≡ at_number number (entries_of namespaces.now) }
 {
     let mut left = number;
     for namespace in namespaces {

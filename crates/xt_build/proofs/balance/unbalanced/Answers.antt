@@ -3,7 +3,8 @@ use Rattle.std.specs.Option.{option_map}
 use Rattle.std.proofs.lemmas.Bool.Decides.{nat_tests}
 use Rattle.spec_document.specs.Balance.{may_follow}
 use Rattle.xt_build.specs.View.{located_of}
-use Rattle.xt_build.proofs.Balanced.{balanced, not_balanced, scan_stops, scan_ends, none_missing, some_missing}
+use Rattle.spec_document.proofs.Balanced.{balanced, not_balanced}
+use Rattle.xt_build.proofs.Balanced.{scan_stops, scan_ends, none_missing, some_missing}
 use Rattle.xt_build.proofs.balance.unbalanced.Goals as goal
 
 pub returns-then-not-may_follow : goal.returns-then-not-may_follow

@@ -1,7 +1,7 @@
 use Rattle.std.proofs.Common.{◌≡◌, [], map, reverse, drop, None}
 use Rattle.std.specs.Option.{option_map}
 use Rattle.xt_build.specs.View.{located_of}
-use Rattle.xt_build.proofs.Balanced.{scan}
+use Rattle.spec_document.proofs.Balanced.{scan}
 use Rattle.xt_build.proofs.balance.unbalanced.Given as goal
 
 abbrev pub invariant-loop-located : goal.invariant-loop-located

@@ -1,9 +1,8 @@
-use Rattle.std.proofs.Common.{◌≡◌, ℕ, List, refl, ap, ◌∙◌, codes}
+use Rattle.std.proofs.Common.{◌≡◌, refl, ap, ◌∙◌, codes}
 use Rattle.std.specs.Prelude.{bytes_eq}
 use Rattle.std.specs.Str.{chars, IsUtf8}
 use lib.Utf8.{encode}
 use Rattle.xt_text.proofs.Chars.{same_chars}
-use Rattle.spec_document.specs.Declaration.{is_xmlns}
 use Rattle.xt_names.proofs.declaration.is_xmlns.Goals as goal
 
 word_utf8 : IsUtf8 (codes "xmlns")

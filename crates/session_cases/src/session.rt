@@ -1,0 +1,113 @@
+// Sessions, one after another.
+
+use crate::line::push_line;
+use crate::setting::Setting;
+use crate::show::push_bytes;
+use std::alloc::Global;
+use xt_io::{MemSink, MemSource};
+use xt_session::{run, serve};
+use xt_text::Memory;
+
+/// The session whose lines are being read, and what was answered and is not printed yet.
+#[derive(Drop)]
+pub struct Sessions {
+    // what stands behind `== ` in its first line, where there is a session
+    head: Option<String>,
+    input: Vec<u8>,
+    // how many empty lines came last
+    empty: u64,
+    out: String,
+}
+
+impl Sessions {
+    /// No session.
+    pub fn new(alloc: Global) -> Sessions {
+        Sessions {
+            head: None,
+            input: Vec::new(alloc),
+            empty: 0,
+            out: String::new(alloc),
+        }
+    }
+
+    /// Takes the next line.
+    pub fn take_line(&mut self, alloc: Global, line: &str) -> Result<(), Memory> {
+        if let Some(head) = line.strip_prefix("== ") {
+            self.end(alloc)?;
+            self.head = Some(String::from_str(alloc, head)?);
+            return Ok(());
+        }
+        if line.starts_with("#") {
+            self.end(alloc)?;
+            self.out.push_str(line)?;
+            self.out.push('\n')?;
+            return Ok(());
+        }
+        if line.is_empty() {
+            self.empty = self.empty.saturating_add(1);
+            return Ok(());
+        }
+        self.take_empty()?;
+        push_line(&mut self.input, line)
+    }
+
+    // The empty lines that came last are lines of the session.
+    fn take_empty(&mut self) -> Result<(), Memory> {
+        for _ in 0..self.empty {
+            self.input.push(b'\n')?;
+        }
+        self.empty = 0;
+        Ok(())
+    }
+
+    /// Runs the session, where there is one, and prints the empty lines behind it.
+    pub fn end(&mut self, alloc: Global) -> Result<(), Memory> {
+        if let Some(head) = self.head.take() {
+            answer(alloc, &mut self.out, head.as_str(), self.input.as_slice())?;
+        }
+        self.input.clear();
+        for _ in 0..self.empty {
+            self.out.push('\n')?;
+        }
+        self.empty = 0;
+        Ok(())
+    }
+
+    /// What was answered since it was cleared last.
+    pub fn answers(&self) -> &str {
+        self.out.as_str()
+    }
+
+    /// Forgets the answers.
+    pub fn clear(&mut self) {
+        self.out.clear();
+    }
+}
+
+fn answer(alloc: Global, out: &mut String, head: &str, input: &[u8]) -> Result<(), Memory> {
+    out.push_str("== ")?;
+    out.push_str(head)?;
+    out.push('\n')?;
+    let (_, options) = head.split_once(" | ").unwrap_or((head, ""));
+    match Setting::read(alloc, options)? {
+        None => out.push_str("?\n")?,
+        Some(setting) => play(alloc, out, &setting, input)?,
+    }
+    Ok(())
+}
+
+fn play(alloc: Global, out: &mut String, setting: &Setting, input: &[u8]) -> Result<(), Memory> {
+    let mut from = MemSource::new(alloc, input, setting.reads.as_slice())?;
+    if setting.pieces > 0 {
+        from = from.in_pieces(setting.pieces);
+    }
+    let mut to = MemSink::new(alloc, setting.room, setting.writes.as_slice())?;
+    let status = match &setting.words {
+        None => serve(alloc, &mut from, &mut to, setting.limit),
+        Some(words) => run(alloc, words.as_slice(), &mut from, &mut to),
+    };
+    out.push_str("status ")?;
+    out.push_str(itoa::Buffer::new().format(status))?;
+    out.push('\n')?;
+    push_bytes(alloc, out, to.written())
+}

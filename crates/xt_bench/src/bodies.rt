@@ -1,0 +1,129 @@
+// Bodies of lines of a shape and a size.
+
+use std::alloc::{AllocError, Global};
+use xt_build::{BuildFault, Built, Line, build, lines};
+use xt_names::Scope;
+use xt_text::Memory;
+use xt_tree::NodeId;
+
+/// How deep the elements of the shape `deep` stand.
+const DEPTH: u64 = 200;
+
+/// How many nodes are built, or the refusal.
+pub fn build_outcome(alloc: Global, shape: &str, size: u64) -> Result<String, Memory> {
+    match built(alloc, shape, size)? {
+        Ok(built) => {
+            let next = built.next.number;
+            Ok(format!(in alloc; "{next} nodes")?)
+        }
+        Err(fault) => refusal(alloc, fault),
+    }
+}
+
+/// How many lines are written for the document, or the refusal.
+pub fn lines_outcome(alloc: Global, shape: &str, size: u64) -> Result<String, Memory> {
+    match built(alloc, shape, size)? {
+        Ok(built) => {
+            let count = lines(alloc, &built.document)?.len();
+            Ok(format!(in alloc; "{count} lines")?)
+        }
+        Err(fault) => refusal(alloc, fault),
+    }
+}
+
+fn built(alloc: Global, shape: &str, size: u64) -> Result<Result<Built, BuildFault>, Memory> {
+    let body = body(alloc, shape, size)?;
+    let scope = Scope::root(alloc)?;
+    Ok(build(alloc, body.as_slice(), &scope, NodeId { number: 0 }))
+}
+
+fn refusal(alloc: Global, fault: BuildFault) -> Result<String, Memory> {
+    match fault {
+        BuildFault::Memory => Err(Memory),
+        BuildFault::Refused(fault) => {
+            let (code, line) = (fault.code.number(), fault.line);
+            Ok(format!(in alloc; "no {code} at {line}")?)
+        }
+    }
+}
+
+// The lines of the shape, inside an element of their own but for `nested`.
+fn body(alloc: Global, shape: &str, size: u64) -> Result<Vec<Line>, Memory> {
+    let mut body = Vec::new(alloc);
+    if shape == "nested" {
+        push_nested(alloc, &mut body, size)?;
+        return Ok(body);
+    }
+    push(alloc, &mut body, "(r")?;
+    match shape {
+        "wide" => push_wide(alloc, &mut body, size)?,
+        "deep" => push_deep(alloc, &mut body, size)?,
+        "attributes" => push_attributes(alloc, &mut body, size)?,
+        "scopes" => push_scopes(alloc, &mut body, size)?,
+        _ => {}
+    }
+    push(alloc, &mut body, ")r")?;
+    Ok(body)
+}
+
+fn push(alloc: Global, body: &mut Vec<Line>, line: &str) -> Result<(), Memory> {
+    body.push(Line::new(alloc, line.as_bytes())?)?;
+    Ok(())
+}
+
+fn push_wide(alloc: Global, body: &mut Vec<Line>, size: u64) -> Result<(), Memory> {
+    for _ in 0..size {
+        for line in ["(a", "Ax 1", "-t", ")a"] {
+            push(alloc, body, line)?;
+        }
+    }
+    Ok(())
+}
+
+fn push_deep(alloc: Global, body: &mut Vec<Line>, size: u64) -> Result<(), Memory> {
+    for _ in 0..size / DEPTH {
+        for _ in 0..DEPTH {
+            push(alloc, body, "(a")?;
+        }
+        for _ in 0..DEPTH {
+            push(alloc, body, ")a")?;
+        }
+    }
+    Ok(())
+}
+
+fn push_nested(alloc: Global, body: &mut Vec<Line>, size: u64) -> Result<(), Memory> {
+    for index in 0..size {
+        push(alloc, body, "(a")?;
+        push(alloc, body, declaration(alloc, index)?.as_str())?;
+    }
+    for _ in 0..size {
+        push(alloc, body, ")a")?;
+    }
+    Ok(())
+}
+
+fn declaration(alloc: Global, index: u64) -> Result<String, AllocError> {
+    format!(in alloc; "Axmlns:p{index} urn:{index}")
+}
+
+fn push_attributes(alloc: Global, body: &mut Vec<Line>, size: u64) -> Result<(), Memory> {
+    for index in 0..size {
+        push(alloc, body, declaration(alloc, index)?.as_str())?;
+        let line = format!(in alloc; "Ap{index}:x 1")?;
+        push(alloc, body, line.as_str())?;
+    }
+    Ok(())
+}
+
+fn push_scopes(alloc: Global, body: &mut Vec<Line>, size: u64) -> Result<(), Memory> {
+    for index in 0..size {
+        push(alloc, body, declaration(alloc, index)?.as_str())?;
+    }
+    for _ in 0..size {
+        for line in ["(q:a", "Axmlns:q urn:q", ")q:a"] {
+            push(alloc, body, line)?;
+        }
+    }
+    Ok(())
+}

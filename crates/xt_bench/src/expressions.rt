@@ -1,0 +1,35 @@
+// Expressions of a shape and a size.
+
+use std::alloc::Global;
+use xp_parse::parse;
+use xt_names::Scope;
+use xt_text::Memory;
+
+/// Whether the text has a tree.
+pub fn outcome(alloc: Global, shape: &str, size: u64) -> Result<String, Memory> {
+    let text = text(alloc, shape, size)?;
+    match parse(alloc, text.as_str(), &Scope::root(alloc)?) {
+        Ok(_) => Ok(String::from_str(alloc, "tree")?),
+        Err(fault) => match fault.code() {
+            None => Err(Memory),
+            Some(code) => {
+                let number = code.number();
+                Ok(format!(in alloc; "S{number}")?)
+            }
+        },
+    }
+}
+
+fn text(alloc: Global, shape: &str, size: u64) -> Result<String, Memory> {
+    let (term, sign) = if shape == "path" {
+        ("a", "/")
+    } else {
+        ("1", "+")
+    };
+    let mut text = String::from_str(alloc, term)?;
+    for _ in 1..size {
+        text.push_str(sign)?;
+        text.push_str(term)?;
+    }
+    Ok(text)
+}

@@ -1,0 +1,49 @@
+//! Work of a size, for benches: each three words of the command line are a bench, a shape and a size, whose
+//! outcome is printed as counts. Times are measured from outside (`tools/bench-build`).
+//!
+//! | Bench | Shape | The work |
+//! |---|---|---|
+//! | `build`, `lines` | `wide` | a document with so many children, each with an attribute and a text |
+//! | | `deep` | so many elements, in chains of 200 |
+//! | | `nested` | so many elements inside one another, each with a declaration: too deep |
+//! | | `attributes` | an element with so many declarations and as many attributes with their prefixes |
+//! | | `scopes` | so many declarations at the top, and as many children that declare one |
+//! | `parse` | `sum`, `path` | an expression of so many terms or steps |
+//!
+//! `lines` is `build` and the lines that are written for the document.
+#![tactic(auto)]
+
+mod bodies;
+mod expressions;
+
+use std::alloc::Global;
+use std::{env, io};
+use xt_text::Memory;
+
+fn main(rt: HostRuntime) -> io::Result<()> {
+    let alloc = rt.alloc();
+    let words: Vec<String> = env::args(&rt)?.collect(alloc)?;
+    let mut rest = words.as_slice();
+    if let Some((_, others)) = rest.split_first() {
+        rest = others;
+    }
+    while let [bench, shape, size, others @ ..] = rest {
+        let size = size.as_str().parse::<u64>().unwrap_or(0);
+        match outcome(alloc, bench.as_str(), shape.as_str(), size) {
+            Ok(text) => rt.println(text)?,
+            Err(Memory) => rt.println("memory")?,
+        }
+        rest = others;
+    }
+    Ok(())
+}
+
+fn outcome(alloc: Global, bench: &str, shape: &str, size: u64) -> Result<String, Memory> {
+    let found = match bench {
+        "build" => bodies::build_outcome(alloc, shape, size)?,
+        "lines" => bodies::lines_outcome(alloc, shape, size)?,
+        "parse" => expressions::outcome(alloc, shape, size)?,
+        _ => String::from_str(alloc, "no such bench")?,
+    };
+    Ok(format!(in alloc; "{bench} {shape} {size}: {found}")?)
+}

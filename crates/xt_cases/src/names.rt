@@ -1,0 +1,81 @@
+// Names: `ncname`, `qname`, `use`, `declares` and `reserved`, each of texts; `same-name URI LOCAL URI LOCAL`;
+// `barred PREFIX URI`, whether that may not be declared.
+
+use crate::fault::Fault;
+use crate::show::{part, push_part, push_quoted, push_yes};
+use crate::words::{Word, text_at, text_of};
+use std::alloc::Global;
+use xt_names::{
+    Expanded, QName, Use, is_barred, is_declaration, is_ncname, is_reserved_target, use_of,
+};
+use xt_text::{Memory, Text};
+
+/// Answers the call, if it is one of these.
+pub fn answer(alloc: Global, out: &mut Text, call: &str, words: &[Word]) -> Result<bool, Fault> {
+    match call {
+        "same-name" => push_yes(out, are_same(alloc, words)?)?,
+        "barred" => push_yes(out, is_barred(text_at(words, 0)?, text_at(words, 1)?))?,
+        _ => return answer_each(alloc, out, call, words),
+    }
+    Ok(true)
+}
+
+fn answer_each(alloc: Global, out: &mut Text, call: &str, words: &[Word]) -> Result<bool, Fault> {
+    if !matches!(call, "ncname" | "qname" | "use" | "declares" | "reserved") {
+        return Ok(false);
+    }
+    for word in words {
+        answer_one(alloc, out, call, text_of(word)?)?;
+    }
+    Ok(true)
+}
+
+fn answer_one(alloc: Global, out: &mut Text, call: &str, text: &str) -> Result<(), Memory> {
+    match call {
+        "ncname" => push_yes(out, is_ncname(text)),
+        "qname" => push_read(alloc, out, text),
+        "use" => push_use(alloc, out, text),
+        "reserved" => push_yes(out, is_reserved_target(text)),
+        _ => push_yes(out, is_declaration(alloc, text)?),
+    }
+}
+
+fn push_read(alloc: Global, out: &mut Text, text: &str) -> Result<(), Memory> {
+    match QName::read(alloc, text)? {
+        None => push_part(out, "no"),
+        Some(name) => push_qname(out, &name),
+    }
+}
+
+// The parts of a name in brackets.
+fn push_qname(out: &mut Text, name: &QName) -> Result<(), Memory> {
+    part(out)?;
+    out.push('(')?;
+    if let Some(prefix) = name.prefix() {
+        out.push_str(prefix.as_str())?;
+        out.push(' ')?;
+    }
+    out.push_str(name.local().as_str())?;
+    out.push(')')
+}
+
+fn push_use(alloc: Global, out: &mut Text, text: &str) -> Result<(), Memory> {
+    match use_of(alloc, text)? {
+        Use::NoName => push_part(out, "no"),
+        Use::Names { name } => push_qname(out, &name),
+        Use::Declares { prefix } => {
+            push_part(out, "xmlns=")?;
+            push_quoted(out, prefix.as_str())
+        }
+    }
+}
+
+fn are_same(alloc: Global, words: &[Word]) -> Result<bool, Fault> {
+    let name = expanded(alloc, text_at(words, 0)?, text_at(words, 1)?)?;
+    let other = expanded(alloc, text_at(words, 2)?, text_at(words, 3)?)?;
+    Ok(name.same(&other))
+}
+
+fn expanded(alloc: Global, uri: &str, local: &str) -> Result<Expanded, Memory> {
+    Ok(Expanded::new(Text::from_str(alloc, uri)?, Text::from_str(alloc, local)?))
+}

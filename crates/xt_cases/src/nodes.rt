@@ -1,0 +1,179 @@
+// Nodes of a document, which is built of the lines before `:`. `nodes LINE..` lists all: the number with
+// the part, the place, the kind, the name, and the string-value; `at LINE.. : PATH..` gives the number of
+// the node at each path, `place-of LINE.. : NODE..` the path of each node, `has LINE.. : NODE..` tells whether it
+// is there. A node is written as its number, an attribute as `2@1`, a namespace node as `2#1`.
+
+use crate::bodies::document;
+use crate::fault::Fault;
+use crate::parts::push_path;
+use crate::show::{part, push_name, push_number, push_part, push_quoted, push_yes};
+use crate::words::{Word, halves, number_of, text_of};
+use std::alloc::Global;
+use std::rc::Rc;
+use xt_names::Expanded;
+use xt_text::{Memory, Path, Text};
+use xt_tree::{Doc, Kind, Node, NodeId, NodeRef, Part};
+
+/// Answers the call, if it is one of these.
+pub fn answer(alloc: Global, out: &mut Text, call: &str, words: &[Word]) -> Result<bool, Fault> {
+    if !matches!(call, "nodes" | "at" | "place-of" | "has") {
+        return Ok(false);
+    }
+    let (body, asked) = halves(words);
+    let document = document(alloc, body)?;
+    if call == "nodes" {
+        push_all(alloc, out, &document)?;
+        return Ok(true);
+    }
+    for word in asked {
+        let text = text_of(word)?;
+        match call {
+            "at" => push_at(out, &document, &path(alloc, text)?)?,
+            "place-of" => push_place(alloc, out, &document, &node(text)?)?,
+            _ => push_yes(out, document.has(alloc, &node(text)?)?)?,
+        }
+    }
+    Ok(true)
+}
+
+// The path that a text like `/1/2` writes.
+fn path(alloc: Global, text: &str) -> Result<Path, Fault> {
+    let mut path = Path::new(alloc);
+    for step in text.split('/') {
+        if !step.is_empty() {
+            path.push(number_of(step)?)?;
+        }
+    }
+    Ok(path)
+}
+
+// The node that a text like `2`, `2@1` or `2#1` names.
+fn node(text: &str) -> Result<NodeRef, Fault> {
+    if let Some((number, attribute)) = text.split_once('@') {
+        return reference(number, Part::Attribute(number_of(attribute)?));
+    }
+    if let Some((number, namespace)) = text.split_once('#') {
+        return reference(number, Part::Namespace(number_of(namespace)?));
+    }
+    reference(text, Part::Itself)
+}
+
+fn reference(number: &str, part: Part) -> Result<NodeRef, Fault> {
+    let node = NodeId {
+        number: number_of(number)?,
+    };
+    Ok(NodeRef { node, part })
+}
+
+fn push_at(out: &mut Text, document: &Doc, path: &Path) -> Result<(), Memory> {
+    match document.at(path) {
+        None => push_part(out, "none"),
+        Some(node) => {
+            part(out)?;
+            push_number(out, node.node.number)
+        }
+    }
+}
+
+fn push_place(alloc: Global, out: &mut Text, document: &Doc, node: &NodeRef) -> Result<(), Memory> {
+    match document.place(alloc, node)? {
+        None => push_part(out, "none"),
+        Some(path) => {
+            part(out)?;
+            push_path(out, &path)
+        }
+    }
+}
+
+fn push_all(alloc: Global, out: &mut Text, document: &Doc) -> Result<(), Memory> {
+    push_with_parts(alloc, out, document, document.root())?;
+    push_below(alloc, out, document, document.children())
+}
+
+fn push_below(
+    alloc: Global,
+    out: &mut Text,
+    document: &Doc,
+    siblings: &[Rc<Node>],
+) -> Result<(), Memory> {
+    for sibling in siblings {
+        push_with_parts(alloc, out, document, sibling.id())?;
+        push_below(alloc, out, document, sibling.children())?;
+    }
+    Ok(())
+}
+
+// How many attributes, and how many namespace nodes, of a node are listed at most.
+const MOST_PARTS: u64 = 100;
+
+fn push_with_parts(
+    alloc: Global,
+    out: &mut Text,
+    document: &Doc,
+    node: NodeId,
+) -> Result<(), Memory> {
+    push_node(alloc, out, document, &NodeRef::of(node))?;
+    for number in 1..MOST_PARTS {
+        let part = Part::Attribute(number);
+        push_node(alloc, out, document, &NodeRef { node, part })?;
+    }
+    for number in 1..MOST_PARTS {
+        let part = Part::Namespace(number);
+        push_node(alloc, out, document, &NodeRef { node, part })?;
+    }
+    Ok(())
+}
+
+// Lists the node, where it is there.
+fn push_node(alloc: Global, out: &mut Text, document: &Doc, node: &NodeRef) -> Result<(), Memory> {
+    if !document.has(alloc, node)? {
+        return Ok(());
+    }
+    if !out.is_empty() {
+        out.push_str("; ")?;
+    }
+    push_reference(out, node)?;
+    push_place(alloc, out, document, node)?;
+    push_part(out, word_of(document.kind(node)))?;
+    match document.name(alloc, node)? {
+        None => push_part(out, "-")?,
+        Some(name) => push_expanded(out, &name)?,
+    }
+    part(out)?;
+    push_quoted(out, document.string_value(alloc, node)?.as_str())
+}
+
+fn push_expanded(out: &mut Text, name: &Expanded) -> Result<(), Memory> {
+    if name.local().is_empty() {
+        return push_part(out, "\"\"");
+    }
+    part(out)?;
+    push_name(out, name)
+}
+
+fn push_reference(out: &mut Text, node: &NodeRef) -> Result<(), Memory> {
+    push_number(out, node.node.number)?;
+    match node.part {
+        Part::Itself => Ok(()),
+        Part::Attribute(number) => {
+            out.push('@')?;
+            push_number(out, number)
+        }
+        Part::Namespace(number) => {
+            out.push('#')?;
+            push_number(out, number)
+        }
+    }
+}
+
+fn word_of(kind: Kind) -> &'static str {
+    match kind {
+        Kind::Root => "root",
+        Kind::Element => "element",
+        Kind::Attribute => "attribute",
+        Kind::Namespace => "namespace",
+        Kind::Text => "text",
+        Kind::Comment => "comment",
+        Kind::Instruction => "instruction",
+    }
+}

@@ -1,0 +1,60 @@
+// The string functions: `starts-with TEXT START`, `contains TEXT PART`, `before TEXT PART`, `after TEXT
+// PART`, `concat TEXT..`, `substring TEXT START COUNT` (the count may be missing), `length TEXT`, `normalize
+// TEXT`, `translate TEXT FROM TO`, `lang LANGUAGE WANTED`.
+
+use crate::fault::Fault;
+use crate::numbers::{num, push_given};
+use crate::show::{push_quoted, push_yes};
+use crate::words::{Word, text_at, text_of};
+use std::alloc::Global;
+use xp_text::{
+    after, before, concat, contains, lang_matches, length, normalize, starts_with, substring,
+    translate,
+};
+use xt_text::Text;
+
+/// Answers the call, if it is one of these.
+pub fn answer(alloc: Global, out: &mut Text, call: &str, words: &[Word]) -> Result<bool, Fault> {
+    match call {
+        "starts-with" => push_yes(out, starts_with(text_at(words, 0)?, text_at(words, 1)?))?,
+        "contains" => push_yes(out, contains(text_at(words, 0)?, text_at(words, 1)?))?,
+        "lang" => push_yes(out, lang_matches(text_at(words, 0)?, text_at(words, 1)?))?,
+        "length" => push_given(alloc, out, length(text_at(words, 0)?))?,
+        _ => return answer_text(alloc, out, call, words),
+    }
+    Ok(true)
+}
+
+fn answer_text(alloc: Global, out: &mut Text, call: &str, words: &[Word]) -> Result<bool, Fault> {
+    let text = match call {
+        "before" => before(alloc, text_at(words, 0)?, text_at(words, 1)?)?,
+        "after" => after(alloc, text_at(words, 0)?, text_at(words, 1)?)?,
+        "concat" => concat(alloc, texts(alloc, words)?.as_slice())?,
+        "substring" => cut_out(alloc, words)?,
+        "normalize" => normalize(alloc, text_at(words, 0)?)?,
+        "translate" => {
+            let (text, from, to) = (text_at(words, 0)?, text_at(words, 1)?, text_at(words, 2)?);
+            translate(alloc, text, from, to)?
+        }
+        _ => return Ok(false),
+    };
+    push_quoted(out, text.as_str())?;
+    Ok(true)
+}
+
+fn texts(alloc: Global, words: &[Word]) -> Result<Vec<Text>, Fault> {
+    let mut texts = Vec::new(alloc);
+    for word in words {
+        texts.push(Text::from_str(alloc, text_of(word)?)?)?;
+    }
+    Ok(texts)
+}
+
+fn cut_out(alloc: Global, words: &[Word]) -> Result<Text, Fault> {
+    let start = num(text_at(words, 1)?)?;
+    let count = match words.get(2) {
+        None => None,
+        Some(word) => Some(num(text_of(word)?)?),
+    };
+    Ok(substring(alloc, text_at(words, 0)?, start, count)?)
+}
