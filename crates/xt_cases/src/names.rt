@@ -6,7 +6,7 @@ use crate::show::{part, push_part, push_quoted, push_yes};
 use crate::words::{Word, text_at, text_of};
 use std::alloc::Global;
 use xt_names::{
-    Expanded, QName, Use, is_barred, is_declaration, is_ncname, is_reserved_target, use_of,
+    AttributeUse, Expanded, QName, is_barred, is_declaration, is_ncname, is_reserved_target, use_of,
 };
 use xt_text::{Memory, Text};
 
@@ -15,57 +15,57 @@ pub fn answer(alloc: Global, out: &mut Text, call: &str, words: &[Word]) -> Resu
     match call {
         "same-name" => push_yes(out, are_same(alloc, words)?)?,
         "barred" => push_yes(out, is_barred(text_at(words, 0)?, text_at(words, 1)?))?,
-        _ => return answer_each(alloc, out, call, words),
+        _ => return answer_each(out, call, words),
     }
     Ok(true)
 }
 
-fn answer_each(alloc: Global, out: &mut Text, call: &str, words: &[Word]) -> Result<bool, Fault> {
+fn answer_each(out: &mut Text, call: &str, words: &[Word]) -> Result<bool, Fault> {
     if !matches!(call, "ncname" | "qname" | "use" | "declares" | "reserved") {
         return Ok(false);
     }
     for word in words {
-        answer_one(alloc, out, call, text_of(word)?)?;
+        answer_one(out, call, text_of(word)?)?;
     }
     Ok(true)
 }
 
-fn answer_one(alloc: Global, out: &mut Text, call: &str, text: &str) -> Result<(), Memory> {
+fn answer_one(out: &mut Text, call: &str, text: &str) -> Result<(), Memory> {
     match call {
         "ncname" => push_yes(out, is_ncname(text)),
-        "qname" => push_read(alloc, out, text),
-        "use" => push_use(alloc, out, text),
+        "qname" => push_read(out, text),
+        "use" => push_use(out, text),
         "reserved" => push_yes(out, is_reserved_target(text)),
-        _ => push_yes(out, is_declaration(alloc, text)?),
+        _ => push_yes(out, is_declaration(text)),
     }
 }
 
-fn push_read(alloc: Global, out: &mut Text, text: &str) -> Result<(), Memory> {
-    match QName::read(alloc, text)? {
+fn push_read(out: &mut Text, text: &str) -> Result<(), Memory> {
+    match QName::read(text) {
         None => push_part(out, "no"),
         Some(name) => push_qname(out, &name),
     }
 }
 
 // The parts of a name in brackets.
-fn push_qname(out: &mut Text, name: &QName) -> Result<(), Memory> {
+fn push_qname(out: &mut Text, name: &QName<'_>) -> Result<(), Memory> {
     part(out)?;
     out.push('(')?;
     if let Some(prefix) = name.prefix() {
-        out.push_str(prefix.as_str())?;
+        out.push_str(prefix)?;
         out.push(' ')?;
     }
-    out.push_str(name.local().as_str())?;
+    out.push_str(name.local())?;
     out.push(')')
 }
 
-fn push_use(alloc: Global, out: &mut Text, text: &str) -> Result<(), Memory> {
-    match use_of(alloc, text)? {
-        Use::NoName => push_part(out, "no"),
-        Use::Names { name } => push_qname(out, &name),
-        Use::Declares { prefix } => {
+fn push_use(out: &mut Text, text: &str) -> Result<(), Memory> {
+    match use_of(text) {
+        AttributeUse::NoName => push_part(out, "no"),
+        AttributeUse::Names { name } => push_qname(out, &name),
+        AttributeUse::Declares { prefix } => {
             push_part(out, "xmlns=")?;
-            push_quoted(out, prefix.as_str())
+            push_quoted(out, prefix)
         }
     }
 }

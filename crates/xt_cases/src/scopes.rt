@@ -89,8 +89,10 @@ fn push_elements(
     names: &[Word],
 ) -> Result<(), Fault> {
     for name in names {
-        let name = QName::read(alloc, text_of(name)?)?.ok_or(Fault::NoCase)?;
-        push_found(out, &scope.element_name(alloc, &name)?)?;
+        match QName::read(text_of(name)?) {
+            None => return Err(Fault::NoCase),
+            Some(name) => push_found(out, &scope.element_name(alloc, &name)?)?,
+        }
     }
     Ok(())
 }
@@ -102,8 +104,10 @@ fn push_attributes(
     names: &[Word],
 ) -> Result<(), Fault> {
     for name in names {
-        let name = QName::read(alloc, text_of(name)?)?.ok_or(Fault::NoCase)?;
-        push_found(out, &scope.attribute_name(alloc, &name)?)?;
+        match QName::read(text_of(name)?) {
+            None => return Err(Fault::NoCase),
+            Some(name) => push_found(out, &scope.attribute_name(alloc, &name)?)?,
+        }
     }
     Ok(())
 }
@@ -122,7 +126,7 @@ fn push_doubles(alloc: Global, out: &mut Text, scope: &Scope, names: &[Word]) ->
     let mut before = AttributeNames::new(alloc);
     for name in names {
         let written = text_of(name)?;
-        let expanded = match QName::read(alloc, written)? {
+        let expanded = match QName::read(written) {
             None => None,
             Some(name) => scope.attribute_name(alloc, &name)?,
         };

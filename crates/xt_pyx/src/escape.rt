@@ -1,7 +1,8 @@
 // The four escapes, both ways.
-ghost use Rattle.std.specs.Prelude.{◌≡◌, ◌++◌, List, ℕ, IfOk, OnOk, OnErr};
+ghost use Rattle.std.specs.Prelude.{◌≡◌, ◌++◌, [], ◌∷◌, IfOk, OnOk, OnErr, MatchOption};
 ghost use Rattle.std.specs.Str.{chars};
 ghost use Rattle.spec_document.specs.Pyx as spec;
+ghost use Rattle.xt_pyx.specs.Front.{HasFront};
 
 use std::alloc::Global;
 use xt_text::{Memory, Text};
@@ -44,10 +45,11 @@ fn push_behind_backslash(text: &mut Text, character: char) -> Result<(), Memory>
     }
 }
 
-/// Adds `more` at the end of `line` as it is written, with its escapes. After want of memory a part of
-/// it may have been added.
+/// Adds `more` at the end of `line` as it is written, with its escapes. After want of memory the line is as
+/// before, or ends with a front of what was to be added.
 pub fn push_escaped(line: &mut Text, more: &str) -> Result<(), Memory>
-    ensures { OnOk result (line.new ≡ line.old ++ spec.escaped (chars more.now)) }
+    ensures ok { OnOk result (line.new ≡ line.old ++ spec.escaped (chars more.now)) }
+    ensures err { OnErr result (HasFront line.old (spec.escaped (chars more.now)) line.new) }
 {
     for character in more.chars() {
         push_escape(line, character)?;
@@ -55,17 +57,29 @@ pub fn push_escaped(line: &mut Text, more: &str) -> Result<(), Memory>
     Ok(())
 }
 
-// Adds one character as it is written.
+// Adds one character as it is written, or a front of that.
 fn push_escape(line: &mut Text, character: char) -> Result<(), Memory>
-    ensures { OnOk result (line.new ≡ line.old ++ spec.escape character) }
+    ensures ok { OnOk result (line.new ≡ line.old ++ spec.escape character) }
+    ensures err { OnErr result (HasFront line.old (spec.escape character) line.new) }
 {
-    let letter = match character {
-        '\n' => 'n',
-        '\t' => 't',
-        '\r' => 'r',
-        '\\' => '\\',
-        _ => return line.push(character),
-    };
-    line.push('\\')?;
-    line.push(letter)
+    match letter(character) {
+        None => line.push(character),
+        Some(letter) => {
+            line.push('\\')?;
+            line.push(letter)
+        }
+    }
+}
+
+// The letter that stands behind a backslash for this character, if it is escaped.
+fn letter(character: char) -> Option<char>
+    ensures { MatchOption result (spec.escape character ≡ character ∷ []) (λ letter. spec.escape character ≡ 0x5C ∷ letter ∷ []) }
+{
+    match character {
+        '\n' => Some('n'),
+        '\t' => Some('t'),
+        '\r' => Some('r'),
+        '\\' => Some('\\'),
+        _ => None,
+    }
 }

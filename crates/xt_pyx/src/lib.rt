@@ -28,7 +28,8 @@ pub use bad_line::BadLine;
 pub use escape::{push_escaped, unescape};
 pub use read::read_event;
 pub use write::{
-    write_attribute, write_comment, write_data, write_end, write_event, write_instruction, write_start,
+    write_attribute, write_comment, write_data, write_end, write_event, write_instruction,
+    write_start,
 };
 use xt_text::Text;
 

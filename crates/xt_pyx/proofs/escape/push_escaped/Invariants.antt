@@ -1,4 +1,4 @@
-use Rattle.std.proofs.Common.{◌≡◌, ◌++◌}
+use Rattle.std.proofs.Common.{◌≡◌, ◌++◌, ℕ, List}
 use Rattle.std.specs.Str.{chars, IsUtf8}
 use Rattle.std.specs.Str.Iter.{chars_rest}
 use Rattle.spec_document.specs.Pyx.{escaped}
@@ -8,5 +8,6 @@ use Rattle.xt_pyx.proofs.escape.push_escaped.Given as goal
 abbrev pub invariant-loop-character : goal.invariant-loop-character
 invariant-loop-character l = record {
   utf8 : IsUtf8 (chars_rest l.character-iterator);
+  begun : (added : List ℕ) × (l.line ≡ l.fn.line ++ added);
   so_far : l.line ++ escaped (chars (chars_rest l.character-iterator)) ≡ l.fn.line ++ escaped (chars l.more);
 }
