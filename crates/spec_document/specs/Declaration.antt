@@ -3,27 +3,27 @@ use Rattle.std.specs.Prelude.{ℕ, Bool, true, false, not, ◌&&◌, ◌||◌, L
 use Rattle.std.specs.Option.{option_map, unwrap_or}
 use Rattle.std.specs.List.{filter}
 use Rattle.std.specs.FinMap.{entries}
-use Rattle.spec_document.specs.declared.usage.Use.{Use}
-use Rattle.spec_document.specs.declared.usage.Use.TheVariants.{Declares, Names, NoName}
+use Rattle.spec_document.specs.declared.usage.AttributeUse.{AttributeUse}
+use Rattle.spec_document.specs.declared.usage.AttributeUse.TheVariants.{Declares, Names, NoName}
 use Rattle.spec_document.specs.Name.{QName, qname_of, Expanded}
 use Rattle.spec_document.specs.Scope.{Scope, xml_uri, xmlns_uri, bound, resolved}
 use Rattle.spec_document.specs.Forest.{Written, Content, Element, Text, Comment, Instruction}
 
 -- what an attribute is by its written name
-abbrev pub AttributeUse : Type 0
-AttributeUse = Use (List ℕ) QName
+abbrev pub PlainUse : Type 0
+PlainUse = AttributeUse (List ℕ) QName
 
 abbrev pub is_xmlns : List ℕ → Bool
 is_xmlns text = bytes_eq text (codes "xmlns")
 
-abbrev pub use_of_qname : QName → AttributeUse
+abbrev pub use_of_qname : QName → PlainUse
 use_of_qname name =
     elim name.prefix [
       | None ↦ if is_xmlns name.local then Declares [] else Names name
       | Some prefix ↦ if is_xmlns prefix then Declares name.local else Names name
     ]
 
-abbrev pub use_of : List ℕ → AttributeUse
+abbrev pub use_of : List ℕ → PlainUse
 use_of written = elim (qname_of written) [ None ↦ NoName | Some name ↦ use_of_qname name ]
 
 abbrev pub is_declaration : Written → Bool

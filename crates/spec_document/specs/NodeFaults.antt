@@ -3,16 +3,16 @@
 use Rattle.std.specs.Prelude.{ℕ, ◌+◌, Bool, true, not, ◌||◌, nat_lt, List, [], ◌∷◌, ◌++◌, drop, slice_index, Option, None, is_none, bytes_eq}
 use Rattle.std.specs.Option.{option_and_then}
 use Rattle.std.specs.List.{list_any}
-use Rattle.spec_document.specs.declared.usage.Use.TheVariants.{Declares, Names, NoName}
+use Rattle.spec_document.specs.declared.usage.AttributeUse.TheVariants.{Declares, Names, NoName}
 use Rattle.spec_document.specs.Name.{qname_of, is_ncname, Expanded, same_expanded}
 use Rattle.spec_document.specs.Scope.{Scope}
 use Rattle.spec_document.specs.Forest.{Written, Content, Element, Text, Comment, Instruction, Forest, Empty, Node}
-use Rattle.spec_document.specs.Declaration.{AttributeUse, use_of, within, element_name, attribute_name, is_barred, is_reserved_target}
+use Rattle.spec_document.specs.Declaration.{PlainUse, use_of, within, element_name, attribute_name, is_barred, is_reserved_target}
 use Rattle.spec_document.specs.Fault.{Fault, fault_if}
 use Rattle.spec_document.specs.Balance.{LineNumbers}
 
 -- 10: a name that is no QName or has a prefix that is not declared, or a declaration that is barred
-abbrev pub is_wrong_use : Scope → AttributeUse → List ℕ → Bool
+abbrev pub is_wrong_use : Scope → PlainUse → List ℕ → Bool
 is_wrong_use scope (Declares prefix) uri = is_barred prefix uri
 is_wrong_use scope (Names name) value = is_none (attribute_name scope name)
 is_wrong_use scope NoName value = true
@@ -24,7 +24,7 @@ is_wrong_element scope name = is_none (option_and_then (element_name scope) (qna
 abbrev pub is_wrong_target : List ℕ → Bool
 is_wrong_target target = not (is_ncname target) || is_reserved_target target
 
-abbrev pub expanded_by : Scope → AttributeUse → Option Expanded
+abbrev pub expanded_by : Scope → PlainUse → Option Expanded
 expanded_by scope (Declares prefix) = None
 expanded_by scope (Names name) = attribute_name scope name
 expanded_by scope NoName = None

@@ -23,4 +23,4 @@ pub use laws::{
 };
 pub use order::{axes_part_the_tree, document_order_is_total, nodes_stand_in_order};
 pub use parent::Parent;
-pub use usage::Use;
+pub use usage::AttributeUse;

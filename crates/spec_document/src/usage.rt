@@ -1,9 +1,9 @@
-// What attributes are, over texts and names of any type.
+// What names of attributes are for, over texts and names of any type.
 
-/// What an attribute is by its name as written (Namespaces in XML 1.0, section 3). `T` is the type of
+/// What the name of an attribute, as written, is for (Namespaces in XML 1.0, section 3). `T` is the type of
 /// texts and `Q` that of QNames.
 #[derive(Drop)]
-pub enum Use<T, Q> {
+pub enum AttributeUse<T, Q> {
     /// A namespace declaration: `xmlns`, for which the prefix is empty, or `xmlns:prefix`.
     Declares { prefix: T },
     /// An attribute of this name.

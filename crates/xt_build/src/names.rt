@@ -8,6 +8,7 @@ ghost use Rattle.spec_document.specs.Declaration.{declared_all};
 ghost use Rattle.spec_document.specs.Fault.{least};
 ghost use Rattle.spec_document.specs.Balance.{LineNumbers};
 ghost use Rattle.spec_document.specs.NodeFaults.{greatest_depth, is_wrong_element, is_wrong_target, is_wrong_use, expanded_by, attribute_faults, node_faults};
+ghost use Rattle.xt_names.specs.View.{use_in};
 ghost use Rattle.xt_tree.specs.View.{written_of};
 ghost use Rattle.xt_build.specs.Least.{merged};
 ghost use Rattle.xt_build.specs.Left.{open_faults};
@@ -20,7 +21,8 @@ use crate::piece::Piece;
 use std::alloc::Global;
 use xt_base::EditCode;
 use xt_names::{
-    AttributeNames, Expanded, QName, Scope, Use, is_barred, is_ncname, is_reserved_target, use_of,
+    AttributeNames, AttributeUse, Expanded, QName, Scope, is_barred, is_ncname, is_reserved_target,
+    use_of,
 };
 use xt_text::{Memory, Text};
 use xt_tree::{Content, Written};
@@ -73,7 +75,7 @@ fn check_piece(
             Content::Element { name, attributes } => {
                 let around = scopes.last().unwrap_or(outside);
                 let inside = scope_inside(alloc, around, attributes.as_slice())?;
-                let is_wrong = is_wrong_element(alloc, &inside, name)?;
+                let is_wrong = is_wrong_element(&inside, name);
                 keep_if(found, is_wrong, EditCode::BadName, *line);
                 let is_deep = is_too_deep(depth, scopes.len());
                 keep_if(found, is_deep, EditCode::TooDeep, *line);
@@ -115,12 +117,12 @@ fn scope_inside(alloc: Global, around: &Scope, attributes: &[Written]) -> Result
 }
 
 // Whether the name is no QName, or its prefix is not declared.
-fn is_wrong_element(alloc: Global, scope: &Scope, name: &Text) -> Result<bool, Memory>
-    ensures { IfOk result (λ is. is ≡ is_wrong_element scope.now name.now) }
+fn is_wrong_element(scope: &Scope, name: &Text) -> bool
+    ensures { result ≡ is_wrong_element scope.now name.now }
 {
-    match QName::read(alloc, name.as_str())? {
-        None => Ok(true),
-        Some(name) => Ok(scope.element_name(alloc, &name)?.is_none()),
+    match QName::read(name.as_str()) {
+        None => true,
+        Some(name) => !scope.has_prefix_of(&name),
     }
 }
 
@@ -145,7 +147,7 @@ fn check_attributes(
     for (i, attribute) in attributes.iter().enumerate() {
         let line = line_at(lines, i);
         let written = attribute.name.as_str();
-        let usage = use_of(alloc, written)?;
+        let usage = use_of(written);
         let name = expanded(alloc, scope, &usage)?;
         let is_wrong = is_wrong(&usage, name.as_ref(), &attribute.value);
         keep_if(found, is_wrong, EditCode::BadName, line);
@@ -163,22 +165,26 @@ fn line_at(lines: &[u64], i: usize) -> u64
 }
 
 // The expanded name of an attribute; a declaration has none.
-fn expanded(alloc: Global, scope: &Scope, usage: &Use) -> Result<Option<Expanded>, Memory>
-    ensures { IfOk result (λ name. name ≡ expanded_by scope.now usage.now) }
+fn expanded(
+    alloc: Global,
+    scope: &Scope,
+    usage: &AttributeUse<'_>,
+) -> Result<Option<Expanded>, Memory>
+    ensures { IfOk result (λ name. name ≡ expanded_by scope.now (use_in usage.now)) }
 {
     match usage {
-        Use::Names { name } => scope.attribute_name(alloc, name),
-        Use::Declares { .. } | Use::NoName => Ok(None),
+        AttributeUse::Names { name } => scope.attribute_name(alloc, name),
+        AttributeUse::Declares { .. } | AttributeUse::NoName => Ok(None),
     }
 }
 
 // Whether an attribute has no good name, or is a declaration that is barred.
-fn is_wrong(usage: &Use, name: Option<&Expanded>, value: &Text) -> bool
-    ensures { (scope : spec.Scope) → option_copied name.entry ≡ expanded_by scope usage.now → result ≡ is_wrong_use scope usage.now value.now }
+fn is_wrong(usage: &AttributeUse<'_>, name: Option<&Expanded>, value: &Text) -> bool
+    ensures { (scope : spec.Scope) → option_copied name.entry ≡ expanded_by scope (use_in usage.now) → result ≡ is_wrong_use scope (use_in usage.now) value.now }
 {
     match usage {
-        Use::Declares { prefix } => is_barred(prefix.as_str(), value.as_str()),
-        Use::Names { .. } => name.is_none(),
-        Use::NoName => true,
+        AttributeUse::Declares { prefix } => is_barred(prefix, value.as_str()),
+        AttributeUse::Names { .. } => name.is_none(),
+        AttributeUse::NoName => true,
     }
 }

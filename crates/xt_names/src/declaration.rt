@@ -1,58 +1,57 @@
 // What attributes declare, and what names mean where they stand (Namespaces in XML 1.0, sections 3, 5
 // and 6).
-ghost use Rattle.std.specs.Prelude.{◌≡◌, [], IfOk, OnOk, OnErr};
+ghost use Rattle.std.specs.Prelude.{◌≡◌, [], IfOk, OnOk, OnErr, is_some};
 ghost use Rattle.std.specs.Option.{unwrap_or};
 ghost use Rattle.spec_document.specs.Scope.{resolved};
 ghost use Rattle.std.specs.Str.{chars};
 ghost use Rattle.spec_document.specs.Declaration as spec;
+ghost use Rattle.xt_names.specs.View.{use_in};
 
 use crate::{Expanded, QName, Scope};
 use std::alloc::Global;
 use xt_text::{Memory, Text};
 
-/// What an attribute is by its name as written: a namespace declaration, an attribute, or neither.
-pub type Use = spec_document::Use<Text, QName>;
+/// What the name of an attribute, as written, is for: a namespace declaration, an attribute, or neither.
+pub type AttributeUse<'a> = spec_document::AttributeUse<&'a str, QName<'a>>;
 
-/// What an attribute is by its name as written.
-pub fn use_of(alloc: Global, written: &str) -> Result<Use, Memory>
-    ensures { IfOk result (λ kind. kind ≡ spec.use_of (chars written.now)) }
+/// What an attribute is by its name as written. Takes no memory.
+pub fn use_of(written: &str) -> AttributeUse<'_>
+    ensures { use_in result ≡ spec.use_of (chars written.now) }
 {
-    let Some(name) = QName::read(alloc, written)? else {
-        return Ok(Use::NoName);
+    let Some(name) = QName::read(written) else {
+        return AttributeUse::NoName;
     };
     match name.prefix() {
         None => {
             if is_xmlns(name.local()) {
-                return Ok(Use::Declares {
-                    prefix: Text::new(alloc),
-                });
+                return AttributeUse::Declares { prefix: "" };
             }
         }
         Some(prefix) => {
             if is_xmlns(prefix) {
-                return Ok(Use::Declares {
-                    prefix: name.local().copy(alloc)?,
-                });
+                return AttributeUse::Declares {
+                    prefix: name.local(),
+                };
             }
         }
     }
-    Ok(Use::Names { name })
+    AttributeUse::Names { name }
 }
 
-/// Whether the attribute of this name as written is a namespace declaration.
-pub fn is_declaration(alloc: Global, written: &str) -> Result<bool, Memory>
-    ensures { IfOk result (λ is. is ≡ spec.is_declaration (record { name = chars written.now; value = [] })) }
+/// Whether the attribute of this name as written is a namespace declaration. Takes no memory.
+pub fn is_declaration(written: &str) -> bool
+    ensures { result ≡ spec.is_declaration (record { name = chars written.now; value = [] }) }
 {
-    match use_of(alloc, written)? {
-        Use::Declares { .. } => Ok(true),
-        Use::Names { .. } | Use::NoName => Ok(false),
+    match use_of(written) {
+        AttributeUse::Declares { .. } => true,
+        AttributeUse::Names { .. } | AttributeUse::NoName => false,
     }
 }
 
-fn is_xmlns(text: &Text) -> bool
-    ensures { result ≡ spec.is_xmlns text.now }
+fn is_xmlns(text: &str) -> bool
+    ensures { result ≡ spec.is_xmlns (chars text.now) }
 {
-    text.as_str() == "xmlns"
+    text == "xmlns"
 }
 
 impl Scope {
@@ -62,30 +61,49 @@ impl Scope {
         ensures ok { OnOk result (self.new ≡ spec.declared (record { name = chars written.now; value = chars value.now }) self.old) }
         ensures err { OnErr result (self.new ≡ self.old) }
     {
-        match use_of(alloc, written)? {
-            Use::Declares { prefix } => self.bind(alloc, prefix.as_str(), value),
-            Use::Names { .. } | Use::NoName => Ok(()),
+        match use_of(written) {
+            AttributeUse::Declares { prefix } => self.bind(alloc, prefix, value),
+            AttributeUse::Names { .. } | AttributeUse::NoName => Ok(()),
+        }
+    }
+
+    /// Whether the prefix of the name is declared, so that the name has an expanded one; a name without a
+    /// prefix needs none. Takes no memory.
+    pub fn has_prefix_of(&self, name: &QName<'_>) -> bool
+        ensures element { result ≡ is_some (spec.element_name self.now name.now) }
+        ensures attribute { result ≡ is_some (spec.attribute_name self.now name.now) }
+    {
+        match name.prefix() {
+            None => true,
+            Some(prefix) => self.resolve(prefix).is_some(),
         }
     }
 
     /// The expanded name of an element of this name: without a prefix it is in the default namespace.
     /// None exactly where the prefix is not declared.
-    pub fn element_name(&self, alloc: Global, name: &QName) -> Result<Option<Expanded>, Memory>
+    pub fn element_name(&self, alloc: Global, name: &QName<'_>) -> Result<Option<Expanded>, Memory>
         ensures { IfOk result (λ expanded. expanded ≡ spec.element_name self.now name.now) }
     {
         match name.prefix() {
-            None => Ok(Some(Expanded::new(self.default_uri(alloc)?, name.local().copy(alloc)?))),
+            None => {
+                let uri = self.default_uri(alloc)?;
+                Ok(Some(Expanded::new(uri, Text::from_str(alloc, name.local())?)))
+            }
             Some(prefix) => self.prefixed(alloc, prefix, name.local()),
         }
     }
 
     /// The expanded name of an attribute of this name: without a prefix it is in no namespace. None
     /// exactly where the prefix is not declared.
-    pub fn attribute_name(&self, alloc: Global, name: &QName) -> Result<Option<Expanded>, Memory>
+    pub fn attribute_name(
+        &self,
+        alloc: Global,
+        name: &QName<'_>,
+    ) -> Result<Option<Expanded>, Memory>
         ensures { IfOk result (λ expanded. expanded ≡ spec.attribute_name self.now name.now) }
     {
         match name.prefix() {
-            None => Ok(Some(Expanded::new(Text::new(alloc), name.local().copy(alloc)?))),
+            None => Ok(Some(Expanded::new(Text::new(alloc), Text::from_str(alloc, name.local())?))),
             Some(prefix) => self.prefixed(alloc, prefix, name.local()),
         }
     }
@@ -100,17 +118,13 @@ impl Scope {
         }
     }
 
-    fn prefixed(
-        &self,
-        alloc: Global,
-        prefix: &Text,
-        local: &Text,
-    ) -> Result<Option<Expanded>, Memory>
-        ensures { IfOk result (λ expanded. expanded ≡ spec.prefixed_name self.now prefix.now local.now) }
+    // The expanded name of this prefix and local part.
+    fn prefixed(&self, alloc: Global, prefix: &str, local: &str) -> Result<Option<Expanded>, Memory>
+        ensures { IfOk result (λ expanded. expanded ≡ spec.prefixed_name self.now (chars prefix.now) (chars local.now)) }
     {
-        match self.resolve(prefix.as_str()) {
+        match self.resolve(prefix) {
             None => Ok(None),
-            Some(uri) => Ok(Some(Expanded::new(uri.copy(alloc)?, local.copy(alloc)?))),
+            Some(uri) => Ok(Some(Expanded::new(uri.copy(alloc)?, Text::from_str(alloc, local)?))),
         }
     }
 }

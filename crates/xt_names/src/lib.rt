@@ -4,7 +4,7 @@
 //! ```text
 //! let mut scope = Scope::root(alloc)?;
 //! scope.bind(alloc, "p", "urn:plants")?;             // xmlns:p="urn:plants"
-//! let name = QName::read(alloc, "p:rose")?;          // Some: the prefix p, the local part rose
+//! let name = QName::read("p:rose");                  // Some: the prefix p, the local part rose
 //! let uri = scope.resolve("p");                      // Some: urn:plants
 //! ```
 #![tactic(auto)]
@@ -22,7 +22,7 @@ mod uri;
 pub use attribute_names::AttributeNames;
 pub use barred::{is_barred, is_reserved_target};
 pub use character::{is_char, is_name_part, is_name_start};
-pub use declaration::{Use, is_declaration, use_of};
+pub use declaration::{AttributeUse, is_declaration, use_of};
 pub use name::{Expanded, QName, is_ncname};
 pub use namespace::Namespace;
 pub use scope::Scope;

@@ -1,13 +1,12 @@
 // Names (Namespaces in XML 1.0, productions 4 and 7 to 11).
-ghost use Rattle.std.specs.Prelude.{◌≡◌, ◌&&◌, bytes_eq, IfOk};
-ghost use Rattle.std.specs.Option.{option_copied};
+ghost use Rattle.std.specs.Prelude.{◌≡◌};
+ghost use Rattle.std.specs.Option.{option_map};
 ghost use Rattle.std.specs.Str.{chars};
 ghost use Rattle.spec_document.specs.Name as spec;
 
 use crate::character::{is_name_part, is_name_start};
-use std::alloc::Global;
 use std::marker::Model;
-use xt_text::{Memory, Text, split_first};
+use xt_text::{Text, split_first};
 
 /// Whether the text is an NCName: a name without a colon (production 4). Takes no memory.
 pub fn is_ncname(text: &str) -> bool
@@ -20,57 +19,59 @@ pub fn is_ncname(text: &str) -> bool
     }
 }
 
-/// A QName in its parts (productions 7 to 11).
+/// A QName in its parts, as they stand in a text (productions 7 to 11).
 #[derive(Debug, Drop)]
-pub struct QName {
-    prefix: Option<Text>,
-    local: Text,
+pub struct QName<'a> {
+    prefix: Option<&'a str>,
+    local: &'a str,
 }
 
-impl Model for QName {
+impl<'a> Model for QName<'a> {
+    ghost use Rattle.std.specs.Option.{option_map};
+    ghost use Rattle.std.specs.Str.{chars};
     ghost use Rattle.spec_document.specs.Name as spec;
 
     ghost Value = { spec.QName };
 
-    ghost view = { λ name. record { prefix = name.prefix; local = name.local } };
+    ghost view = { λ name. record { prefix = option_map (λ p. chars p.now) name.prefix; local = chars name.local.now } };
 }
 
-impl QName {
+impl<'a> QName<'a> {
     /// The QName that the text is: an NCName, or two of them parted by a colon. None exactly where it
-    /// is neither.
-    pub fn read(alloc: Global, text: &str) -> Result<Option<QName>, Memory>
-        ensures { IfOk result (λ name. name ≡ spec.qname_of (chars text.now)) }
+    /// is neither. Takes no memory.
+    pub fn read(text: &'a str) -> Option<QName<'a>>
+        ensures { result ≡ spec.qname_of (chars text.now) }
     {
         if is_ncname(text) {
-            return Ok(Some(QName {
+            return Some(QName {
                 prefix: None,
-                local: Text::from_str(alloc, text)?,
-            }));
+                local: text,
+            });
         }
         let Some((prefix, local)) = split_first(text, ':') else {
-            return Ok(None);
+            return None;
         };
         if !is_ncname(prefix) || !is_ncname(local) {
-            return Ok(None);
+            return None;
         }
-        Ok(Some(QName {
-            prefix: Some(Text::from_str(alloc, prefix)?),
-            local: Text::from_str(alloc, local)?,
-        }))
+        Some(QName {
+            prefix: Some(prefix),
+            local,
+        })
     }
 
     /// The part before the colon, where there is one.
-    pub fn prefix(&self) -> Option<&Text>
-        ensures { option_copied result ≡ self.now.prefix }
+    pub fn prefix(&self) -> Option<&'a str>
+        ensures { option_map (λ p. chars p.now) result ≡ self.now.prefix }
     {
-        self.prefix.as_ref()
+        self.prefix
     }
 
     /// The part behind the colon, or all of the name.
-    pub fn local(&self) -> &Text
-        ensures { result.now ≡ self.now.local }
+    pub fn local(&self) -> &'a str
+        ensures { chars result.now ≡ self.now.local }
     {
-        &self.local
+        self.local
     }
 }
 

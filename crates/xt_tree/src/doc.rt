@@ -211,7 +211,7 @@ impl Doc {
         }
         match node.part {
             Part::Itself => Ok(true),
-            Part::Attribute(number) => self.has_attribute(alloc, node.node, number),
+            Part::Attribute(number) => Ok(self.has_attribute(node.node, number)),
             Part::Namespace(number) => self.has_namespace(alloc, node, number),
         }
     }
@@ -223,11 +223,10 @@ impl Doc {
         self.root == id || find(self.children.as_slice(), id).is_some()
     }
 
-    fn has_attribute(&self, alloc: Global, id: NodeId, number: u64) -> Result<bool, Memory>
-        ensures { IfOk result (λ has. ForSome (numbered_node self.now id.number) (λ node. has ≡ is_some (at_number number (attributes_of node)))) }
+    fn has_attribute(&self, id: NodeId, number: u64) -> bool
+        ensures { ForSome (numbered_node self.now id.number) (λ node. result ≡ is_some (at_number number (attributes_of node))) }
     {
-        let found = self.attribute(alloc, id, number)?;
-        Ok(found.is_some())
+        self.attribute(id, number).is_some()
     }
 
     fn has_namespace(&self, alloc: Global, node: &NodeRef, number: u64) -> Result<bool, Memory>
@@ -351,22 +350,22 @@ impl Doc {
     }
 
     // The attribute of this number of the node, where there is one.
-    fn attribute(&self, alloc: Global, id: NodeId, number: u64) -> Result<Option<&Written>, Memory>
-        ensures { IfOk result (λ found. ForSome (numbered_node self.now id.number) (λ node. option_map (λ a. written_of a.now) found ≡ at_number number (attributes_of node))) }
+    fn attribute(&self, id: NodeId, number: u64) -> Option<&Written>
+        ensures { ForSome (numbered_node self.now id.number) (λ node. option_map (λ a. written_of a.now) result ≡ at_number number (attributes_of node)) }
     {
         if self.root == id {
-            return Ok(None);
+            return None;
         }
         match find(self.children.as_slice(), id) {
-            None => Ok(None),
-            Some(node) => attribute_at(alloc, &node.content, number),
+            None => None,
+            Some(node) => attribute_at(&node.content, number),
         }
     }
 
     fn attribute_value(&self, alloc: Global, id: NodeId, number: u64) -> Result<Text, Memory>
         ensures { IfOk result (λ text. ForSome (numbered_node self.now id.number) (λ node. ForSome (at_number number (attributes_of node)) (λ a. text ≡ a.value))) }
     {
-        match self.attribute(alloc, id, number)? {
+        match self.attribute(id, number) {
             None => Ok(Text::new(alloc)),
             Some(attribute) => attribute.value.copy(alloc),
         }
@@ -422,7 +421,7 @@ impl Doc {
             (λ a. name ≡ option_and_then (attribute_name (scope_at found)) (qname_of a.name)))) }
     {
         let scope = self.scope_of(alloc, node)?;
-        match self.attribute(alloc, node.node, number)? {
+        match self.attribute(node.node, number) {
             None => Ok(None),
             Some(attribute) => attribute_name(alloc, attribute.name.as_str(), &scope),
         }

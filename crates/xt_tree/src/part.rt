@@ -29,15 +29,12 @@ pub fn attributes_in<'a>(alloc: Global, content: &'a Content) -> Result<Vec<&'a 
 }
 
 // Those that are no declarations.
-fn own_attributes<'a>(
-    alloc: Global,
-    attributes: &'a [Written],
-) -> Result<Vec<&'a Written>, Memory>
+fn own_attributes<'a>(alloc: Global, attributes: &'a [Written]) -> Result<Vec<&'a Written>, Memory>
     ensures { IfOk result (λ list. map (λ a. written_of a.now) list.items ≡ filter (λ a. not (is_declaration a)) (map written_of attributes.now)) }
 {
     let mut list = Vec::new(alloc);
     for attribute in attributes {
-        if !is_declaration(alloc, attribute.name.as_str())? {
+        if !is_declaration(attribute.name.as_str()) {
             list.push(attribute)?;
         }
     }
@@ -45,39 +42,29 @@ fn own_attributes<'a>(
 }
 
 /// The attribute of this number, from 1.
-pub fn attribute_at<'a>(
-    alloc: Global,
-    content: &'a Content,
-    number: u64,
-) -> Result<Option<&'a Written>, Memory>
-    ensures { IfOk result (λ found. option_map (λ a. written_of a.now) found ≡ at_number number (attributes_in (Some (content_of content.now)))) }
+pub fn attribute_at(content: &Content, number: u64) -> Option<&Written>
+    ensures { option_map (λ a. written_of a.now) result ≡ at_number number (attributes_in (Some (content_of content.now))) }
 {
     match content {
-        Content::Element { attributes, .. } => {
-            nth_attribute(alloc, attributes.as_slice(), number)
-        }
-        Content::Text { .. } | Content::Comment { .. } | Content::Instruction { .. } => Ok(None),
+        Content::Element { attributes, .. } => nth_attribute(attributes.as_slice(), number),
+        Content::Text { .. } | Content::Comment { .. } | Content::Instruction { .. } => None,
     }
 }
 
 // The attribute of this number among those that are no declarations.
-fn nth_attribute<'a>(
-    alloc: Global,
-    attributes: &'a [Written],
-    number: u64,
-) -> Result<Option<&'a Written>, Memory>
-    ensures { IfOk result (λ found. option_map (λ a. written_of a.now) found ≡ at_number number (filter (λ a. not (is_declaration a)) (map written_of attributes.now))) }
+fn nth_attribute(attributes: &[Written], number: u64) -> Option<&Written>
+    ensures { option_map (λ a. written_of a.now) result ≡ at_number number (filter (λ a. not (is_declaration a)) (map written_of attributes.now)) }
 {
     let mut left = number;
     for attribute in attributes {
-        if !is_declaration(alloc, attribute.name.as_str())? {
+        if !is_declaration(attribute.name.as_str()) {
             if left == 1 {
-                return Ok(Some(attribute));
+                return Some(attribute);
             }
             left = left.saturating_sub(1);
         }
     }
-    Ok(None)
+    None
 }
 
 /// Adds to the scope what an element declares.
@@ -135,7 +122,7 @@ pub fn content_name(
 fn element_name(alloc: Global, written: &str, scope: &Scope) -> Result<Option<Expanded>, Memory>
     ensures { IfOk result (λ name. name ≡ option_and_then (spec.element_name scope.now) (qname_of (chars written.now))) }
 {
-    match QName::read(alloc, written)? {
+    match QName::read(written) {
         None => Ok(None),
         Some(name) => scope.element_name(alloc, &name),
     }
@@ -149,7 +136,7 @@ pub fn attribute_name(
 ) -> Result<Option<Expanded>, Memory>
     ensures { IfOk result (λ name. name ≡ option_and_then (spec.attribute_name scope.now) (qname_of (chars written.now))) }
 {
-    match QName::read(alloc, written)? {
+    match QName::read(written) {
         None => Ok(None),
         Some(name) => scope.attribute_name(alloc, &name),
     }

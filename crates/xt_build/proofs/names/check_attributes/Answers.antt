@@ -7,6 +7,7 @@ use Rattle.spec_document.specs.Declaration.{use_of}
 use Rattle.spec_document.specs.Name.{same_expanded}
 use Rattle.spec_document.specs.Fault.{least}
 use Rattle.spec_document.specs.NodeFaults.{attribute_faults, expanded_by, is_wrong_use, is_same_attribute}
+use Rattle.xt_names.specs.View.{use_in}
 use Rattle.xt_tree.specs.View.{written_of}
 use Rattle.xt_build.specs.Least.{merged}
 use Rattle.xt_build.specs.Names.{expanded_names}
@@ -24,7 +25,7 @@ loop-i-preserved c =
     let seen = c.loop-i.names in
     let before = map written_of (take i xs) in
     let is = c.as_str-written.ensures.characters in
-    let usage : c.in_ok-usage.usage ≡ use_of x.name = c.in_ok-usage.ensures ∙ ap use_of is in
+    let usage : use_in c.use_of-usage.result ≡ use_of x.name = c.use_of-usage.ensures ∙ ap use_of is in
     let name : c.in_ok-name.name ≡ expanded_by scope (use_of x.name) = c.in_ok-name.ensures ∙ ap (expanded_by scope) usage in
     let took : map written_of (take (i + 1) xs) ≡ before ++ written_of x ∷ [] =
     ap (map written_of) (take_more xs i x (omega arith)) ∙ map-append written_of (take i xs) _ ∙ ap (λ y. before ++ written_of y ∷ []) (sym c.index-attributes-i.is) in

@@ -45,8 +45,8 @@ returns-in_ok-push-in-Element c behind =
     let inside : c.in_ok-inside-in-Element.inside ≡ scope =
     c.in_ok-inside-in-Element.ensures ∙ ap (λ xs. declared_all (map written_of xs) c.unwrap_or-around.result.now) c.as_slice.ensures.value
     ∙ ap (declared_all attributes) around in
-    let wrong : c.in_ok-is_wrong-in-Element.is_wrong ≡ is_wrong_element scope name =
-    c.in_ok-is_wrong-in-Element.ensures ∙ ap (λ s. is_wrong_element s name) inside in
+    let wrong : c.is_wrong_element-is_wrong.result ≡ is_wrong_element scope name =
+    c.is_wrong_element-is_wrong.ensures ∙ ap (λ s. is_wrong_element s name) inside in
     let deep : c.is_too_deep-is_deep.result ≡ nat_lt greatest_depth (depth + length scopes) =
     c.is_too_deep-is_deep.ensures ∙ ap (λ n. nat_lt greatest_depth (depth + n)) (omega (arith, length-reverse items, c.args.scopes.now.ok.0)) in
     let own : found_of c.check_attributes.new.found ≡ merged (found_of c.keep_if-in-Element.new.found) (least (attribute_faults scope [] lines.items attributes)) =

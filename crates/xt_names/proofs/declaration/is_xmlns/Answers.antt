@@ -14,6 +14,4 @@ unfolding chars
 word_chars = refl
 
 pub returns : goal.returns
-returns c =
-    c.eq.ensures ∙ same_chars c.as_str.result.now (codes "xmlns") c.as_str.utf8 word_utf8
-    ∙ ap (bytes_eq (chars c.as_str.result.now)) word_chars ∙ ap (λ t. bytes_eq t (codes "xmlns")) c.as_str.ensures.characters
+returns c = c.eq.ensures ∙ same_chars c.args.text.now (codes "xmlns") c.utf8.text word_utf8 ∙ ap (bytes_eq (chars c.args.text.now)) word_chars

@@ -5,7 +5,7 @@ use Rattle.spec_document.specs.Forest.{Written}
 use Rattle.spec_document.specs.Declaration.{is_declaration}
 use Rattle.xt_tree.specs.View.{written_of}
 use Rattle.xt_tree.proofs.part.own_attributes.Goals as goal
-use Rattle.xt_tree.proofs.part.own_attributes.Goals.{then-not-branch+in_ok-push, else-not-branch}
+use Rattle.xt_tree.proofs.part.own_attributes.Goals.{then-not-is_declaration+in_ok-push, else-not-is_declaration}
 
 kept : (keep : Written → Bool) (old new xs whole : List Written) (x : Written) → keep x ≡ true → new ≡ old ++ (x ∷ []) → old ++ filter keep (x ∷ xs) ≡ whole → new ++ filter keep xs ≡ whole
 kept keep old new xs whole x k n h =
@@ -22,14 +22,14 @@ loop-attribute-preserved c =
     let rest = map written_of (drop (c.loop-attribute.attribute-index + 1) all) in
     let at = sym (at_drop_more (λ xs. old ++ filter (λ a. not (is_declaration a)) (map written_of xs)) all c.loop-attribute.attribute-index item (omega arith)) ∙ c.loop-attribute.invariant in
     let here = rw (← c.attribute-item.is) at at in
-    let same : c.in_ok-is_declaration.field-0 ≡ is_declaration (written_of item)
-    = c.in_ok-is_declaration.ensures ∙ ap (λ (n : List ℕ). is_declaration (record { name = n; value = [] })) c.as_str.ensures.characters in
-    elim c.if-not-branch.branch [
-      | then-not-branch+in_ok-push w ↦
+    let same : c.is_declaration.result ≡ is_declaration (written_of item)
+    = c.is_declaration.ensures ∙ ap (λ (n : List ℕ). is_declaration (record { name = n; value = [] })) c.as_str.ensures.characters in
+    elim c.if-not-is_declaration.branch [
+      | then-not-is_declaration+in_ok-push w ↦
           ap (λ l. map (λ a. written_of a.now) l.items ++ filter (λ a. not (is_declaration a)) rest) w.list-is
-          ∙ kept (λ a. not (is_declaration a)) old (map (λ a. written_of a.now) w.push.new.self.items) rest _ (written_of item) (ap not (sym same ∙ w.if-not-branch.true))
+          ∙ kept (λ a. not (is_declaration a)) old (map (λ a. written_of a.now) w.push.new.self.items) rest _ (written_of item) (ap not (sym same ∙ w.if-not-is_declaration.true))
           (ap (map (λ a. written_of a.now)) (w.in_ok-push.ensures {u = tt}).items ∙ map-append (λ a. written_of a.now) c.loop-attribute.list.items _) here
-      | else-not-branch w ↦
+      | else-not-is_declaration w ↦
           ap (λ l. map (λ a. written_of a.now) l.items ++ filter (λ a. not (is_declaration a)) rest) w.list-is
-          ∙ left_out (λ a. not (is_declaration a)) old rest _ (written_of item) (ap not (sym same ∙ w.if-not-branch.false)) here
+          ∙ left_out (λ a. not (is_declaration a)) old rest _ (written_of item) (ap not (sym same ∙ w.if-not-is_declaration.false)) here
     ]

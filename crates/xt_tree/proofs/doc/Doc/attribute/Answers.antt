@@ -1,4 +1,4 @@
-use Rattle.std.proofs.Common.{◌≡◌, ◌==◌, false, ◌∙◌, sym, ap, Some, Result, Ok, Err, IfOk}
+use Rattle.std.proofs.Common.{◌≡◌, ◌==◌, false, ◌∙◌, sym, ap, Some}
 use Rattle.spec_document.specs.Place.{at_number, attributes_in}
 use Rattle.xt_tree.specs.View.{forest_of, first_tree, tree_of}
 use Rattle.xt_tree.proofs.Views.{view-Node}
@@ -12,17 +12,10 @@ returns-in-None c x e =
     let same = ap (λ xs. first_tree c.args.id.number (forest_of xs)) c.as_slice.ensures.value ∙ ap (λ e. first_tree c.args.id.number e.nodes) c.self.view_is in
     absurd (no_tree d c.args.id.number x apart e (sym same ∙ sym c.in-None.ensures))
 
-more_known : {A E : Type 0} (P Q : A → Type 0) (r : Result A E) → ((a : A) → P a → Q a) → IfOk r P → IfOk r Q
-more_known P Q (Ok a) h p = h a p
-more_known P Q (Err e) h p = p
-
 pub returns-in-Some : goal.returns-in-Some
-returns-in-Some c =
+returns-in-Some c x e =
     let d = c.args.self.now in
     let apart : (d.root == c.args.id.number) ≡ false = ap (λ e. e.root == c.args.id.number) (sym c.self.view_is) ∙ sym c.eq.ensures ∙ c.if-eq.false in
     let same = ap (λ xs. first_tree c.args.id.number (forest_of xs)) c.as_slice.ensures.value ∙ ap (λ e. first_tree c.args.id.number e.nodes) c.self.view_is in
-    more_known _ _ c.attribute_at.result
-    (λ found known x e.
     let is = is_tree d c.args.id.number x (tree_of c.in-Some.node.now) apart e (sym same ∙ sym c.in-Some.ensures) in
-    known ∙ sym (ap (λ o. at_number c.args.number (attributes_in o)) (is.content ∙ ap (λ t. Some t.content) (view-Node c.in-Some.node.now))))
-    c.attribute_at.ensures
+    c.attribute_at.ensures ∙ sym (ap (λ o. at_number c.args.number (attributes_in o)) (is.content ∙ ap (λ t. Some t.content) (view-Node c.in-Some.node.now)))
