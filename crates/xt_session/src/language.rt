@@ -400,7 +400,7 @@ fn has_name(
 ) -> Result<bool, Memory>
     ensures { IfOk result (λ is. is ≡ spec.has_name local.now name.now (map written_of attributes.now)) }
 {
-    let Some(name) = QName::read(alloc, name.as_str())? else {
+    let Some(name) = QName::read(name.as_str()) else {
         return Ok(false);
     };
     let expanded = scope_inside(alloc, attributes)?.element_name(alloc, &name)?;
