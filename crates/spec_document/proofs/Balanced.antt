@@ -1,5 +1,6 @@
 -- Whether events are balanced, found from the left: what stands to the right of each place decides the same.
-use Rattle.std.proofs.Common.{◌≡◌, ℕ, Bool, true, false, cond, List, [], ◌∷◌, ◌++◌, map, drop, arith, Option, None, Some, refl, sym, ap, subst, ◌∙◌, append_assoc, append-nil}
+use Rattle.std.proofs.Common.{◌≡◌, ℕ, Bool, true, false, cond, List, [], ◌∷◌, ◌++◌, map, drop, arith, Option, None, Some, refl, sym, ap}
+use Rattle.std.proofs.Common.{subst, ◌∙◌, append_assoc, append-nil}
 use Rattle.std.specs.Prelude.{◌&&◌, ◌||◌, bytes_eq, is_some, IsSome, if◌then◌else◌}
 use Rattle.std.specs.Option.{option_and_then, is_none}
 use Rattle.std.proofs.lemmas.Bool.Decides.{same_from_decides}
@@ -7,7 +8,8 @@ use Rattle.std.proofs.lemmas.Slice.Eq.{bytes_eq-Decides}
 use Rattle.spec_document.specs.declared.event.Event.{Event}
 use Rattle.spec_document.specs.declared.event.Event.TheVariants.{Start, Attribute, Data, Instruction as InstructionEvent, End, Comment as CommentEvent}
 use Rattle.spec_document.specs.Forest.{Written, Element, Instruction, Comment, Forest, Empty, Node, joined}
-use Rattle.spec_document.specs.Balance.{LineNumbers, Rest, with_event, started, rest_of, closed, forest_of, alone, open_behind, takes_attributes, is_innermost, may_follow, unbalanced_line, CanGoOn, IsUnbalanced, refused, unended}
+use Rattle.spec_document.specs.Balance.{LineNumbers, Rest, with_event, started, rest_of, closed, forest_of, alone, open_behind, takes_attributes}
+use Rattle.spec_document.specs.Balance.{is_innermost, may_follow, unbalanced_line, CanGoOn, IsUnbalanced, refused, unended}
 
 -- ---- From the left
 
@@ -26,7 +28,8 @@ scan_is_line : (before : Option (Event (List ℕ))) (names : List (List ℕ)) (e
 scan_is_line before [] [] line h = absurd (cc)
 scan_is_line before (name ∷ names) [] line h = cc
 scan_is_line before names (e ∷ events) line h =
-    elim (may_follow before names e.1) as (λ m. cond m (scan (Some e.1) (open_behind e.1 names) events) (Some e.0) ≡ Some line → cond m (unbalanced_line (Some e.1) (open_behind e.1 names) events) e.0 ≡ line) [
+    elim (may_follow before names e.1) as (λ m. cond m (scan (Some e.1) (open_behind e.1 names) events) (Some e.0) ≡ Some line
+    → cond m (unbalanced_line (Some e.1) (open_behind e.1 names) events) e.0 ≡ line) [
       | true ↦ λ h. scan_is_line (Some e.1) (open_behind e.1 names) events line h
       | false ↦ λ h. cc
     ] h
@@ -61,12 +64,19 @@ name_comm a b =
     same_from_decides (bytes_eq a b) (bytes_eq b a) (bytes_eq-Decides a b)
     (λ e. sym ((bytes_eq-Decides b a).0 e), λ e. (bytes_eq-Decides b a).1 (sym e))
 
-start_step : (line : ℕ) (name : List ℕ) (more : List (ℕ × Written)) (f : Forest LineNumbers) (behind : List (List ℕ × Forest LineNumbers)) (takes : Bool) (names : List (List ℕ))
+start_step : (line : ℕ) (name : List ℕ) (more : List (ℕ × Written)) (f : Forest LineNumbers) (behind : List (List ℕ × Forest LineNumbers))
+    (takes : Bool) (names : List (List ℕ))
     → (same_names (name ∷ names) (map (λ end. end.0) behind) && true) ≡ fits takes names (started line name more f behind)
 start_step line name more f [] takes names = refl
 start_step line name more f (end ∷ behind) takes names =
     elim (bytes_eq name end.0) as (λ t. ((t && same_names names (map (λ end. end.0) behind)) && true)
-    ≡ fits takes names (cond t (Some (record { attributes = []; siblings = Node (record { first = line; attributes = map (λ a. a.0) more }) (Element name (map (λ a. a.1) more)) f end.1; behind = behind })) None)) [
+    ≡ fits takes names (cond t
+    (Some (record {
+      attributes = [];
+      siblings =
+          Node (record { first = line; attributes = map (λ a. a.0) more }) (Element name (map (λ a. a.1) more)) f end.1;
+      behind = behind;
+    })) None)) [
       | true ↦ and_or (same_names names (map (λ end. end.0) behind)) takes
       | false ↦ refl
     ]
@@ -76,13 +86,15 @@ attribute_step s true = refl
 attribute_step s false = sym (and_false s)
 
 leaf_step : (more : List (ℕ × Written)) (front : Rest) (takes : Bool) (names : List (List ℕ)) → front.attributes ≡ more
-    → (same_names names (map (λ end. end.0) front.behind) && none_left more) ≡ fits takes names (elim more [ [] ↦ Some front | a ∷ others ↦ None ])
+    → (same_names names (map (λ end. end.0) front.behind) && none_left more)
+    ≡ fits takes names (elim more [ [] ↦ Some front | a ∷ others ↦ None ])
 leaf_step [] front takes names e =
     and_or (same_names names (map (λ end. end.0) front.behind)) takes
     ∙ ap (λ attributes. same_names names (map (λ end. end.0) front.behind) && (takes || none_left attributes)) (sym e)
 leaf_step (a ∷ more) front takes names e = and_false (same_names names (map (λ end. end.0) front.behind))
 
-end_step : (name : List ℕ) (more : List (ℕ × Written)) (f : Forest LineNumbers) (behind : List (List ℕ × Forest LineNumbers)) (takes : Bool) (names : List (List ℕ))
+end_step : (name : List ℕ) (more : List (ℕ × Written)) (f : Forest LineNumbers) (behind : List (List ℕ × Forest LineNumbers)) (takes : Bool)
+    (names : List (List ℕ))
     → cond (is_innermost name names) (same_names (drop 1 names) (map (λ end. end.0) behind) && none_left more) false
     ≡ fits takes names (elim more [ [] ↦ Some (record { attributes = []; siblings = Empty; behind = (name, f) ∷ behind }) | a ∷ others ↦ None ])
 end_step name [] f behind takes [] = refl
@@ -102,16 +114,21 @@ end_step name (a ∷ more) f behind takes (n ∷ names) =
     ]
 
 event_step : (line : ℕ) (e : Event (List ℕ)) (before : Option (Event (List ℕ))) (names : List (List ℕ)) (r : Rest)
-    → cond (may_follow before names e) (fits (takes_attributes (Some e)) (open_behind e names) (Some r)) false ≡ fits (takes_attributes before) names (with_event line e r)
+    → cond (may_follow before names e) (fits (takes_attributes (Some e)) (open_behind e names) (Some r)) false
+    ≡ fits (takes_attributes before) names (with_event line e r)
 event_step line (Start name) before names r = start_step line name r.attributes r.siblings r.behind (takes_attributes before) names
 event_step line (Attribute name value) before names r = attribute_step (same_names names (map (λ end. end.0) r.behind)) (takes_attributes before)
-event_step line (Data text) before names r = leaf_step r.attributes (record r { siblings = joined (alone line) text r.siblings }) (takes_attributes before) names refl
-event_step line (InstructionEvent target text) before names r = leaf_step r.attributes (record r { siblings = Node (alone line) (Instruction target text) Empty r.siblings }) (takes_attributes before) names refl
+event_step line (Data text) before names r =
+    leaf_step r.attributes (record r { siblings = joined (alone line) text r.siblings }) (takes_attributes before) names refl
+event_step line (InstructionEvent target text) before names r =
+    leaf_step r.attributes (record r { siblings = Node (alone line) (Instruction target text) Empty r.siblings }) (takes_attributes before) names refl
 event_step line (End name) before names r = end_step name r.attributes r.siblings r.behind (takes_attributes before) names
-event_step line (CommentEvent text) before names r = leaf_step r.attributes (record r { siblings = Node (alone line) (Comment text) Empty r.siblings }) (takes_attributes before) names refl
+event_step line (CommentEvent text) before names r =
+    leaf_step r.attributes (record r { siblings = Node (alone line) (Comment text) Empty r.siblings }) (takes_attributes before) names refl
 
 option_step : (line : ℕ) (e : Event (List ℕ)) (before : Option (Event (List ℕ))) (names : List (List ℕ)) (r : Option Rest)
-    → cond (may_follow before names e) (fits (takes_attributes (Some e)) (open_behind e names) r) false ≡ fits (takes_attributes before) names (option_and_then (with_event line e) r)
+    → cond (may_follow before names e) (fits (takes_attributes (Some e)) (open_behind e names) r) false
+    ≡ fits (takes_attributes before) names (option_and_then (with_event line e) r)
 option_step line e before names None = neither (may_follow before names e)
   where
     neither : (t : Bool) → cond t false false ≡ false
@@ -121,7 +138,8 @@ option_step line e before names (Some r) = event_step line e before names r
 
 -- ---- Both are one
 
-nothing_open : (names : List (List ℕ)) (takes : Bool) → is_none (missing names) ≡ fits takes names (Some (record { attributes = []; siblings = Empty; behind = [] }))
+nothing_open : (names : List (List ℕ)) (takes : Bool)
+    → is_none (missing names) ≡ fits takes names (Some (record { attributes = []; siblings = Empty; behind = [] }))
 nothing_open [] takes = and_or true takes
 nothing_open (name ∷ names) takes = refl
 
@@ -151,8 +169,10 @@ forest_fits (Some r) = closed_fits r.attributes r.siblings r.behind
 pub balanced : (events : List (ℕ × Event (List ℕ))) → scan None [] events ≡ None → is_some (forest_of events) ≡ true
 balanced events h = forest_fits (rest_of events) ∙ sym (scan_fits None [] events) ∙ ap is_none h
 
-pub not_balanced : (events : List (ℕ × Event (List ℕ))) (line : ℕ) → scan None [] events ≡ Some line → (forest_of events ≡ None) × (unbalanced_line None [] events ≡ line)
-not_balanced events line h = (none (forest_of events) (forest_fits (rest_of events) ∙ sym (scan_fits None [] events) ∙ ap is_none h), scan_is_line None [] events line h)
+pub not_balanced : (events : List (ℕ × Event (List ℕ))) (line : ℕ) → scan None [] events ≡ Some line
+    → (forest_of events ≡ None) × (unbalanced_line None [] events ≡ line)
+not_balanced events line h =
+    (none (forest_of events) (forest_fits (rest_of events) ∙ sym (scan_fits None [] events) ∙ ap is_none h), scan_is_line None [] events line h)
   where
     none : (o : Option (Forest LineNumbers)) → is_some o ≡ false → o ≡ None
     none None e = refl
@@ -163,7 +183,8 @@ not_balanced events line h = (none (forest_of events) (forest_fits (rest_of even
 ended : (names : List (List ℕ)) (before : Option (Event (List ℕ))) → scan before names (map (λ name. (0, End name)) names) ≡ None
 ended [] before = refl
 ended (name ∷ names) before =
-    ap (λ t. cond t (scan (Some (End name)) names (map (λ name. (0, End name)) names)) (Some 0)) ((bytes_eq-Decides name name).1 refl) ∙ ended names (Some (End name))
+    ap (λ t. cond t (scan (Some (End name)) names (map (λ name. (0, End name)) names)) (Some 0)) ((bytes_eq-Decides name name).1 refl)
+    ∙ ended names (Some (End name))
 
 -- what stands before a place leaves these names open
 pub record Leaves (ps : List (ℕ × Event (List ℕ))) (before : Option (Event (List ℕ))) (names : List (List ℕ)) : Type 0 where
@@ -175,29 +196,37 @@ goes_on ps before names h =
     let more = map (λ name. (0, End name)) names in
     (more, (balanced (ps ++ more) (h.scanned more ∙ ended names before)))
 
-one_more : (ps : List (ℕ × Event (List ℕ))) (before : Option (Event (List ℕ))) (names : List (List ℕ)) (e : ℕ × Event (List ℕ)) → Leaves ps before names
+one_more : (ps : List (ℕ × Event (List ℕ))) (before : Option (Event (List ℕ))) (names : List (List ℕ)) (e : ℕ × Event (List ℕ))
+    → Leaves ps before names
     → may_follow before names e.1 ≡ true → Leaves (ps ++ e ∷ []) (Some e.1) (open_behind e.1 names)
 one_more ps before names e h follows = record {
-  scanned = λ es. ap (scan None []) (append_assoc ps (e ∷ []) es) ∙ h.scanned (e ∷ es) ∙ ap (λ t. cond t (scan (Some e.1) (open_behind e.1 names) es) (Some e.0)) follows;
-  lines = λ es. ap (unbalanced_line None []) (append_assoc ps (e ∷ []) es) ∙ h.lines (e ∷ es) ∙ ap (λ t. cond t (unbalanced_line (Some e.1) (open_behind e.1 names) es) e.0) follows;
+  scanned = λ es. ap (scan None []) (append_assoc ps (e ∷ []) es) ∙ h.scanned (e ∷ es)
+      ∙ ap (λ t. cond t (scan (Some e.1) (open_behind e.1 names) es) (Some e.0)) follows;
+  lines = λ es. ap (unbalanced_line None []) (append_assoc ps (e ∷ []) es) ∙ h.lines (e ∷ es)
+      ∙ ap (λ t. cond t (unbalanced_line (Some e.1) (open_behind e.1 names) es) e.0) follows;
 }
 
 none_there : {A : Type 0} (o : Option A) → o ≡ None → IsSome o → ⊥
 none_there None e h = cc
 none_there (Some x) e h = cc
 
-stops : (ps : List (ℕ × Event (List ℕ))) (before : Option (Event (List ℕ))) (names : List (List ℕ)) (e : ℕ × Event (List ℕ)) → Leaves ps before names
+stops : (ps : List (ℕ × Event (List ℕ))) (before : Option (Event (List ℕ))) (names : List (List ℕ)) (e : ℕ × Event (List ℕ))
+    → Leaves ps before names
     → may_follow before names e.1 ≡ false → CanGoOn (ps ++ e ∷ []) → ⊥
 stops ps before names e h bad can =
-    let all = ap (scan None []) (append_assoc ps (e ∷ []) can.0) ∙ h.scanned (e ∷ can.0) ∙ ap (λ t. cond t (scan (Some e.1) (open_behind e.1 names) can.0) (Some e.0)) bad in
+    let all = ap (scan None []) (append_assoc ps (e ∷ []) can.0) ∙ h.scanned (e ∷ can.0)
+    ∙ ap (λ t. cond t (scan (Some e.1) (open_behind e.1 names) can.0) (Some e.0)) bad in
     none_there (forest_of ((ps ++ e ∷ []) ++ can.0)) (not_balanced ((ps ++ e ∷ []) ++ can.0) e.0 all).0 can.1
 
-first_from : (ps : List (ℕ × Event (List ℕ))) (before : Option (Event (List ℕ))) (names : List (List ℕ)) (es : List (ℕ × Event (List ℕ))) → Leaves ps before names
+first_from : (ps : List (ℕ × Event (List ℕ))) (before : Option (Event (List ℕ))) (names : List (List ℕ)) (es : List (ℕ × Event (List ℕ)))
+    → Leaves ps before names
     → IsUnbalanced (ps ++ es) (unbalanced_line before names es)
 first_from ps before names [] h = unended refl (subst CanGoOn (sym (append-nil ps)) (goes_on ps before names h))
 first_from ps before names (e ∷ es) h =
-    elim (may_follow before names e.1) as (λ t. may_follow before names e.1 ≡ t → IsUnbalanced (ps ++ e ∷ es) (cond t (unbalanced_line (Some e.1) (open_behind e.1 names) es) e.0)) [
-      | true ↦ λ follows. subst (λ (all : List (ℕ × Event (List ℕ))). IsUnbalanced all (unbalanced_line (Some e.1) (open_behind e.1 names) es)) (append_assoc ps (e ∷ []) es)
+    elim (may_follow before names e.1) as (λ t. may_follow before names e.1 ≡ t
+    → IsUnbalanced (ps ++ e ∷ es) (cond t (unbalanced_line (Some e.1) (open_behind e.1 names) es) e.0)) [
+      | true ↦ λ follows. subst (λ (all : List (ℕ × Event (List ℕ))). IsUnbalanced all (unbalanced_line (Some e.1) (open_behind e.1 names) es))
+          (append_assoc ps (e ∷ []) es)
           (first_from (ps ++ e ∷ []) (Some e.1) (open_behind e.1 names) es (one_more ps before names e h follows))
       | false ↦ λ bad. refused ps es e.1 refl (goes_on ps before names h) (stops ps before names e h bad)
     ] refl

@@ -1,9 +1,11 @@
 -- The events that are written for a forest are that forest.
 use Rattle.std.proofs.Common.{◌≡◌, ◌≢◌, ℕ, List, [], ◌∷◌, refl, sym, subst}
 use Rattle.spec_document.specs.declared.event.Event.{Event}
-use Rattle.spec_document.specs.Forest.{Content, Element, Text, Comment, Instruction, Forest, Empty, Node, Plain, plain, with_text, IsForestOf, is_empty, is_element, is_text, is_comment, is_instruction, IsNoText, IsNormal, written}
+use Rattle.spec_document.specs.Forest.{Content, Element, Text, Comment, Instruction, Forest, Empty, Node, Plain, plain, with_text, IsForestOf, is_empty}
+use Rattle.spec_document.specs.Forest.{is_element, is_text, is_comment, is_instruction, IsNoText, IsNormal, written}
 
-text_alone : {L : Type 0} (text : List ℕ) (f : Forest L) → text ≢ [] → IsNoText f → Node tt (Text text) Empty (plain f) ≡ with_text text (plain f)
+text_alone : {L : Type 0} (text : List ℕ) (f : Forest L) → text ≢ [] → IsNoText f
+    → Node tt (Text text) Empty (plain f) ≡ with_text text (plain f)
 text_alone [] f some apart = absurd (some refl)
 text_alone (c ∷ cs) Empty some apart = refl
 text_alone (c ∷ cs) (Node l (Text t) children siblings) some apart = absurd apart

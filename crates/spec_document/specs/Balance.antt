@@ -1,5 +1,6 @@
 -- Which forest the events of a body are, where they are balanced; else the line of the first that may not follow.
-use Rattle.std.specs.Prelude.{◌≡◌, ◌++◌, IsSome, ℕ, Bool, true, false, List, [], ◌∷◌, map, drop, Option, None, Some, if◌then◌else◌, bytes_eq}
+use Rattle.std.specs.Prelude.{◌≡◌, ◌++◌, IsSome, ℕ, Bool, true, false, List, [], ◌∷◌, map, drop, Option, None, Some, if◌then◌else◌}
+use Rattle.std.specs.Prelude.{bytes_eq}
 use Rattle.std.specs.Option.{option_and_then}
 use Rattle.spec_document.specs.declared.event.Event.{Event}
 use Rattle.spec_document.specs.declared.event.Event.TheVariants.{Start, Attribute, Data, Instruction as InstructionEvent, End, Comment as CommentEvent}
@@ -40,8 +41,10 @@ abbrev pub with_event : ℕ → Event (List ℕ) → Rest → Option Rest
 with_event line (Start name) rest = started line name rest.attributes rest.siblings rest.behind
 with_event line (Attribute name value) rest = Some (record rest { attributes = (line, record { name = name; value = value }) ∷ rest.attributes })
 with_event line (Data text) rest = unless_attributes rest (Some (record rest { siblings = joined (alone line) text rest.siblings }))
-with_event line (InstructionEvent target text) rest = unless_attributes rest (Some (record rest { siblings = Node (alone line) (Instruction target text) Empty rest.siblings }))
-with_event line (End name) rest = unless_attributes rest (Some (record { attributes = []; siblings = Empty; behind = (name, rest.siblings) ∷ rest.behind }))
+with_event line (InstructionEvent target text) rest =
+    unless_attributes rest (Some (record rest { siblings = Node (alone line) (Instruction target text) Empty rest.siblings }))
+with_event line (End name) rest =
+    unless_attributes rest (Some (record { attributes = []; siblings = Empty; behind = (name, rest.siblings) ∷ rest.behind }))
 with_event line (CommentEvent text) rest = unless_attributes rest (Some (record rest { siblings = Node (alone line) (Comment text) Empty rest.siblings }))
 
 abbrev pub rest_of : List (ℕ × Event (List ℕ)) → Option Rest
@@ -92,6 +95,7 @@ CanGoOn events = (more : List (ℕ × Event (List ℕ))) × IsSome (forest_of (e
 
 -- which line is at fault: that of the first event with which they cannot go on, or none where they can
 pub data IsUnbalanced (events : List (ℕ × Event (List ℕ))) (line : ℕ) : Type 0 where
-  refused : (before after : List (ℕ × Event (List ℕ))) → (event : Event (List ℕ)) → events ≡ before ++ (line, event) ∷ after → CanGoOn before
+  refused : (before after : List (ℕ × Event (List ℕ))) → (event : Event (List ℕ)) → events ≡ before ++ (line, event) ∷ after
+      → CanGoOn before
       → (CanGoOn (before ++ (line, event) ∷ []) → ⊥) → IsUnbalanced events line
   unended : line ≡ 0 → CanGoOn events → IsUnbalanced events line

@@ -14,14 +14,16 @@ use Rattle.xt_build.specs.Least.{merged}
 use Rattle.xt_build.proofs.Least.{merged-assoc, least-append}
 use Rattle.xt_build.proofs.Levels.{at_level, left, Opens, Stands, IsNoElement}
 
-no-element-line : (l : LineNumbers) (content : Held) (f g : Forest LineNumbers) → IsNoElement content → elements_at_top (Node l (content_of content) f g) ≡ elements_at_top g
+no-element-line : (l : LineNumbers) (content : Held) (f g : Forest LineNumbers) → IsNoElement content
+    → elements_at_top (Node l (content_of content) f g) ≡ elements_at_top g
 no-element-line l (held.Element name attributes) f g other = absurd (other name attributes refl)
 no-element-line l (held.Text text) f g other = refl
 no-element-line l (held.Comment text) f g other = refl
 no-element-line l (held.Instruction target text) f g other = refl
 
 -- a node that is no element adds no line
-pub elements-Stands : (ps : List Code) (n level : ℕ) (l : LineNumbers) (content : Held) → IsNoElement content → Stands ps n level l (content_of content)
+pub elements-Stands : (ps : List Code) (n level : ℕ) (l : LineNumbers) (content : Held) → IsNoElement content
+    → Stands ps n level l (content_of content)
     → elements_at_top (at_level level (left ps n)) ≡ elements_at_top (at_level level (left ps (n + 1)))
 elements-Stands ps n zero l content other s = ap elements_at_top s.top ∙ no-element-line l content Empty (at_level 0 (left ps (n + 1))) other
 elements-Stands ps n (suc k) l content other s = ap elements_at_top (s.below (omega arith))
@@ -39,7 +41,8 @@ texts-Stands ps n l t found s =
     ∙ sym (ap (λ f. merged found (least (text_faults f))) s.top)
 
 -- an element has no fault as a text
-pub texts-Opens : (ps : List Code) (n level : ℕ) (l : LineNumbers) (name : List ℕ) (attributes : List Written) → Opens ps n level l (Element name attributes)
+pub texts-Opens : (ps : List Code) (n level : ℕ) (l : LineNumbers) (name : List ℕ) (attributes : List Written)
+    → Opens ps n level l (Element name attributes)
     → text_faults (at_level level (left ps n)) ≡ text_faults (at_level (level + 1) (left ps (n + 1)))
 texts-Opens ps n zero l name attributes o = ap text_faults o.top
 texts-Opens ps n (suc k) l name attributes o = ap text_faults (o.below (omega arith))
@@ -47,7 +50,8 @@ texts-Opens ps n (suc k) l name attributes o = ap text_faults (o.below (omega ar
 abbrev pub IsNoText : Held → Type 0
 IsNoText content = (text : List ℕ) → content ≡ held.Text text → ⊥
 
-no-text : (l : LineNumbers) (content : Held) (f g : Forest LineNumbers) → IsNoText content → text_faults (Node l (content_of content) f g) ≡ text_faults g
+no-text : (l : LineNumbers) (content : Held) (f g : Forest LineNumbers) → IsNoText content
+    → text_faults (Node l (content_of content) f g) ≡ text_faults g
 no-text l (held.Element name attributes) f g other = refl
 no-text l (held.Text text) f g other = absurd (other text refl)
 no-text l (held.Comment text) f g other = refl

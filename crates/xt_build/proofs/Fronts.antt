@@ -1,5 +1,6 @@
 -- What events say, with the pieces of the first of them in front of what the others say.
-use Rattle.std.proofs.Common.{◌≡◌, ℕ, suc, ◌+◌, ◌<◌, Bool, true, false, cond, List, [], ◌∷◌, ◌++◌, map, length, drop, Option, Some, None, refl, sym, ap, ◌∙◌, subst, arith, append_assoc}
+use Rattle.std.proofs.Common.{◌≡◌, ℕ, suc, ◌+◌, ◌<◌, Bool, true, false, cond, List, [], ◌∷◌, ◌++◌, map, length, drop, Option, Some}
+use Rattle.std.proofs.Common.{None, refl, sym, ap, ◌∙◌, subst, arith, append_assoc}
 use Rattle.std.specs.Prelude.{bytes_eq}
 use Rattle.std.specs.Option.{option_and_then}
 use Rattle.spec_document.specs.declared.event.Event.{Event}
@@ -36,7 +37,8 @@ closed-append (Begins l (Text t) ∷ ps) qs b h g = closed-append ps qs b h g
 closed-append (Begins l (Comment t) ∷ ps) qs b h g = closed-append ps qs b h g
 closed-append (Begins l (Instruction n t) ∷ ps) qs b h g = closed-append ps qs b h g
 
-pub fronted-stands : (o behind : Option Rest) (ps qs : List Piece) (whole : Rest) → Fronted o qs behind → Stands o ps whole → Stands behind (ps ++ qs) whole
+pub fronted-stands : (o behind : Option Rest) (ps qs : List Piece) (whole : Rest) → Fronted o qs behind → Stands o ps whole
+    → Stands behind (ps ++ qs) whole
 fronted-stands None behind ps qs whole h s = absurd s
 fronted-stands (Some r) None ps qs whole h s = absurd h
 fronted-stands (Some r) (Some b) ps qs whole h s = (
@@ -49,12 +51,21 @@ abbrev pub AttributesAre : Option Rest → List (ℕ × Written) → Type 0
 AttributesAre None own = Unit {0}
 AttributesAre (Some r) own = r.attributes ≡ own
 
-start-attributes : (line : ℕ) (name : List ℕ) (own : List (ℕ × Written)) (s : Forest LineNumbers) (b : List (List ℕ × Forest LineNumbers)) → AttributesAre (started line name own s b) []
+start-attributes : (line : ℕ) (name : List ℕ) (own : List (ℕ × Written)) (s : Forest LineNumbers) (b : List (List ℕ × Forest LineNumbers))
+    → AttributesAre (started line name own s b) []
 start-attributes line name own s [] = tt
 start-attributes line name own s (end ∷ b) =
-    elim (bytes_eq name end.0) as (λ t. AttributesAre (cond t (Some (record { attributes = []; siblings = Node (record { first = line; attributes = map (λ a. a.0) own }) (Element name (map (λ a. a.1) own)) s end.1; behind = b })) None) []) [ true ↦ refl | false ↦ tt ]
+    elim (bytes_eq name end.0) as (λ t. AttributesAre
+    (cond t (Some (record {
+      attributes = [];
+      siblings =
+          Node (record { first = line; attributes = map (λ a. a.0) own }) (Element name (map (λ a. a.1) own)) s end.1;
+      behind = b;
+    })) None) [])
+    [ true ↦ refl | false ↦ tt ]
 
-unless-attributes : (own : List (ℕ × Written)) (front : Rest) → (own ≡ [] → front.attributes ≡ []) → AttributesAre (elim own [ [] ↦ Some front | a ∷ more ↦ None ]) []
+unless-attributes : (own : List (ℕ × Written)) (front : Rest) → (own ≡ [] → front.attributes ≡ [])
+    → AttributesAre (elim own [ [] ↦ Some front | a ∷ more ↦ None ]) []
 unless-attributes [] front h = h refl
 unless-attributes (a ∷ own) front h = tt
 
@@ -68,8 +79,10 @@ attributes-one line (End n) r es h = unless-attributes r.attributes _ (λ e. ref
 attributes-one line (CommentEvent t) r es h = unless-attributes r.attributes _ (λ e. e)
 
 -- one attribute more has been taken from the front
-pub attributes-taken : {X : Type 0} (f : ℕ × Written → X) (old new : List X) (line : ℕ) (e : Event (List ℕ)) (w : Written) (es : List (ℕ × Event (List ℕ))) (whole : List X)
-    → e ≡ Attribute w.name w.value → old ++ map f (attributes_first ((line, e) ∷ es)) ≡ whole → new ≡ old ++ (f (line, w) ∷ []) → new ++ map f (attributes_first es) ≡ whole
+pub attributes-taken : {X : Type 0} (f : ℕ × Written → X) (old new : List X) (line : ℕ) (e : Event (List ℕ)) (w : Written)
+    (es : List (ℕ × Event (List ℕ))) (whole : List X)
+    → e ≡ Attribute w.name w.value → old ++ map f (attributes_first ((line, e) ∷ es)) ≡ whole → new ≡ old ++ (f (line, w) ∷ [])
+    → new ++ map f (attributes_first es) ≡ whole
 attributes-taken f old new line e w es whole is h n =
     ap (λ xs. xs ++ map f (attributes_first es)) n ∙ append_assoc old (f (line, w) ∷ []) (map f (attributes_first es))
     ∙ ap (λ e. old ++ map f (attributes_first ((line, e) ∷ es))) (sym is) ∙ h
@@ -89,7 +102,13 @@ start-fronted : (line : ℕ) (name : List ℕ) (own : List (ℕ × Written)) (s 
     (Some (record { attributes = own; siblings = s; behind = b }))
 start-fronted line name own s [] = tt
 start-fronted line name own s (end ∷ b) =
-    elim (bytes_eq name end.0) as (λ t. Fronted (cond t (Some (record { attributes = []; siblings = Node (record { first = line; attributes = map (λ a. a.0) own }) (Element name (map (λ a. a.1) own)) s end.1; behind = b })) None)
+    elim (bytes_eq name end.0) as (λ t. Fronted
+    (cond t (Some (record {
+      attributes = [];
+      siblings =
+          Node (record { first = line; attributes = map (λ a. a.0) own }) (Element name (map (λ a. a.1) own)) s end.1;
+      behind = b;
+    })) None)
     (Begins (record { first = line; attributes = map (λ a. a.0) own }) (Element name (map (λ a. a.1) own)) ∷ [])
     (Some (record { attributes = own; siblings = s; behind = end ∷ b }))) [ true ↦ (refl, (omega arith, tt)) | false ↦ tt ]
 
@@ -132,12 +151,21 @@ abbrev pub NoTextFirst : Option Rest → Type 0
 NoTextFirst None = Unit {0}
 NoTextFirst (Some r) = r.attributes ≡ [] → IsNoText r.siblings
 
-start-no_text : (line : ℕ) (name : List ℕ) (own : List (ℕ × Written)) (s : Forest LineNumbers) (b : List (List ℕ × Forest LineNumbers)) → NoTextFirst (started line name own s b)
+start-no_text : (line : ℕ) (name : List ℕ) (own : List (ℕ × Written)) (s : Forest LineNumbers) (b : List (List ℕ × Forest LineNumbers))
+    → NoTextFirst (started line name own s b)
 start-no_text line name own s [] = tt
 start-no_text line name own s (end ∷ b) =
-    elim (bytes_eq name end.0) as (λ t. NoTextFirst (cond t (Some (record { attributes = []; siblings = Node (record { first = line; attributes = map (λ a. a.0) own }) (Element name (map (λ a. a.1) own)) s end.1; behind = b })) None)) [ true ↦ λ _. tt | false ↦ tt ]
+    elim (bytes_eq name end.0) as (λ t. NoTextFirst
+    (cond t (Some (record {
+      attributes = [];
+      siblings =
+          Node (record { first = line; attributes = map (λ a. a.0) own }) (Element name (map (λ a. a.1) own)) s end.1;
+      behind = b;
+    })) None))
+    [ true ↦ λ _. tt | false ↦ tt ]
 
-unless-no_text : (own : List (ℕ × Written)) (front : Rest) → IsNoText front.siblings → NoTextFirst (elim own [ [] ↦ Some front | a ∷ more ↦ None ])
+unless-no_text : (own : List (ℕ × Written)) (front : Rest) → IsNoText front.siblings
+    → NoTextFirst (elim own [ [] ↦ Some front | a ∷ more ↦ None ])
 unless-no_text [] front h = λ _. h
 unless-no_text (a ∷ own) front h = tt
 

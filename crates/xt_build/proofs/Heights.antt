@@ -1,5 +1,6 @@
 -- How deep a forest without faults is.
-use Rattle.std.proofs.Common.{◌≡◌, ◌≤◌, ℕ, ◌+◌, Bool, true, false, List, [], ◌∷◌, ◌++◌, Option, None, max, ltb-false, refl, sym, ap, ◌∙◌, arith}
+use Rattle.std.proofs.Common.{◌≡◌, ◌≤◌, ℕ, ◌+◌, Bool, true, false, List, [], ◌∷◌, ◌++◌, Option, None, max, ltb-false, refl, sym}
+use Rattle.std.proofs.Common.{ap, ◌∙◌, arith}
 use Rattle.std.specs.Prelude.{nat_lt}
 use Rattle.spec_document.specs.Scope.{Scope}
 use Rattle.spec_document.specs.Declaration.{within}
@@ -55,7 +56,8 @@ none-stands : (stands : Bool) (number line : ℕ) → fault_if stands number lin
 none-stands true number line e = absurd (cc)
 none-stands false number line e = refl
 
-within-depth : (scope : Scope) (depth : ℕ) (l : LineNumbers) (name : List ℕ) (a : List Written) → content_faults scope depth l (Element name a) ≡ [] → depth ≤ greatest_depth
+within-depth : (scope : Scope) (depth : ℕ) (l : LineNumbers) (name : List ℕ) (a : List Written) → content_faults scope depth l (Element name a) ≡ []
+    → depth ≤ greatest_depth
 within-depth scope depth l name a e =
     let wrong = fault_if (is_wrong_element scope name) 10 l.first in
     let deep = fault_if (nat_lt greatest_depth depth) 11 l.first in
@@ -65,10 +67,12 @@ within-depth scope depth l name a e =
 taller : (f g depth : ℕ) → f + (depth + 1) ≤ greatest_depth + 2 → g + depth ≤ greatest_depth + 2 → max (1 + f) g + depth ≤ greatest_depth + 2
 taller f g depth below after = omega (arith, below, after)
 
-leaf : {L : Type 0} (f : Forest L) (g depth : ℕ) → f ≡ Empty → depth ≤ greatest_depth + 1 → g + depth ≤ greatest_depth + 2 → max (1 + height f) g + depth ≤ greatest_depth + 2
+leaf : {L : Type 0} (f : Forest L) (g depth : ℕ) → f ≡ Empty → depth ≤ greatest_depth + 1 → g + depth ≤ greatest_depth + 2
+    → max (1 + height f) g + depth ≤ greatest_depth + 2
 leaf f g depth e d after = let none = ap height e in omega (arith, none, d, after)
 
-pub height-fits : (f : Forest LineNumbers) (scope : Scope) (depth : ℕ) → AreBare f → depth ≤ greatest_depth + 1 → node_faults scope depth f ≡ [] → height f + depth ≤ greatest_depth + 2
+pub height-fits : (f : Forest LineNumbers) (scope : Scope) (depth : ℕ) → AreBare f → depth ≤ greatest_depth + 1 → node_faults scope depth f ≡ []
+    → height f + depth ≤ greatest_depth + 2
 height-fits Empty scope depth h d e = omega (arith, d)
 height-fits (Node l (Element name a) f g) scope depth h d e =
     let inside = within (Element name a) scope in
@@ -77,11 +81,16 @@ height-fits (Node l (Element name a) f g) scope depth h d e =
     let fits = within-depth inside depth l name a front.0 in
     taller (height f) (height g) depth (height-fits f inside (depth + 1) h.0 (omega (arith, fits)) front.1) (height-fits g scope depth h.1 d parts.1)
 height-fits (Node l (Text t) f g) scope depth h d e =
-    leaf f (height g) depth h.0 d (height-fits g scope depth h.1 d (both_empty (content_faults scope depth l (Text t) ++ node_faults scope (depth + 1) f) (node_faults scope depth g) e).1)
+    leaf f (height g) depth h.0 d
+    (height-fits g scope depth h.1 d (both_empty (content_faults scope depth l (Text t) ++ node_faults scope (depth + 1) f) (node_faults scope depth g) e).1)
 height-fits (Node l (Comment t) f g) scope depth h d e =
-    leaf f (height g) depth h.0 d (height-fits g scope depth h.1 d (both_empty (content_faults scope depth l (Comment t) ++ node_faults scope (depth + 1) f) (node_faults scope depth g) e).1)
+    leaf f (height g) depth h.0 d
+    (height-fits g scope depth h.1 d
+    (both_empty (content_faults scope depth l (Comment t) ++ node_faults scope (depth + 1) f) (node_faults scope depth g) e).1)
 height-fits (Node l (Instruction n t) f g) scope depth h d e =
-    leaf f (height g) depth h.0 d (height-fits g scope depth h.1 d (both_empty (content_faults scope depth l (Instruction n t) ++ node_faults scope (depth + 1) f) (node_faults scope depth g) e).1)
+    leaf f (height g) depth h.0 d
+    (height-fits g scope depth h.1 d
+    (both_empty (content_faults scope depth l (Instruction n t) ++ node_faults scope (depth + 1) f) (node_faults scope depth g) e).1)
 
 -- ---- The same nodes with numbers, and without the texts at the top
 
@@ -100,7 +109,8 @@ height-kept (Node l (Comment t) f g) = let after = height-kept g in omega (arith
 height-kept (Node l (Instruction n t) f g) = let after = height-kept g in omega (arith, after)
 
 -- what is found of names, then of the number of the root, then of the other numbers: where that is nothing, the names have no fault
-none-found : (top names number numbers more most : Option Fault) (faults : List Fault) → names ≡ merged top (least faults) → number ≡ merged names more → numbers ≡ merged number most
+none-found : (top names number numbers more most : Option Fault) (faults : List Fault) → names ≡ merged top (least faults)
+    → number ≡ merged names more → numbers ≡ merged number most
     → numbers ≡ None → faults ≡ []
 none-found top names number numbers more most faults n m o none =
     let first = (merged_none number most (sym o ∙ none)).0 in
@@ -108,7 +118,8 @@ none-found top names number numbers more most faults n m o none =
     least_none faults (merged_none top (least faults) (sym n ∙ second)).1
 
 pub document-height : (scope : Scope) (first : ℕ) (ps : List Piece) (top names number numbers more most : Option Fault)
-    → names ≡ merged top (least (node_faults scope 1 (forest_in ps))) → number ≡ merged names more → numbers ≡ merged number most → numbers ≡ None
+    → names ≡ merged top (least (node_faults scope 1 (forest_in ps))) → number ≡ merged names more → numbers ≡ merged number most
+    → numbers ≡ None
     → height (numbered first (without_texts (forest_in ps))) ≤ greatest_depth + 1
 document-height scope first ps top names number numbers more most n m o none =
     let f = forest_in ps in

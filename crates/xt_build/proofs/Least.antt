@@ -1,5 +1,6 @@
 -- The least of faults, found in any order.
-use Rattle.std.proofs.Common.{◌≡◌, ℕ, ◌<◌, ◌≤◌, Bool, true, false, cond, List, [], ◌∷◌, ◌++◌, ◌==◌, Option, Some, None, refl, sym, ap, ◌∙◌, arith, inl, inr, eq-eqb, eqb-true, lt-ltb, ltb-false, ltb-true}
+use Rattle.std.proofs.Common.{◌≡◌, ℕ, ◌<◌, ◌≤◌, Bool, true, false, cond, List, [], ◌∷◌, ◌++◌, ◌==◌, Option, Some, None, refl}
+use Rattle.std.proofs.Common.{sym, ap, ◌∙◌, arith, inl, inr, eq-eqb, eqb-true, lt-ltb, ltb-false, ltb-true}
 use Rattle.std.specs.Prelude.{◌⊎◌, ◌&&◌, ◌||◌, nat_lt}
 use Rattle.spec_document.specs.Fault.{Fault, comes_first, least}
 use Rattle.xt_build.specs.Least.{merged}
@@ -117,7 +118,9 @@ low-assoc a b c =
     later h e =
         elim (comes_first a b) as (λ q. comes_first a b ≡ q → comes_first c b ≡ true) [
           | true ↦ λ k. first_of c b (before_trans c a b h (is_before a b k))
-          | false ↦ λ k. ap (comes_first c) (sym (both_same a b (λ x. not_both (comes_first a b) (first_of a b x) k) (λ x. not_both (comes_first b a) (first_of b a x) e))) ∙ first_of c a h
+          | false ↦ λ k. ap (comes_first c)
+              (sym (both_same a b (λ x. not_both (comes_first a b) (first_of a b x) k) (λ x. not_both (comes_first b a) (first_of b a x) e)))
+              ∙ first_of c a h
         ] refl
 
 pub merged-none : (a : Option Fault) → merged a None ≡ a

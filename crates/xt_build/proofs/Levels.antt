@@ -1,6 +1,7 @@
 -- Where a walk over pieces stands: the forests that are open, counted from the inside, and the one that is open below so
 -- many elements. An element whose end is missing is open to the end of the pieces, so there are at most as many forests.
-use Rattle.std.proofs.Common.{◌≡◌, ℕ, suc, zero, ◌+◌, ◌-◌, ◌<◌, ◌≤◌, List, [], ◌∷◌, drop, length, get_or, map, refl, sym, ap, ◌∙◌, subst, arith}
+use Rattle.std.proofs.Common.{◌≡◌, ℕ, suc, zero, ◌+◌, ◌-◌, ◌<◌, ◌≤◌, List, [], ◌∷◌, drop, length, get_or, map, refl, sym, ap}
+use Rattle.std.proofs.Common.{◌∙◌, subst, arith}
 use Rattle.std.proofs.lemmas.List.{at_drop_more}
 use Rattle.std.specs.declared.vec.Vec.{Vec}
 use Rattle.std.specs.declared.alloc.Global.{Global}
@@ -43,21 +44,25 @@ open-some (Begins l (Text t) ∷ ps) = leaf-some l (Text t) (open_in ps)
 open-some (Begins l (Comment t) ∷ ps) = leaf-some l (Comment t) (open_in ps)
 open-some (Begins l (Instruction n t) ∷ ps) = leaf-some l (Instruction n t) (open_in ps)
 
-element-within : (l : LineNumbers) (c : Content) (s : List (Forest LineNumbers)) (level : ℕ) → length (element_before l c s) ≤ level + 1 → length s ≤ level + 1 + 1
+element-within : (l : LineNumbers) (c : Content) (s : List (Forest LineNumbers)) (level : ℕ) → length (element_before l c s) ≤ level + 1
+    → length s ≤ level + 1 + 1
 element-within l c [] level h = omega arith
 element-within l c (f ∷ []) level h = omega arith
 element-within l c (f ∷ g ∷ s) level h = omega arith
 
-leaf-within : (l : LineNumbers) (c : Content) (s : List (Forest LineNumbers)) (level : ℕ) → length (leaf_before l c s) ≤ level + 1 → length s ≤ level + 1
+leaf-within : (l : LineNumbers) (c : Content) (s : List (Forest LineNumbers)) (level : ℕ) → length (leaf_before l c s) ≤ level + 1
+    → length s ≤ level + 1
 leaf-within l c [] level h = omega arith
 leaf-within l c (f ∷ s) level h = omega arith
 
-element-top : (l : LineNumbers) (c : Content) (s : List (Forest LineNumbers)) → at_level 0 (element_before l c s) ≡ Node l c (at_level 0 s) (at_level 1 s)
+element-top : (l : LineNumbers) (c : Content) (s : List (Forest LineNumbers))
+    → at_level 0 (element_before l c s) ≡ Node l c (at_level 0 s) (at_level 1 s)
 element-top l c [] = refl
 element-top l c (f ∷ []) = refl
 element-top l c (f ∷ g ∷ s) = refl
 
-element-below : (l : LineNumbers) (c : Content) (s : List (Forest LineNumbers)) (level : ℕ) → 0 < level → at_level level (element_before l c s) ≡ at_level (level + 1) s
+element-below : (l : LineNumbers) (c : Content) (s : List (Forest LineNumbers)) (level : ℕ) → 0 < level
+    → at_level level (element_before l c s) ≡ at_level (level + 1) s
 element-below l c [] (suc n) h = refl
 element-below l c (f ∷ []) (suc n) h = let e : suc n + 1 ≡ suc (suc n) = omega arith in ap (λ k. at_level k (f ∷ [])) (sym e)
 element-below l c (f ∷ g ∷ s) (suc n) h = let e : suc n + 1 ≡ suc (suc n) = omega arith in ap (λ k. at_level k (f ∷ g ∷ s)) (sym e)
@@ -67,7 +72,8 @@ leaf-top : (l : LineNumbers) (c : Content) (s : List (Forest LineNumbers)) → a
 leaf-top l c [] = refl
 leaf-top l c (f ∷ s) = refl
 
-leaf-below : (l : LineNumbers) (c : Content) (s : List (Forest LineNumbers)) (level : ℕ) → 0 < level → at_level level (leaf_before l c s) ≡ at_level level s
+leaf-below : (l : LineNumbers) (c : Content) (s : List (Forest LineNumbers)) (level : ℕ) → 0 < level
+    → at_level level (leaf_before l c s) ≡ at_level level s
 leaf-below l c [] (suc n) h = refl
 leaf-below l c (f ∷ s) (suc n) h = refl
 leaf-below l c s zero h = absurd (omega arith)
@@ -91,7 +97,8 @@ pub record Closes (ps : List Code) (n level : ℕ) : Type 0 where
   pub within : length (left ps (n + 1)) ≤ level - 1 + 1
   pub below : at_level level (left ps n) ≡ at_level (level - 1) (left ps (n + 1))
 
-pub closes : (ps : List Code) (n : ℕ) (p : Code) (level : ℕ) → n < length ps → p ≡ get_or ps n p → p ≡ code.Ends → length (left ps n) ≤ level + 1 → Closes ps n level
+pub closes : (ps : List Code) (n : ℕ) (p : Code) (level : ℕ) → n < length ps → p ≡ get_or ps n p → p ≡ code.Ends
+    → length (left ps n) ≤ level + 1 → Closes ps n level
 closes ps n p level h e is within =
     let stack = turn ps n p h e ∙ ap (λ q. piece_before (piece_of q) (left ps (n + 1))) is in
     let some = open-some (pieces_of (drop (n + 1) ps)) in
@@ -111,8 +118,10 @@ pub record Opens (ps : List Code) (n level : ℕ) (l : LineNumbers) (c : Content
   pub top : at_level 0 (left ps n) ≡ Node l c (at_level 0 (left ps (n + 1))) (at_level 1 (left ps (n + 1)))
   pub below : 0 < level → at_level level (left ps n) ≡ at_level (level + 1) (left ps (n + 1))
 
-pub opens : (ps : List Code) (n : ℕ) (p : Code) (level line : ℕ) (al : Vec ℕ Global) (content : Held) (name : List ℕ) (attributes : Vec Written Global)
-    → n < length ps → p ≡ get_or ps n p → p ≡ code.Begins line al content → content ≡ held.Element name attributes → length (left ps n) ≤ level + 1
+pub opens : (ps : List Code) (n : ℕ) (p : Code) (level line : ℕ) (al : Vec ℕ Global) (content : Held) (name : List ℕ)
+    (attributes : Vec Written Global)
+    → n < length ps → p ≡ get_or ps n p → p ≡ code.Begins line al content → content ≡ held.Element name attributes
+    → length (left ps n) ≤ level + 1
     → Opens ps n level (lines_at line al) (Element name (map written_of attributes.items))
 opens ps n p level line al content name attributes h e is what within =
     let l = lines_at line al in let c = Element name (map written_of attributes.items) in
@@ -135,7 +144,8 @@ pub record Stands (ps : List Code) (n level : ℕ) (l : LineNumbers) (c : Conten
 abbrev pub IsNoElement : Held → Type 0
 IsNoElement content = (name : List ℕ) → (attributes : Vec Written Global) → content ≡ held.Element name attributes → ⊥
 
-leaf-is : (l : LineNumbers) (content : Held) (s : List (Forest LineNumbers)) → IsNoElement content → node_before l (content_of content) s ≡ leaf_before l (content_of content) s
+leaf-is : (l : LineNumbers) (content : Held) (s : List (Forest LineNumbers)) → IsNoElement content
+    → node_before l (content_of content) s ≡ leaf_before l (content_of content) s
 leaf-is l (held.Element name attributes) s other = absurd (other name attributes refl)
 leaf-is l (held.Text text) s other = refl
 leaf-is l (held.Comment text) s other = refl

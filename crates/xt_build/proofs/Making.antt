@@ -1,5 +1,6 @@
 -- Nodes made of pieces: each piece leaves what all is made of as it is.
-use Rattle.std.proofs.Common.{◌≡◌, ℕ, ◌+◌, ◌<◌, Bool, true, false, List, [], ◌∷◌, ◌++◌, length, Option, Some, None, refl, sym, ap, ◌∙◌, arith}
+use Rattle.std.proofs.Common.{◌≡◌, ℕ, ◌+◌, ◌<◌, Bool, true, false, List, [], ◌∷◌, ◌++◌, length, Option, Some, None, refl, sym, ap}
+use Rattle.std.proofs.Common.{◌∙◌, arith}
 use Rattle.std.specs.Prelude.{◌&&◌, ◌==◌, is_some}
 use Rattle.std.proofs.lemmas.Bool.{eqb-true}
 use denote.Enum.Bare.{sameb}
@@ -38,7 +39,8 @@ close-ends o done (f ∷ fs) =
     ∙ ap (λ g. g ∷ fs) (sym (followed-assoc o.before (Node o.number (content_of o.content) done Empty) f))
 
 pub whole-ends : (os : List Open) (o : Open) (done : Forest ℕ) (n : ℕ) (others : Option ℕ) (s : List (Forest LineNumbers))
-    → whole (os ++ (o ∷ [])) done (coming n others (Empty ∷ s)) ≡ whole os (followed o.before (Node o.number (content_of o.content) done Empty)) (coming n others s)
+    → whole (os ++ (o ∷ [])) done (coming n others (Empty ∷ s))
+    ≡ whole os (followed o.before (Node o.number (content_of o.content) done Empty)) (coming n others s)
 whole-ends os o done n others s =
     close_all-append os o (behind done (coming n others (Empty ∷ s)))
     ∙ ap (λ fs. close_all os (close o (behind done fs))) (coming-ends n others s)
@@ -70,8 +72,10 @@ drops others c (f ∷ g ∷ s) = false
 sizes : (n a b : ℕ) → n + (1 + a + b) ≡ n + 1 + a + b
 sizes n a b = omega arith
 
-coming-leaf : (n : ℕ) (others : Option ℕ) (l : LineNumbers) (c : Content) (f : Forest LineNumbers) (s : List (Forest LineNumbers)) → drops others c (f ∷ s) ≡ false
-    → (done : Forest ℕ) → behind done (coming n others (Node l c Empty f ∷ s)) ≡ behind (followed done (Node n c Empty Empty)) (coming (n + 1) others (f ∷ s))
+coming-leaf : (n : ℕ) (others : Option ℕ) (l : LineNumbers) (c : Content) (f : Forest LineNumbers) (s : List (Forest LineNumbers))
+    → drops others c (f ∷ s) ≡ false
+    → (done : Forest ℕ) → behind done (coming n others (Node l c Empty f ∷ s))
+    ≡ behind (followed done (Node n c Empty Empty)) (coming (n + 1) others (f ∷ s))
 coming-leaf n others l c f [] h done =
     let zero : n + 1 + 0 ≡ n + 1 = omega arith in
     ap (λ g. followed done (numbered n g) ∷ []) (kept-leaf others l c Empty f h)
@@ -84,7 +88,8 @@ coming-leaf n others l c f (g ∷ s) h done =
     ∙ ap (λ m. followed done (Node n c Empty (numbered (n + 1) f)) ∷ open_numbered m (kept_open others (g ∷ s))) more
     ∙ ap (λ k. k ∷ open_numbered (n + 1 + size f) (kept_open others (g ∷ s))) (sym (followed-assoc done (Node n c Empty Empty) (numbered (n + 1) f)))
 
-size-leaf : (others : Option ℕ) (l : LineNumbers) (c : Content) (f : Forest LineNumbers) (s : List (Forest LineNumbers)) → drops others c (f ∷ s) ≡ false
+size-leaf : (others : Option ℕ) (l : LineNumbers) (c : Content) (f : Forest LineNumbers) (s : List (Forest LineNumbers))
+    → drops others c (f ∷ s) ≡ false
     → open_size (kept_open others (Node l c Empty f ∷ s)) ≡ open_size (kept_open others (f ∷ s)) + 1
 size-leaf others l c f [] h =
     let is : size (Node l c Empty (kept others f)) ≡ size (kept others f) + 1 = omega arith in
@@ -93,7 +98,8 @@ size-leaf others l c f [] h =
 size-leaf others l c f (g ∷ s) h = omega arith
 
 -- an element
-coming-element : (n : ℕ) (others : Option ℕ) (l : LineNumbers) (name : List ℕ) (a : List Written) (f g : Forest LineNumbers) (s : List (Forest LineNumbers)) (o : Open)
+coming-element : (n : ℕ) (others : Option ℕ) (l : LineNumbers) (name : List ℕ) (a : List Written) (f g : Forest LineNumbers)
+    (s : List (Forest LineNumbers)) (o : Open)
     → o.number ≡ n → content_of o.content ≡ Element name a
     → behind o.before (coming n others (Node l (Element name a) f g ∷ s)) ≡ close o (behind Empty (coming (n + 1) others (f ∷ g ∷ s)))
 coming-element n others l name a f g [] o en ec =
@@ -101,9 +107,12 @@ coming-element n others l name a f g [] o en ec =
     ∙ ap (λ m. followed o.before (Node m (Element name a) (numbered (n + 1) f) (numbered (n + 1 + size f) (kept others g))) ∷ []) (sym en)
     ∙ ap (λ c. followed o.before (Node o.number c (numbered (n + 1) f) (numbered (n + 1 + size f) (kept others g))) ∷ []) (sym ec)
 coming-element n others l name a f g (h ∷ s) o en ec =
-    ap (λ m. followed o.before (Node n (Element name a) (numbered (n + 1) f) (numbered (n + 1 + size f) g)) ∷ open_numbered m (kept_open others (h ∷ s))) (sizes n (size f) (size g))
-    ∙ ap (λ m. followed o.before (Node m (Element name a) (numbered (n + 1) f) (numbered (n + 1 + size f) g)) ∷ open_numbered (n + 1 + size f + size g) (kept_open others (h ∷ s))) (sym en)
-    ∙ ap (λ c. followed o.before (Node o.number c (numbered (n + 1) f) (numbered (n + 1 + size f) g)) ∷ open_numbered (n + 1 + size f + size g) (kept_open others (h ∷ s))) (sym ec)
+    ap (λ m. followed o.before (Node n (Element name a) (numbered (n + 1) f) (numbered (n + 1 + size f) g)) ∷ open_numbered m
+    (kept_open others (h ∷ s))) (sizes n (size f) (size g))
+    ∙ ap (λ m. followed o.before (Node m (Element name a) (numbered (n + 1) f) (numbered (n + 1 + size f) g)) ∷ open_numbered (n + 1 + size f + size g)
+    (kept_open others (h ∷ s))) (sym en)
+    ∙ ap (λ c. followed o.before (Node o.number c (numbered (n + 1) f) (numbered (n + 1 + size f) g)) ∷ open_numbered (n + 1 + size f + size g)
+    (kept_open others (h ∷ s))) (sym ec)
 
 size-element : (others : Option ℕ) (l : LineNumbers) (name : List ℕ) (a : List Written) (f g : Forest LineNumbers) (s : List (Forest LineNumbers))
     → open_size (kept_open others (Node l (Element name a) f g ∷ s)) ≡ open_size (kept_open others (f ∷ g ∷ s)) + 1
@@ -125,7 +134,8 @@ text-no_element (Text t) h = refl
 text-no_element (Comment t) h = refl
 text-no_element (Instruction m t) h = refl
 
-pub length-leaf : (l : LineNumbers) (c : Content) (s : List (Forest LineNumbers)) → is_element c ≡ false → 0 < length s → length (node_before l c s) ≡ length s
+pub length-leaf : (l : LineNumbers) (c : Content) (s : List (Forest LineNumbers)) → is_element c ≡ false → 0 < length s
+    → length (node_before l c s) ≡ length s
 length-leaf l c [] w h = absurd (omega arith)
 length-leaf l (Element m a) (f ∷ s) w h = absurd (cc)
 length-leaf l (Text t) (f ∷ s) w h = refl
@@ -165,7 +175,8 @@ whole-leaf os done n others l (Text t) (f ∷ s) w h d = ap (close_all os) (comi
 whole-leaf os done n others l (Comment t) (f ∷ s) w h d = ap (close_all os) (coming-leaf n others l (Comment t) f s d done)
 whole-leaf os done n others l (Instruction m t) (f ∷ s) w h d = ap (close_all os) (coming-leaf n others l (Instruction m t) f s d done)
 
-pub open_size-leaf : (others : Option ℕ) (l : LineNumbers) (c : Content) (s : List (Forest LineNumbers)) → is_element c ≡ false → 0 < length s → drops others c s ≡ false
+pub open_size-leaf : (others : Option ℕ) (l : LineNumbers) (c : Content) (s : List (Forest LineNumbers)) → is_element c ≡ false → 0 < length s
+    → drops others c s ≡ false
     → open_size (kept_open others (node_before l c s)) ≡ open_size (kept_open others s) + 1
 open_size-leaf others l c [] w h d = absurd (omega arith)
 open_size-leaf others l (Element m a) (f ∷ s) w h d = absurd (cc)
@@ -194,7 +205,8 @@ open_size-element others l (Comment t) (f ∷ g ∷ s) w h = absurd (cc)
 open_size-element others l (Instruction m t) (f ∷ g ∷ s) w h = absurd (cc)
 
 -- a text at the top of a root is dropped
-pub kept-dropped : (others : Option ℕ) (l : LineNumbers) (c : Content) (s : List (Forest LineNumbers)) → is_text c ≡ true → is_some others ≡ true → length s ≡ 1
+pub kept-dropped : (others : Option ℕ) (l : LineNumbers) (c : Content) (s : List (Forest LineNumbers)) → is_text c ≡ true → is_some others ≡ true
+    → length s ≡ 1
     → kept_open others (node_before l c s) ≡ kept_open others s
 kept-dropped None l c s h g e = absurd (cc)
 kept-dropped (Some n) l (Element m a) s h g e = absurd (cc)
@@ -209,6 +221,8 @@ head_or f [] = f
 head_or f (g ∷ gs) = g
 
 -- behind the last piece nothing is open, and all is done
-pub whole-end : (os : List Open) (done : Forest ℕ) (n : ℕ) (others : Option ℕ) (f : Forest ℕ) → whole os done (coming n others (Empty ∷ [])) ≡ f ∷ [] → done ≡ f
-whole-end [] done n others f e = sym (followed-empty done) ∙ ap (λ k. followed done (numbered n k)) (sym (kept-empty others)) ∙ ap (λ fs. head_or Empty fs) e
+pub whole-end : (os : List Open) (done : Forest ℕ) (n : ℕ) (others : Option ℕ) (f : Forest ℕ)
+    → whole os done (coming n others (Empty ∷ [])) ≡ f ∷ [] → done ≡ f
+whole-end [] done n others f e =
+    sym (followed-empty done) ∙ ap (λ k. followed done (numbered n k)) (sym (kept-empty others)) ∙ ap (λ fs. head_or Empty fs) e
 whole-end (o ∷ os) done n others f e = absurd (let deep = level (o ∷ os) done n others (Empty ∷ []) f e in omega arith)

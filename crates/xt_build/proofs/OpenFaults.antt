@@ -1,5 +1,6 @@
 -- The faults of open forests, one node more in front.
-use Rattle.std.proofs.Common.{◌≡◌, ℕ, ◌+◌, ◌-◌, suc, List, [], ◌∷◌, ◌++◌, drop, length, reverse, get_or, Option, Some, None, unwrap_or, Bor, refl, sym, ap, ◌∙◌, arith, append-nil, append_assoc}
+use Rattle.std.proofs.Common.{◌≡◌, ℕ, ◌+◌, ◌-◌, suc, List, [], ◌∷◌, ◌++◌, drop, length, reverse, get_or, Option, Some, None}
+use Rattle.std.proofs.Common.{unwrap_or, Bor, refl, sym, ap, ◌∙◌, arith, append-nil, append_assoc}
 use Rattle.std.specs.Prelude.{nat_lt}
 use Rattle.std.specs.Option.{option_map}
 use Rattle.std.proofs.lemmas.List.{get_or-reverse}
@@ -30,16 +31,20 @@ between ws xs ys zs = append_assoc (ws ++ xs) ys zs ∙ append_assoc ws xs (ys +
 
 -- ---- Nodes in front
 
-instruction_faults : (outside : Scope) (depth : ℕ) (scopes : List Scope) (lines : LineNumbers) (target text : List ℕ) (behind : List (Forest LineNumbers))
-    → open_faults outside depth scopes (leaf_before lines (Instruction target text) behind) ≡ fault_if (is_wrong_target target) 10 lines.first ++ open_faults outside depth scopes behind
+instruction_faults : (outside : Scope) (depth : ℕ) (scopes : List Scope) (lines : LineNumbers) (target text : List ℕ)
+    (behind : List (Forest LineNumbers))
+    → open_faults outside depth scopes (leaf_before lines (Instruction target text) behind)
+    ≡ fault_if (is_wrong_target target) 10 lines.first ++ open_faults outside depth scopes behind
 instruction_faults outside depth scopes lines target text [] = alone (fault_if (is_wrong_target target) 10 lines.first)
 instruction_faults outside depth scopes lines target text (f ∷ fs) =
-    in_front (fault_if (is_wrong_target target) 10 lines.first) (node_faults (innermost outside scopes) (depth + length scopes) f) (open_faults outside depth (drop 1 scopes) fs)
+    in_front (fault_if (is_wrong_target target) 10 lines.first) (node_faults (innermost outside scopes) (depth + length scopes) f)
+    (open_faults outside depth (drop 1 scopes) fs)
 
 deeper : (depth n : ℕ) → depth + n + 1 ≡ depth + suc n
 deeper depth n = omega arith
 
-element_faults : (outside : Scope) (depth : ℕ) (scopes : List Scope) (lines : LineNumbers) (name : List ℕ) (attributes : List Written) (behind : List (Forest LineNumbers))
+element_faults : (outside : Scope) (depth : ℕ) (scopes : List Scope) (lines : LineNumbers) (name : List ℕ) (attributes : List Written)
+    (behind : List (Forest LineNumbers))
     → open_faults outside depth scopes (element_before lines (Element name attributes) behind)
     ≡ content_faults (declared_all attributes (innermost outside scopes)) (depth + length scopes) lines (Element name attributes)
     ++ open_faults outside depth (declared_all attributes (innermost outside scopes) ∷ scopes) behind
@@ -53,11 +58,13 @@ element_faults outside depth scopes lines name attributes (f ∷ g ∷ fs) =
     let inside = declared_all attributes (innermost outside scopes) in
     let own = content_faults inside (depth + length scopes) lines (Element name attributes) in
     let rest = node_faults (innermost outside scopes) (depth + length scopes) g ++ open_faults outside depth (drop 1 scopes) fs in
-    between own (node_faults inside (depth + length scopes + 1) f) (node_faults (innermost outside scopes) (depth + length scopes) g) (open_faults outside depth (drop 1 scopes) fs)
+    between own (node_faults inside (depth + length scopes + 1) f) (node_faults (innermost outside scopes) (depth + length scopes) g)
+    (open_faults outside depth (drop 1 scopes) fs)
     ∙ ap (λ d. own ++ (node_faults inside d f ++ rest)) (deeper depth (length scopes))
 
 -- what was found at an element, with the faults inside it and behind it, is what was found with the faults from the element on
-pub entered : (outside : Scope) (depth : ℕ) (scopes : List Scope) (lines : LineNumbers) (name : List ℕ) (attributes : List Written) (behind : List (Forest LineNumbers))
+pub entered : (outside : Scope) (depth : ℕ) (scopes : List Scope) (lines : LineNumbers) (name : List ℕ) (attributes : List Written)
+    (behind : List (Forest LineNumbers))
     (found first second now : Option Fault)
     → first ≡ merged found (least (fault_if (is_wrong_element (declared_all attributes (innermost outside scopes)) name) 10 lines.first))
     → second ≡ merged first (least (fault_if (nat_lt greatest_depth (depth + length scopes)) 11 lines.first))
@@ -65,11 +72,14 @@ pub entered : (outside : Scope) (depth : ℕ) (scopes : List Scope) (lines : Lin
     → merged now (least (open_faults outside depth (declared_all attributes (innermost outside scopes) ∷ scopes) behind))
     ≡ merged found (least (open_faults outside depth scopes (element_before lines (Element name attributes) behind)))
 entered outside depth scopes lines name attributes behind found first second now e h k =
-    kept_three found first second now _ _ _ _ e h k ∙ ap (λ fs. merged found (least fs)) (sym (element_faults outside depth scopes lines name attributes behind))
+    kept_three found first second now _ _ _ _ e h k
+    ∙ ap (λ fs. merged found (least fs)) (sym (element_faults outside depth scopes lines name attributes behind))
 
-pub instructed : (outside : Scope) (depth : ℕ) (scopes : List Scope) (lines : LineNumbers) (target text : List ℕ) (behind : List (Forest LineNumbers)) (found now : Option Fault)
+pub instructed : (outside : Scope) (depth : ℕ) (scopes : List Scope) (lines : LineNumbers) (target text : List ℕ) (behind : List (Forest LineNumbers))
+    (found now : Option Fault)
     → now ≡ merged found (least (fault_if (is_wrong_target target) 10 lines.first))
-    → merged now (least (open_faults outside depth scopes behind)) ≡ merged found (least (open_faults outside depth scopes (leaf_before lines (Instruction target text) behind)))
+    → merged now (least (open_faults outside depth scopes behind))
+    ≡ merged found (least (open_faults outside depth scopes (leaf_before lines (Instruction target text) behind)))
 instructed outside depth scopes lines target text behind found now e =
     kept_one found now _ _ e ∙ ap (λ fs. merged found (least fs)) (sym (instruction_faults outside depth scopes lines target text behind))
 
@@ -81,14 +91,16 @@ first_or outside (scope ∷ scopes) = refl
 
 innermost_kept : (xs : List Scope) (outside : Scope) → innermost outside (reverse xs) ≡ get_or xs (length xs - 1) outside
 innermost_kept [] outside = refl
-innermost_kept (x ∷ xs) outside = first_or outside (reverse (x ∷ xs)) ∙ get_or-reverse (x ∷ xs) 0 outside (omega arith) ∙ ap (λ n. get_or (x ∷ xs) n outside) (omega arith)
+innermost_kept (x ∷ xs) outside =
+    first_or outside (reverse (x ∷ xs)) ∙ get_or-reverse (x ∷ xs) 0 outside (omega arith) ∙ ap (λ n. get_or (x ∷ xs) n outside) (omega arith)
 
 behind_ref : (o : Option (Bor Scope)) (outside : Bor Scope) → (unwrap_or o outside).now ≡ unwrap_or (option_map (λ x. x.now) o) outside.now
 behind_ref None outside = refl
 behind_ref (Some s) outside = refl
 
 -- the last of the scopes that are kept is the innermost
-pub last_innermost : (xs : List Scope) (o : Option (Bor Scope)) (outside : Bor Scope) → unwrap_or (option_map (λ x. x.now) o) outside.now ≡ get_or xs (length xs - 1) outside.now
+pub last_innermost : (xs : List Scope) (o : Option (Bor Scope)) (outside : Bor Scope)
+    → unwrap_or (option_map (λ x. x.now) o) outside.now ≡ get_or xs (length xs - 1) outside.now
     → (unwrap_or o outside).now ≡ innermost outside.now (reverse xs)
 last_innermost xs o outside e = behind_ref o outside ∙ e ∙ sym (innermost_kept xs outside.now)
 

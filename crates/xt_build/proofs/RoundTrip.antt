@@ -1,5 +1,6 @@
 -- The lines that are written for a document make it again.
-use Rattle.std.proofs.Common.{◌≡◌, ◌≤◌, ◌<◌, ℕ, ◌+◌, ◌-◌, List, [], ◌∷◌, ◌++◌, map, length, Option, Some, None, refl, sym, ap, ◌∙◌, subst, arith}
+use Rattle.std.proofs.Common.{◌≡◌, ◌≤◌, ◌<◌, ℕ, ◌+◌, ◌-◌, List, [], ◌∷◌, ◌++◌, map, length, Option, Some, None, refl}
+use Rattle.std.proofs.Common.{sym, ap, ◌∙◌, subst, arith}
 use Rattle.std.proofs.lemmas.List.{length-map, drop_all}
 use Rattle.std.specs.Prelude.{Result, Ok, Err}
 use Rattle.std.specs.Option.{option_map}
@@ -19,15 +20,18 @@ use Rattle.spec_document.proofs.Reading.{computed_is_forest, forest_is_computed}
 use Rattle.spec_document.proofs.Written.{written_forest, plain_itself}
 use Rattle.xt_build.proofs.RoundTripEvents.{AreWritable, all_read_writable, forest_writable, kept_writable}
 use Rattle.xt_build.proofs.RoundTripLines.{encoded, encoded_utf8, encoded_good, encoded_events}
-use Rattle.xt_build.proofs.RoundTripForest.{forest_normal, kept_normal, plain_kept, kept_twice, size_plain, labels_size, plain_numbered, written_plain, same_numbered}
-use Rattle.xt_build.proofs.RoundTripFaults.{both_empty, empty_both, top_elements, nodes_moved, kept_nodes, elements_counted, kept_elements, elements_moved, kept_no_text, no_text_faults, HasNoText, numbers_moved}
+use Rattle.xt_build.proofs.RoundTripForest.{forest_normal, kept_normal, plain_kept, kept_twice, size_plain, labels_size, plain_numbered, written_plain}
+use Rattle.xt_build.proofs.RoundTripForest.{same_numbered}
+use Rattle.xt_build.proofs.RoundTripFaults.{both_empty, empty_both, top_elements, nodes_moved, kept_nodes, elements_counted, kept_elements, elements_moved}
+use Rattle.xt_build.proofs.RoundTripFaults.{kept_no_text, no_text_faults, HasNoText, numbers_moved}
 
 -- ---- What an answer says
 
 ok_same : {A : Type 0} (x y : A) → ◌≡◌ {A = Result A Fault} (Ok x) (Ok y) → x ≡ y
 ok_same x y e = ap (λ r. elim r [ Ok z ↦ z | Err f ↦ x ]) e
 
-answered : {A : Type 0} (faults : List Fault) (otherwise : Result A Fault) (x : A) → answer_of faults otherwise ≡ Ok x → (faults ≡ []) × (otherwise ≡ Ok x)
+answered : {A : Type 0} (faults : List Fault) (otherwise : Result A Fault) (x : A) → answer_of faults otherwise ≡ Ok x
+    → (faults ≡ []) × (otherwise ≡ Ok x)
 answered [] otherwise x e = (refl, e)
 answered (fault ∷ faults) otherwise x e = absurd (cc)
 
@@ -44,7 +48,8 @@ made_of-made_by : {A : Type 0} (make : Forest LineNumbers → Result A Fault) (e
 made_of-made_by make events = same (forest_of events)
   where
     same : (o : Option (Forest LineNumbers))
-        → elim o [ None ↦ Err (record { number = 9; line = unbalanced_line None [] events }) | Some forest ↦ make forest ] ≡ made_by make (unbalanced_line None [] events) o
+        → elim o [ None ↦ Err (record { number = 9; line = unbalanced_line None [] events }) | Some forest ↦ make forest ]
+        ≡ made_by make (unbalanced_line None [] events) o
     same None = refl
     same (Some f) = refl
 
@@ -57,7 +62,8 @@ made : {A : Type 0} (make : Forest LineNumbers → Result A Fault) (events : Lis
     → (f : Forest LineNumbers) × (forest_of events ≡ Some f) × (make f ≡ Ok x)
 made make events x e = found make (unbalanced_line None [] events) x (forest_of events) (sym (made_of-made_by make events) ∙ e)
 
-make_from : {A : Type 0} (make : Forest LineNumbers → Result A Fault) (events : List (ℕ × Event (List ℕ))) (f : Forest LineNumbers) → forest_of events ≡ Some f → made_of make events ≡ make f
+make_from : {A : Type 0} (make : Forest LineNumbers → Result A Fault) (events : List (ℕ × Event (List ℕ))) (f : Forest LineNumbers)
+    → forest_of events ≡ Some f → made_of make events ≡ make f
 make_from make events f is = made_of-made_by make events ∙ ap (made_by make (unbalanced_line None [] events)) is
 
 -- ---- The same forest elsewhere
@@ -69,7 +75,8 @@ lines_numbered f = 0 ∷ map (λ l. l.first) (labels (without_texts f))
 count_numbered : (f : Forest LineNumbers) → length (lines_numbered f) ≡ 1 + size (without_texts (plain f))
 count_numbered f =
     let same : length (map (λ l. l.first) (labels (without_texts f))) ≡ size (without_texts (plain f))
-    = length-map (labels (without_texts f)) (λ l. l.first) ∙ labels_size (without_texts f) ∙ sym (size_plain (without_texts f)) ∙ ap size (plain_kept f) in
+    = length-map (labels (without_texts f)) (λ l. l.first) ∙ labels_size (without_texts f) ∙ sym (size_plain (without_texts f))
+    ∙ ap size (plain_kept f) in
     omega (arith, same)
 
 -- the siblings of a document, and siblings that are as these without the texts at the top
@@ -84,12 +91,15 @@ top_again f g e n =
     (elements_moved (elements_at_top f) (elements_at_top g) count parts.0)
     (no_text_faults g (subst HasNoText (sym e) (kept_no_text (plain f))))
 
-nodes_again : (scope : Scope) (f g : Forest LineNumbers) → plain g ≡ without_texts (plain f) → node_faults scope 1 f ≡ [] → node_faults scope 1 g ≡ []
+nodes_again : (scope : Scope) (f g : Forest LineNumbers) → plain g ≡ without_texts (plain f) → node_faults scope 1 f ≡ []
+    → node_faults scope 1 g ≡ []
 nodes_again scope f g e n = nodes_moved (without_texts f) g (plain_kept f ∙ sym e) scope 1 (kept_nodes f scope 1 n)
 
-numbers_again : (first : ℕ) (f g : Forest LineNumbers) → plain g ≡ without_texts (plain f) → number_faults first (lines_numbered f) ≡ [] → number_faults first (lines_numbered g) ≡ []
+numbers_again : (first : ℕ) (f g : Forest LineNumbers) → plain g ≡ without_texts (plain f) → number_faults first (lines_numbered f) ≡ []
+    → number_faults first (lines_numbered g) ≡ []
 numbers_again first f g e n =
-    numbers_moved first (lines_numbered f) (lines_numbered g) (count_numbered f ∙ ap (λ h. 1 + size h) (sym (again_kept f g e)) ∙ sym (count_numbered g)) n
+    numbers_moved first (lines_numbered f) (lines_numbered g)
+    (count_numbered f ∙ ap (λ h. 1 + size h) (sym (again_kept f g e)) ∙ sym (count_numbered g)) n
 
 -- the document of a forest, in parts
 pub record Made (scope : Scope) (first : ℕ) (f : Forest LineNumbers) (d : Document ℕ) : Type 0 where
@@ -106,12 +116,15 @@ made_parts scope first f d e =
     let front = both_empty (top_faults (Some 0) f) (node_faults scope 1 f) parts.0 in
     record { top = front.0; nodes = front.1; numbers = parts.1; is = ok_same result d all.1 }
 
-document_again : (scope : Scope) (first : ℕ) (f g : Forest LineNumbers) (d : Document ℕ) → plain g ≡ without_texts (plain f) → Made scope first f d → document_by scope first g ≡ Ok d
+document_again : (scope : Scope) (first : ℕ) (f g : Forest LineNumbers) (d : Document ℕ) → plain g ≡ without_texts (plain f)
+    → Made scope first f d → document_by scope first g ≡ Ok d
 document_again scope first f g d e m =
     let faults = empty_both (top_faults (Some 0) g ++ node_faults scope 1 g) (number_faults first (lines_numbered g))
-    (empty_both (top_faults (Some 0) g) (node_faults scope 1 g) (top_again f g e m.top) (nodes_again scope f g e m.nodes)) (numbers_again first f g e m.numbers) in
+    (empty_both (top_faults (Some 0) g) (node_faults scope 1 g) (top_again f g e m.top) (nodes_again scope f g e m.nodes))
+    (numbers_again first f g e m.numbers) in
     let same = same_numbered (first + 1) (without_texts g) (without_texts f) (plain_kept g ∙ again_kept f g e ∙ sym (plain_kept f)) in
-    answer (top_faults (Some 0) g ++ node_faults scope 1 g ++ number_faults first (lines_numbered g)) (Ok (record { root = first; nodes = numbered (first + 1) (without_texts g) })) faults
+    answer (top_faults (Some 0) g ++ node_faults scope 1 g ++ number_faults first (lines_numbered g))
+    (Ok (record { root = first; nodes = numbered (first + 1) (without_texts g) })) faults
     ∙ ap (λ nodes. Ok (record { root = first; nodes = nodes })) same ∙ ap Ok m.is
 
 no_number_faults : (first : ℕ) (lines : List ℕ) → length lines ≤ number_limit - first → number_faults first lines ≡ []
@@ -131,7 +144,8 @@ lines_again scope first events f d w forest then =
     let body = encoded events in
     let read : map (λ e. e.1) (events_at body) ≡ events = encoded_events 1 events w in
     let is = forest_is_computed (events_at body) f (subst (λ es. IsForestOf es f) (sym read) forest) in
-    let none : line_faults body ≡ [] = empty_both (not_utf8 (enumerate_from 1 body)) (no_event (texts_of body)) (encoded_utf8 1 events w) (encoded_good 1 events w) in
+    let none : line_faults body ≡ [] =
+    empty_both (not_utf8 (enumerate_from 1 body)) (no_event (texts_of body)) (encoded_utf8 1 events w) (encoded_good 1 events w) in
     answer (line_faults body) (made_of (document_by scope first) (events_at body)) none ∙ found (forest_of (events_at body)) refl is
   where
     found : (o : Option (Forest LineNumbers)) → forest_of (events_at (encoded events)) ≡ o → option_map plain o ≡ Some f
@@ -141,11 +155,13 @@ lines_again scope first events f d w forest then =
         make_from (document_by scope first) (events_at (encoded events)) g is ∙ then g (ap (λ o. elim o [ Some z ↦ z | None ↦ f ]) e)
 
 -- a tree that lines make, whatever its numbers then: what is written for it makes it again with every first number that leaves room
-pub same_tree : (nodes : Forest ℕ) (scope : Scope) (first other : ℕ) (body : List (List ℕ)) (made_then : Document ℕ) → document_of scope first body ≡ Ok made_then
+pub same_tree : (nodes : Forest ℕ) (scope : Scope) (first other : ℕ) (body : List (List ℕ)) (made_then : Document ℕ)
+    → document_of scope first body ≡ Ok made_then
     → plain made_then.nodes ≡ plain nodes → other + size nodes < number_limit
     → document_of scope other (map encode_utf8_all (lines_of nodes)) ≡ Ok (record { root = other; nodes = numbered (other + 1) nodes })
 same_tree nodes scope first other body document e same_plain room =
-    let parts = made (document_by scope first) (events_at body) document (answered (line_faults body) (made_of (document_by scope first) (events_at body)) document e).1 in
+    let parts = made (document_by scope first) (events_at body) document
+    (answered (line_faults body) (made_of (document_by scope first) (events_at body)) document e).1 in
     let f = parts.0 in
     let whole = made_parts scope first f document parts.2 in
     let kept : Plain = without_texts (plain f) in
@@ -170,7 +186,8 @@ same_tree nodes scope first other body document e same_plain room =
 pub round_trip : (document : Document ℕ) (scope : Scope) (first : ℕ) (body : List (List ℕ)) → document_of scope first body ≡ Ok document
     → document_of scope first (map encode_utf8_all (lines_of document.nodes)) ≡ Ok document
 round_trip document scope first body e =
-    let parts = made (document_by scope first) (events_at body) document (answered (line_faults body) (made_of (document_by scope first) (events_at body)) document e).1 in
+    let parts = made (document_by scope first) (events_at body) document
+    (answered (line_faults body) (made_of (document_by scope first) (events_at body)) document e).1 in
     let f = parts.0 in
     let whole = made_parts scope first f document parts.2 in
     let kept : Plain = without_texts (plain f) in

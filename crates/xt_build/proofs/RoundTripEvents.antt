@@ -1,5 +1,6 @@
 -- Every event that is read from a line can be written, and so can those of the forest that they are.
-use Rattle.std.proofs.Common.{◌≡◌, ℕ, ◌+◌, suc, Bool, true, false, not, ◌==◌, cond, List, [], ◌∷◌, ◌++◌, map, take, drop, Option, Some, None, refl, sym, ap, ◌∙◌, subst, arith}
+use Rattle.std.proofs.Common.{◌≡◌, ℕ, ◌+◌, suc, Bool, true, false, not, ◌==◌, cond, List, [], ◌∷◌, ◌++◌, map, take, drop, Option}
+use Rattle.std.proofs.Common.{Some, None, refl, sym, ap, ◌∙◌, subst, arith}
 use Rattle.std.specs.Option.{option_map}
 use Rattle.std.specs.List.{list_all, list_any, before_first, after_first, position_or_len, filter_map, cons_option}
 use Rattle.std.proofs.lemmas.Bool.{and_parts, and_from}
@@ -9,7 +10,8 @@ use Rattle.spec_document.specs.declared.event.Event.{Event}
 use Rattle.spec_document.specs.declared.event.Event.TheVariants.{Start, Attribute, Data, Instruction as InstructionEvent, End, Comment as CommentEvent}
 use Rattle.spec_document.specs.Character.{is_char}
 use Rattle.spec_document.specs.Pyx.{Line, unescape, unescaped, behind_backslash, is_blank, event_of, event_behind, IsWritable}
-use Rattle.spec_document.specs.Forest.{Element, Text, Comment, Instruction, Empty, Node, Plain, with_text, attribute_event, IsForestOf, is_empty, is_element, is_text, is_comment, is_instruction, written}
+use Rattle.spec_document.specs.Forest.{Element, Text, Comment, Instruction, Empty, Node, Plain, with_text, attribute_event, IsForestOf, is_empty, is_element}
+use Rattle.spec_document.specs.Forest.{is_text, is_comment, is_instruction, written}
 use Rattle.spec_document.specs.Body.{event_at}
 use Rattle.spec_document.specs.Top.{without_texts}
 
@@ -23,7 +25,8 @@ AreWritable (e ∷ events) = IsWritable e × AreWritable events
 split_chars : (xs ys : List ℕ) → list_all is_char (xs ++ ys) ≡ true → (list_all is_char xs ≡ true) × (list_all is_char ys ≡ true)
 split_chars xs ys h = and_parts (list_all is_char xs) (list_all is_char ys) (sym (list_all-append is_char xs ys) ∙ h)
 
-taken_chars : (n : ℕ) (xs : List ℕ) → list_all is_char xs ≡ true → (list_all is_char (take n xs) ≡ true) × (list_all is_char (drop n xs) ≡ true)
+taken_chars : (n : ℕ) (xs : List ℕ) → list_all is_char xs ≡ true
+    → (list_all is_char (take n xs) ≡ true) × (list_all is_char (drop n xs) ≡ true)
 taken_chars n xs h = split_chars (take n xs) (drop n xs) (ap (list_all is_char) (take-append-drop n xs) ∙ h)
 
 -- nothing before the first element that passes a test passes it
@@ -42,18 +45,20 @@ none_before p (x ∷ xs) =
 unescape_chars : (c : ℕ) → is_char c ≡ true → list_all is_char (unescape c) ≡ true
 unfolding is_char
 unescape_chars c h =
-    elim (c == 0x6E) as (λ b. list_all is_char (cond b (0xA ∷ []) (cond (c == 0x74) (0x9 ∷ []) (cond (c == 0x72) (0xD ∷ []) (cond (c == 0x5C) (0x5C ∷ []) (0x5C ∷ c ∷ []))))) ≡ true) [
+    elim (c == 0x6E) as (λ b. list_all is_char
+    (cond b (0xA ∷ []) (cond (c == 0x74) (0x9 ∷ []) (cond (c == 0x72) (0xD ∷ []) (cond (c == 0x5C) (0x5C ∷ []) (0x5C ∷ c ∷ []))))) ≡ true) [
       | true ↦ refl
-      | false ↦ elim (c == 0x74) as (λ b. list_all is_char (cond b (0x9 ∷ []) (cond (c == 0x72) (0xD ∷ []) (cond (c == 0x5C) (0x5C ∷ []) (0x5C ∷ c ∷ [])))) ≡ true) [
-        | true ↦ refl
-        | false ↦ elim (c == 0x72) as (λ b. list_all is_char (cond b (0xD ∷ []) (cond (c == 0x5C) (0x5C ∷ []) (0x5C ∷ c ∷ []))) ≡ true) [
-          | true ↦ refl
-          | false ↦ elim (c == 0x5C) as (λ b. list_all is_char (cond b (0x5C ∷ []) (0x5C ∷ c ∷ [])) ≡ true) [
+      | false ↦ elim (c == 0x74) as (λ b. list_all is_char
+          (cond b (0x9 ∷ []) (cond (c == 0x72) (0xD ∷ []) (cond (c == 0x5C) (0x5C ∷ []) (0x5C ∷ c ∷ [])))) ≡ true) [
             | true ↦ refl
-            | false ↦ and_from (is_char c) true h refl
+            | false ↦ elim (c == 0x72) as (λ b. list_all is_char (cond b (0xD ∷ []) (cond (c == 0x5C) (0x5C ∷ []) (0x5C ∷ c ∷ []))) ≡ true) [
+              | true ↦ refl
+              | false ↦ elim (c == 0x5C) as (λ b. list_all is_char (cond b (0x5C ∷ []) (0x5C ∷ c ∷ [])) ≡ true) [
+                | true ↦ refl
+                | false ↦ and_from (is_char c) true h refl
+              ]
+            ]
           ]
-        ]
-      ]
     ]
 
 mutual
@@ -86,7 +91,8 @@ value_chars rest h = unescaped_chars (after_first is_blank rest) (taken_chars (p
 written_if : (x e : Event (List ℕ)) → IsWritable x → Some x ≡ Some e → IsWritable e
 written_if x e w s = subst IsWritable (ap (λ o. elim o [ Some z ↦ z | None ↦ x ]) s) w
 
-either : (b : Bool) (x y : Option (Event (List ℕ))) (e : Event (List ℕ)) → (x ≡ Some e → IsWritable e) → (y ≡ Some e → IsWritable e) → cond b x y ≡ Some e → IsWritable e
+either : (b : Bool) (x y : Option (Event (List ℕ))) (e : Event (List ℕ)) → (x ≡ Some e → IsWritable e) → (y ≡ Some e → IsWritable e)
+    → cond b x y ≡ Some e → IsWritable e
 either true x y e f g = f
 either false x y e f g = g
 
@@ -108,7 +114,8 @@ behind_writable sign rest e h =
 pub read_writable : (line : Line) (e : Event (List ℕ)) → event_of line ≡ Some e → IsWritable e
 read_writable [] e is = absurd (cc)
 read_writable (sign ∷ rest) e is =
-    elim (list_all is_char (sign ∷ rest)) as (λ b. list_all is_char (sign ∷ rest) ≡ b → cond b (event_behind sign rest) None ≡ Some e → IsWritable e) [
+    elim (list_all is_char (sign ∷ rest)) as (λ b. list_all is_char (sign ∷ rest) ≡ b → cond b (event_behind sign rest) None ≡ Some e
+    → IsWritable e) [
       | false ↦ λ _ none. absurd (cc)
       | true ↦ λ h made. behind_writable sign rest e (and_parts (is_char sign) (list_all is_char rest) h).1 made
     ] refl is
@@ -116,7 +123,8 @@ read_writable (sign ∷ rest) e is =
 pub all_read_writable : (lines : List (ℕ × Line)) → AreWritable (map (λ e. e.1) (filter_map event_at lines))
 all_read_writable [] = tt
 all_read_writable (line ∷ lines) =
-    elim (event_of line.1) as (λ o. event_of line.1 ≡ o → AreWritable (map (λ e. e.1) (cons_option (option_map (λ event. (line.0, event)) o) (filter_map event_at lines)))) [
+    elim (event_of line.1) as (λ o. event_of line.1 ≡ o
+    → AreWritable (map (λ e. e.1) (cons_option (option_map (λ event. (line.0, event)) o) (filter_map event_at lines)))) [
       | None ↦ λ _. all_read_writable lines
       | Some e ↦ λ is. (read_writable line.1 e is, all_read_writable lines)
     ] refl
@@ -161,7 +169,10 @@ pub kept_writable : (f : Plain) → AreWritable (written f) → AreWritable (wri
 kept_writable Empty w = w
 kept_writable (Node l (Text t) children siblings) w = kept_writable siblings w.1
 kept_writable (Node l (Element name attributes) children siblings) w =
-    let parts = parts_writable (map attribute_event attributes ++ written children) (End name ∷ written siblings) w.1 in
-    (w.0, both_writable (map attribute_event attributes ++ written children) (End name ∷ written (without_texts siblings)) parts.0 (parts.1.0, kept_writable siblings parts.1.1))
+    let parts = parts_writable (map attribute_event attributes ++ written children) (End name ∷ written siblings) w.1 in (
+      w.0,
+      both_writable (map attribute_event attributes ++ written children) (End name ∷ written (without_texts siblings)) parts.0
+          (parts.1.0, kept_writable siblings parts.1.1),
+    )
 kept_writable (Node l (Comment t) children siblings) w = (w.0, kept_writable siblings w.1)
 kept_writable (Node l (Instruction n t) children siblings) w = (w.0, kept_writable siblings w.1)

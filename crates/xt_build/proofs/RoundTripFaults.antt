@@ -1,5 +1,6 @@
 -- Whether a forest has faults: that is a matter of its plain form, and not of the lines where its nodes stand.
-use Rattle.std.proofs.Common.{◌≡◌, ℕ, ◌+◌, ◌-◌, ◌==◌, Bool, true, false, not, List, [], ◌∷◌, ◌++◌, map, drop, length, refl, sym, ap, ◌∙◌, subst, arith}
+use Rattle.std.proofs.Common.{◌≡◌, ℕ, ◌+◌, ◌-◌, ◌==◌, Bool, true, false, not, List, [], ◌∷◌, ◌++◌, map, drop, length, refl}
+use Rattle.std.proofs.Common.{sym, ap, ◌∙◌, subst, arith}
 use Rattle.std.specs.List.{list_any}
 use Rattle.std.specs.Prelude.{nat_lt, slice_index}
 use Rattle.std.proofs.lemmas.List.{length-drop}
@@ -9,7 +10,8 @@ use Rattle.spec_document.specs.Forest.{Written, Content, Element, Text, Comment,
 use Rattle.spec_document.specs.Fault.{fault_if}
 use Rattle.spec_document.specs.Balance.{LineNumbers}
 use Rattle.spec_document.specs.Top.{elements_at_top, element_faults, text_faults, without_texts}
-use Rattle.spec_document.specs.NodeFaults.{is_wrong_use, is_wrong_element, is_wrong_target, is_same_attribute, attribute_faults, greatest_depth, content_faults, node_faults}
+use Rattle.spec_document.specs.NodeFaults.{is_wrong_use, is_wrong_element, is_wrong_target, is_same_attribute, attribute_faults, greatest_depth}
+use Rattle.spec_document.specs.NodeFaults.{content_faults, node_faults}
 use Rattle.spec_document.specs.Numbering.{number_limit, number_faults}
 
 -- ---- Lists of faults that are empty
@@ -40,11 +42,14 @@ attributes_moved scope before ls ms (a ∷ attributes) e =
     let rest = attribute_faults scope (before ++ a ∷ []) (drop 1 ls) attributes in
     let parts = both_empty (own ++ twice) rest e in
     let front = both_empty own twice parts.0 in
-    empty_both (fault_if wrong 10 (slice_index ms 0) ++ fault_if same 14 (slice_index ms 0)) (attribute_faults scope (before ++ a ∷ []) (drop 1 ms) attributes)
-    (empty_both (fault_if wrong 10 (slice_index ms 0)) (fault_if same 14 (slice_index ms 0)) (moved wrong 10 (slice_index ls 0) (slice_index ms 0) front.0) (moved same 14 (slice_index ls 0) (slice_index ms 0) front.1))
+    empty_both (fault_if wrong 10 (slice_index ms 0) ++ fault_if same 14 (slice_index ms 0))
+    (attribute_faults scope (before ++ a ∷ []) (drop 1 ms) attributes)
+    (empty_both (fault_if wrong 10 (slice_index ms 0)) (fault_if same 14 (slice_index ms 0)) (moved wrong 10 (slice_index ls 0) (slice_index ms 0) front.0)
+    (moved same 14 (slice_index ls 0) (slice_index ms 0) front.1))
     (attributes_moved scope (before ++ a ∷ []) (drop 1 ls) (drop 1 ms) attributes parts.1)
 
-content_moved : (scope : Scope) (depth : ℕ) (l m : LineNumbers) (c : Content) → content_faults scope depth l c ≡ [] → content_faults scope depth m c ≡ []
+content_moved : (scope : Scope) (depth : ℕ) (l m : LineNumbers) (c : Content) → content_faults scope depth l c ≡ []
+    → content_faults scope depth m c ≡ []
 content_moved scope depth l m (Element name attributes) e =
     let wrong = is_wrong_element scope name in
     let deep = nat_lt greatest_depth depth in
@@ -74,21 +79,26 @@ abbrev is_node : Plain → Bool
 is_node Empty = false
 is_node (Node l c children siblings) = true
 
-node_parts : (scope : Scope) (depth : ℕ) (l : LineNumbers) (c : Content) (children siblings : Forest LineNumbers) → node_faults scope depth (Node l c children siblings) ≡ []
-    → (content_faults (within c scope) depth l c ≡ []) × (node_faults (within c scope) (depth + 1) children ≡ []) × (node_faults scope depth siblings ≡ [])
+node_parts : (scope : Scope) (depth : ℕ) (l : LineNumbers) (c : Content) (children siblings : Forest LineNumbers)
+    → node_faults scope depth (Node l c children siblings) ≡ []
+    → (content_faults (within c scope) depth l c ≡ []) × (node_faults (within c scope) (depth + 1) children ≡ [])
+    × (node_faults scope depth siblings ≡ [])
 node_parts scope depth l c children siblings e =
-    let parts = both_empty (content_faults (within c scope) depth l c ++ node_faults (within c scope) (depth + 1) children) (node_faults scope depth siblings) e in
+    let parts = both_empty (content_faults (within c scope) depth l c ++ node_faults (within c scope) (depth + 1) children)
+    (node_faults scope depth siblings) e in
     let front = both_empty (content_faults (within c scope) depth l c) (node_faults (within c scope) (depth + 1) children) parts.0 in
     (front.0, front.1, parts.1)
 
 node_from : (scope : Scope) (depth : ℕ) (l : LineNumbers) (c : Content) (children siblings : Forest LineNumbers)
-    → content_faults (within c scope) depth l c ≡ [] → node_faults (within c scope) (depth + 1) children ≡ [] → node_faults scope depth siblings ≡ []
+    → content_faults (within c scope) depth l c ≡ [] → node_faults (within c scope) (depth + 1) children ≡ []
+    → node_faults scope depth siblings ≡ []
     → node_faults scope depth (Node l c children siblings) ≡ []
 node_from scope depth l c children siblings own below behind =
     empty_both (content_faults (within c scope) depth l c ++ node_faults (within c scope) (depth + 1) children) (node_faults scope depth siblings)
     (empty_both (content_faults (within c scope) depth l c) (node_faults (within c scope) (depth + 1) children) own below) behind
 
-pub nodes_moved : (f g : Forest LineNumbers) → plain f ≡ plain g → (scope : Scope) (depth : ℕ) → node_faults scope depth f ≡ [] → node_faults scope depth g ≡ []
+pub nodes_moved : (f g : Forest LineNumbers) → plain f ≡ plain g → (scope : Scope) (depth : ℕ) → node_faults scope depth f ≡ []
+    → node_faults scope depth g ≡ []
 nodes_moved f Empty e scope depth n = refl
 nodes_moved Empty (Node m d x y) e scope depth n = absurd (let no : false ≡ true = ap is_node e in cc)
 nodes_moved (Node l c children siblings) (Node m d x y) e scope depth n =
@@ -99,7 +109,8 @@ nodes_moved (Node l c children siblings) (Node m d x y) e scope depth n =
     (subst (λ z. node_faults (within z scope) (depth + 1) x ≡ []) same (nodes_moved children x (ap children_in e) (within c scope) (depth + 1) parts.1))
     (nodes_moved siblings y (ap siblings_in e) scope depth parts.2)
 
-pub kept_nodes : (f : Forest LineNumbers) (scope : Scope) (depth : ℕ) → node_faults scope depth f ≡ [] → node_faults scope depth (without_texts f) ≡ []
+pub kept_nodes : (f : Forest LineNumbers) (scope : Scope) (depth : ℕ) → node_faults scope depth f ≡ []
+    → node_faults scope depth (without_texts f) ≡ []
 kept_nodes Empty scope depth n = refl
 kept_nodes (Node l (Text t) children siblings) scope depth n = kept_nodes siblings scope depth (node_parts scope depth l (Text t) children siblings n).2
 kept_nodes (Node l (Element name a) children siblings) scope depth n =

@@ -1,8 +1,10 @@
 -- Forests with other labels, and without the texts at the top.
-use Rattle.std.proofs.Common.{◌≡◌, ◌≢◌, ℕ, ◌+◌, List, [], ◌∷◌, ◌++◌, map, length, refl, sym, ap, ◌∙◌, subst, arith, length-append}
+use Rattle.std.proofs.Common.{◌≡◌, ◌≢◌, ℕ, ◌+◌, List, [], ◌∷◌, ◌++◌, map, length, refl, sym, ap, ◌∙◌, subst, arith}
+use Rattle.std.proofs.Common.{length-append}
 use Rattle.spec_document.specs.declared.event.Event.{Event}
 use Rattle.spec_document.specs.declared.event.Event.TheVariants.{Start, End, Data, Instruction as InstructionEvent, Comment as CommentEvent}
-use Rattle.spec_document.specs.Forest.{Element, Text, Comment, Instruction, Forest, Empty, Node, Plain, plain, with_text, attribute_event, IsForestOf, is_empty, is_element, is_text, is_comment, is_instruction, IsNormal, written, size, labels, numbered}
+use Rattle.spec_document.specs.Forest.{Element, Text, Comment, Instruction, Forest, Empty, Node, Plain, plain, with_text, attribute_event, IsForestOf}
+use Rattle.spec_document.specs.Forest.{is_empty, is_element, is_text, is_comment, is_instruction, IsNormal, written, size, labels, numbered}
 use Rattle.spec_document.specs.Top.{without_texts}
 
 -- ---- Normal forests
@@ -22,7 +24,8 @@ pub forest_normal : (events : List (Event (List ℕ))) (f : Plain) → IsForestO
 forest_normal events f is_empty = tt
 forest_normal events f (is_element {inner = inner} {rest = rest} {children = children} {siblings = siblings} name attributes split below behind) =
     (forest_normal inner children below, forest_normal rest siblings behind)
-forest_normal events f (is_text {rest = rest} {siblings = siblings} text behind is) = subst IsNormal (sym is) (text_normal text siblings (forest_normal rest siblings behind))
+forest_normal events f (is_text {rest = rest} {siblings = siblings} text behind is) =
+    subst IsNormal (sym is) (text_normal text siblings (forest_normal rest siblings behind))
 forest_normal events f (is_comment {rest = rest} {siblings = siblings} text behind) = (refl, forest_normal rest siblings behind)
 forest_normal events f (is_instruction {rest = rest} {siblings = siblings} target text behind) = (refl, forest_normal rest siblings behind)
 

@@ -1,5 +1,6 @@
 -- Data that follows data is one text.
-use Rattle.std.proofs.Common.{◌≡◌, ℕ, ◌<◌, ◌≤◌, List, [], ◌∷◌, map, length, drop, Option, Some, None, refl, sym, ap, ◌∙◌, arith, append-nil}
+use Rattle.std.proofs.Common.{◌≡◌, ℕ, ◌<◌, ◌≤◌, List, [], ◌∷◌, map, length, drop, Option, Some, None, refl, sym, ap, ◌∙◌}
+use Rattle.std.proofs.Common.{arith, append-nil}
 use Rattle.std.specs.Option.{option_and_then}
 use Rattle.spec_document.specs.declared.event.Event.{Event}
 use Rattle.spec_document.specs.declared.event.Event.TheVariants.{Start, Attribute, Data, Instruction as InstructionEvent, End, Comment as CommentEvent}
@@ -7,7 +8,8 @@ use Rattle.spec_document.specs.Forest.{Written, Element, Text, Comment, Instruct
 use Rattle.spec_document.specs.Balance.{LineNumbers, Rest, with_event, rest_of, forest_of, closed, alone}
 use Rattle.xt_build.specs.Piece.{Piece, open_in, forest_in, first_of, IsWhole}
 use Rattle.xt_build.specs.Front.{attributes_first, data_first, text_first, with_data, text_pieces, pieces_first, events_first}
-use Rattle.xt_build.proofs.Fronts.{stack, Stands, Fronted, AttributesAre, attributes-are, NoTextFirst, no_text-behind, drop-more, start-option, attribute-option, instruction-option, comment-option, end-option}
+use Rattle.xt_build.proofs.Fronts.{stack, Stands, Fronted, AttributesAre, attributes-are, NoTextFirst, no_text-behind, drop-more, start-option}
+use Rattle.xt_build.proofs.Fronts.{attribute-option, instruction-option, comment-option, end-option}
 
 joined-joined : (line : ℕ) (t : List ℕ) (g : ℕ × List ℕ) (s : Forest LineNumbers) → IsNoText s
     → joined (alone line) t (joined (alone g.0) g.1 s) ≡ joined (alone (with_data line t g).0) (with_data line t g).1 s
@@ -25,7 +27,8 @@ Texted None text behind = Unit {0}
 Texted (Some r) text None = ⊥
 Texted (Some r) text (Some b) = (r.attributes ≡ b.attributes) × (r.siblings ≡ joined (alone text.0) text.1 b.siblings) × (r.behind ≡ b.behind)
 
-unless-texted : (line : ℕ) (t : List ℕ) (own : List (ℕ × Written)) (s : Forest LineNumbers) (h : List (List ℕ × Forest LineNumbers)) (g : ℕ × List ℕ) (b : Rest)
+unless-texted : (line : ℕ) (t : List ℕ) (own : List (ℕ × Written)) (s : Forest LineNumbers) (h : List (List ℕ × Forest LineNumbers))
+    (g : ℕ × List ℕ) (b : Rest)
     → NoTextFirst (Some b) → Texted (Some (record { attributes = own; siblings = s; behind = h })) g (Some b)
     → Texted (with_event line (Data t) (record { attributes = own; siblings = s; behind = h })) (with_data line t g) (Some b)
 unless-texted line t [] s h g b clear e = (e.0, ap (joined (alone line) t) e.1 ∙ joined-joined line t g b.siblings (clear (sym e.0)), e.2)
@@ -45,27 +48,31 @@ texted-none (Some r) line = (refl, refl, refl)
 data-texted : (es : List (ℕ × Event (List ℕ))) → Texted (rest_of es) (text_first es) (rest_of (drop (data_first es) es))
 data-texted [] = texted-none (rest_of []) 0
 data-texted ((line, Data text) ∷ es) =
-    rw (drop-more (line, Data text) es (data_first es)) (data-option line text (rest_of es) (rest_of (drop (data_first es) es)) (text_first es) (no_text-behind es) (data-texted es))
+    rw (drop-more (line, Data text) es (data_first es))
+    (data-option line text (rest_of es) (rest_of (drop (data_first es) es)) (text_first es) (no_text-behind es) (data-texted es))
 data-texted ((line, Start name) ∷ es) = texted-none (rest_of ((line, Start name) ∷ es)) 0
 data-texted ((line, Attribute name value) ∷ es) = texted-none (rest_of ((line, Attribute name value) ∷ es)) 0
 data-texted ((line, InstructionEvent target text) ∷ es) = texted-none (rest_of ((line, InstructionEvent target text) ∷ es)) 0
 data-texted ((line, End name) ∷ es) = texted-none (rest_of ((line, End name) ∷ es)) 0
 data-texted ((line, CommentEvent text) ∷ es) = texted-none (rest_of ((line, CommentEvent text) ∷ es)) 0
 
-joined-node : (line c : ℕ) (cs : List ℕ) (s : Forest LineNumbers) → IsNoText s → joined (alone line) (c ∷ cs) s ≡ Node (alone line) (Text (c ∷ cs)) Empty s
+joined-node : (line c : ℕ) (cs : List ℕ) (s : Forest LineNumbers) → IsNoText s
+    → joined (alone line) (c ∷ cs) s ≡ Node (alone line) (Text (c ∷ cs)) Empty s
 joined-node line c cs Empty h = refl
 joined-node line c cs (Node k (Element n a) f s) h = refl
 joined-node line c cs (Node k (Text t) f s) h = absurd h
 joined-node line c cs (Node k (Comment t) f s) h = refl
 joined-node line c cs (Node k (Instruction n t) f s) h = refl
 
-texted-stands : (r b : Rest) (g : ℕ × List ℕ) → r.attributes ≡ [] → NoTextFirst (Some b) → Texted (Some r) g (Some b) → Stands (Some b) (text_pieces g) r
+texted-stands : (r b : Rest) (g : ℕ × List ℕ) → r.attributes ≡ [] → NoTextFirst (Some b) → Texted (Some r) g (Some b)
+    → Stands (Some b) (text_pieces g) r
 texted-stands r b (l, []) none clear h = ((λ i. sym h.1 i ∷ map (λ e. e.1) (sym h.2 i)), tt)
 texted-stands r b (l, c ∷ cs) none clear h =
     let said = h.1 ∙ joined-node l c cs b.siblings (clear (sym h.0 ∙ none)) in
     ((λ i. sym said i ∷ map (λ e. e.1) (sym h.2 i)), tt)
 
-texted-fronted : (o behind : Option Rest) (g : ℕ × List ℕ) → AttributesAre o [] → NoTextFirst behind → Texted o g behind → Fronted o (text_pieces g) behind
+texted-fronted : (o behind : Option Rest) (g : ℕ × List ℕ) → AttributesAre o [] → NoTextFirst behind → Texted o g behind
+    → Fronted o (text_pieces g) behind
 texted-fronted None None g none clear h = tt
 texted-fronted None (Some b) g none clear h = tt
 texted-fronted (Some r) None g none clear h = absurd h
@@ -114,7 +121,8 @@ first-some ((line, CommentEvent text) ∷ es) h = omega arith
 some-same : {X : Type 0} (x y : X) → Option.Some x ≡ Some y → x ≡ y
 some-same x y e = ap (λ o. elim o [ None ↦ x | Some z ↦ z ]) e
 
-closed-is : (own : List (ℕ × Written)) (s : Forest LineNumbers) (b : List (List ℕ × Forest LineNumbers)) (f : Forest LineNumbers) → closed own s b ≡ Some f → (s ≡ f) × (b ≡ [])
+closed-is : (own : List (ℕ × Written)) (s : Forest LineNumbers) (b : List (List ℕ × Forest LineNumbers)) (f : Forest LineNumbers)
+    → closed own s b ≡ Some f → (s ≡ f) × (b ≡ [])
 closed-is [] s [] f e = (some-same s f e, refl)
 closed-is [] s (x ∷ b) f e = absurd (cc)
 closed-is (a ∷ own) s [] f e = absurd (cc)
@@ -132,7 +140,8 @@ option-whole : (ps : List Piece) (o : Option Rest) (f : Forest LineNumbers) → 
 option-whole ps None f h e = absurd (cc)
 option-whole ps (Some w) f h e = stands-whole ps w f (h w refl) e
 
-pub pieces-whole : (ps : List Piece) (es : List (ℕ × Event (List ℕ))) (f : Forest LineNumbers) → ((w : Rest) → rest_of es ≡ Some w → Stands (rest_of []) ps w)
+pub pieces-whole : (ps : List Piece) (es : List (ℕ × Event (List ℕ))) (f : Forest LineNumbers)
+    → ((w : Rest) → rest_of es ≡ Some w → Stands (rest_of []) ps w)
     → forest_of es ≡ Some f → IsWhole ps × (forest_in ps ≡ f)
 pieces-whole ps es f h e = option-whole ps (rest_of es) f h e
 

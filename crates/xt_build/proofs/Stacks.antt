@@ -36,7 +36,8 @@ closed-rest (Begins l (Text t)) ps behind h = h
 closed-rest (Begins l (Comment t)) ps behind h = h
 closed-rest (Begins l (Instruction n t)) ps behind h = h
 
-pub closed-element : (l : LineNumbers) (c : Content) (ps : List Piece) (behind : List (Forest LineNumbers)) → is_element c ≡ true → AreClosed (Begins l c ∷ ps) behind
+pub closed-element : (l : LineNumbers) (c : Content) (ps : List Piece) (behind : List (Forest LineNumbers)) → is_element c ≡ true
+    → AreClosed (Begins l c ∷ ps) behind
     → 1 < length (pieces_before ps behind)
 closed-element l (Element n a) ps behind e h = h.0
 closed-element l (Text t) ps behind e h = absurd (cc)

@@ -49,7 +49,8 @@ text_pieces (line, c ∷ cs) = Begins (alone line) (Text (c ∷ cs)) ∷ []
 abbrev pub pieces_first : List (ℕ × Event (List ℕ)) → List Piece
 pieces_first [] = []
 pieces_first ((line, Start name) ∷ events) =
-    Begins (record { first = line; attributes = map (λ a. a.0) (attributes_first events) }) (Element name (map (λ a. a.1) (attributes_first events))) ∷ []
+    Begins (record { first = line; attributes = map (λ a. a.0) (attributes_first events) })
+    (Element name (map (λ a. a.1) (attributes_first events))) ∷ []
 pieces_first ((line, Attribute name value) ∷ events) = []
 pieces_first ((line, Data text) ∷ events) = text_pieces (text_first ((line, Data text) ∷ events))
 pieces_first ((line, InstructionEvent target text) ∷ events) = Begins (alone line) (Instruction target text) ∷ []

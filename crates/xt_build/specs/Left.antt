@@ -15,7 +15,8 @@ innermost outside (scope ∷ scopes) = scope
 -- the faults of the nodes of open forests. Those of the outermost stand at this depth
 abbrev pub open_faults : Scope → ℕ → List Scope → List (Forest LineNumbers) → List Fault
 open_faults outside depth scopes [] = []
-open_faults outside depth scopes (f ∷ fs) = node_faults (innermost outside scopes) (depth + length scopes) f ++ open_faults outside depth (drop 1 scopes) fs
+open_faults outside depth scopes (f ∷ fs) =
+    node_faults (innermost outside scopes) (depth + length scopes) f ++ open_faults outside depth (drop 1 scopes) fs
 
 -- open forests as they are kept: the outermost without its texts, where it stands under a root
 abbrev pub kept_open : Option ℕ → List (Forest LineNumbers) → List (Forest LineNumbers)

@@ -72,6 +72,7 @@ IsReadOf bytes (Ok read.Bad) = (is_utf8 bytes ≡ true) × (is_bad (chars bytes)
 -- the pieces of a body, or what is answered where no forest is to be made of it
 abbrev pub ReadsPieces : List (List ℕ) → Result (Vec Piece Global) BuildFault → Type 0
 ReadsPieces body (Ok pieces) =
-    (least (line_faults body) ≡ None) × (forest_of (events_at body) ≡ Some (spec.forest_in (pieces_of pieces.items))) × spec.IsWhole (pieces_of pieces.items)
+    (least (line_faults body) ≡ None) × (forest_of (events_at body) ≡ Some (spec.forest_in (pieces_of pieces.items)))
+    × spec.IsWhole (pieces_of pieces.items)
 ReadsPieces body (Err variant.Memory) = Unit {0}
 ReadsPieces body (Err (variant.Refused fault)) = answer_of (line_faults body) (made_of Ok (events_at body)) ≡ Err (fault_of fault)

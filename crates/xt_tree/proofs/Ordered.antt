@@ -1,5 +1,6 @@
 -- Where nodes are numbered in document order, their numbers are those of a document.
-use Rattle.std.proofs.Common.{◌≡◌, ◌<◌, ◌≤◌, ℕ, ◌+◌, zero, suc, Bool, true, false, not, ◌∷◌, ◌++◌, ◌==◌, refl, sym, ap, ◌∙◌, arith}
+use Rattle.std.proofs.Common.{◌≡◌, ◌<◌, ◌≤◌, ℕ, ◌+◌, zero, suc, Bool, true, false, not, ◌∷◌, ◌++◌, ◌==◌, refl, sym, ap}
+use Rattle.std.proofs.Common.{◌∙◌, arith}
 use Rattle.std.specs.Prelude.{◌&&◌, ◌||◌, nat_lt}
 use Rattle.std.specs.List.{list_any, list_all, range_with_len}
 use Rattle.std.proofs.lemmas.Bool.{eqb-true, lt-ltb}
@@ -46,7 +47,8 @@ not_later m n (suc count) h = neither (n == m) _ (other_number m n h) (not_later
 
 distinct_range : (n count : ℕ) → are_distinct (range_with_len n count) ≡ true
 distinct_range n zero = refl
-distinct_range n (suc count) = both (not (list_any (λ k. k == n) (range_with_len (n + 1) count))) _ (ap not (not_later n (n + 1) count (omega arith))) (distinct_range (n + 1) count)
+distinct_range n (suc count) =
+    both (not (list_any (λ k. k == n) (range_with_len (n + 1) count))) _ (ap not (not_later n (n + 1) count (omega arith))) (distinct_range (n + 1) count)
 
 small_range : (n count : ℕ) → n + count ≤ number_limit → list_all (λ k. nat_lt k number_limit) (range_with_len n count) ≡ true
 small_range n zero h = refl
@@ -58,4 +60,5 @@ pub ordered_numbers : (root : ℕ) (nodes : spec.Forest ℕ) → spec.numbered (
 ordered_numbers root nodes order limit =
     let range : range_with_len (root + 1) (spec.size nodes) ≡ spec.labels nodes = sym (labels-numbered (root + 1) nodes) ∙ ap spec.labels order in
     ap (λ ns. are_numbers (root ∷ ns)) (sym range)
-    ∙ both (are_distinct (range_with_len root (suc (spec.size nodes)))) _ (distinct_range root (suc (spec.size nodes))) (small_range root (suc (spec.size nodes)) (omega arith))
+    ∙ both (are_distinct (range_with_len root (suc (spec.size nodes)))) _ (distinct_range root (suc (spec.size nodes)))
+    (small_range root (suc (spec.size nodes)) (omega arith))

@@ -1,7 +1,8 @@
 -- Streams after streams, and streams with their holes filled.
 use Rattle.std.proofs.Common.{◌≡◌, ◌∙◌, refl, sym, ap, ℕ, ◌+◌, List, [], ◌∷◌, ◌++◌, map, drop, arith}
 use Rattle.std.proofs.lemmas.List.{drop-map, drop-drop}
-use Rattle.spec_meaning.specs.Stream.{Stream, Ended, Element, Nameless, Attribute, Namespace, Text, Comment, Instruction, Message, Hole, followed, all_followed, holes, first_of, filled}
+use Rattle.spec_meaning.specs.Stream.{Stream, Ended, Element, Nameless, Attribute, Namespace, Text, Comment, Instruction, Message, Hole, followed}
+use Rattle.spec_meaning.specs.Stream.{all_followed, holes, first_of, filled}
 use Rattle.xt_tree.specs.StreamView.{item_step, items_step, single_of, stream_of, streams_of}
 use Rattle.std.specs.declared.rc.Rc.{Rc}
 use Rattle.std.specs.declared.alloc.Global.{Global}
@@ -79,26 +80,33 @@ pub filled-followed : (s t : Stream) (parts : List Stream) → filled (followed 
 filled-followed Ended t parts = refl
 filled-followed (Element name uri namespaces content rest) t parts =
     ap (Element name uri namespaces (filled content parts)) (filled-followed rest t (drop (holes content) parts))
-    ∙ ap (λ ps. Element name uri namespaces (filled content parts) (followed (filled rest (drop (holes content) parts)) (filled t ps))) (drop-drop (holes rest) (holes content) parts)
+    ∙ ap (λ ps. Element name uri namespaces (filled content parts) (followed (filled rest (drop (holes content) parts)) (filled t ps)))
+    (drop-drop (holes rest) (holes content) parts)
 filled-followed (Nameless content rest) t parts =
     ap (Nameless (filled content parts)) (filled-followed rest t (drop (holes content) parts))
-    ∙ ap (λ ps. Nameless (filled content parts) (followed (filled rest (drop (holes content) parts)) (filled t ps))) (drop-drop (holes rest) (holes content) parts)
+    ∙ ap (λ ps. Nameless (filled content parts) (followed (filled rest (drop (holes content) parts)) (filled t ps)))
+    (drop-drop (holes rest) (holes content) parts)
 filled-followed (Attribute name uri content rest) t parts =
     ap (Attribute name uri (filled content parts)) (filled-followed rest t (drop (holes content) parts))
-    ∙ ap (λ ps. Attribute name uri (filled content parts) (followed (filled rest (drop (holes content) parts)) (filled t ps))) (drop-drop (holes rest) (holes content) parts)
+    ∙ ap (λ ps. Attribute name uri (filled content parts) (followed (filled rest (drop (holes content) parts)) (filled t ps)))
+    (drop-drop (holes rest) (holes content) parts)
 filled-followed (Namespace prefix uri rest) t parts = ap (Namespace prefix uri) (filled-followed rest t parts)
 filled-followed (Text text rest) t parts = ap (Text text) (filled-followed rest t parts)
 filled-followed (Comment content rest) t parts =
     ap (Comment (filled content parts)) (filled-followed rest t (drop (holes content) parts))
-    ∙ ap (λ ps. Comment (filled content parts) (followed (filled rest (drop (holes content) parts)) (filled t ps))) (drop-drop (holes rest) (holes content) parts)
+    ∙ ap (λ ps. Comment (filled content parts) (followed (filled rest (drop (holes content) parts)) (filled t ps)))
+    (drop-drop (holes rest) (holes content) parts)
 filled-followed (Instruction target content rest) t parts =
     ap (Instruction target (filled content parts)) (filled-followed rest t (drop (holes content) parts))
-    ∙ ap (λ ps. Instruction target (filled content parts) (followed (filled rest (drop (holes content) parts)) (filled t ps))) (drop-drop (holes rest) (holes content) parts)
+    ∙ ap (λ ps. Instruction target (filled content parts) (followed (filled rest (drop (holes content) parts)) (filled t ps)))
+    (drop-drop (holes rest) (holes content) parts)
 filled-followed (Message content rest) t parts =
     ap (Message (filled content parts)) (filled-followed rest t (drop (holes content) parts))
-    ∙ ap (λ ps. Message (filled content parts) (followed (filled rest (drop (holes content) parts)) (filled t ps))) (drop-drop (holes rest) (holes content) parts)
+    ∙ ap (λ ps. Message (filled content parts) (followed (filled rest (drop (holes content) parts)) (filled t ps)))
+    (drop-drop (holes rest) (holes content) parts)
 filled-followed (Hole rest) t parts =
-    ap (followed (first_of parts)) (filled-followed rest t (drop 1 parts)) ∙ sym (followed-followed (first_of parts) (filled rest (drop 1 parts)) (filled t (drop (holes rest) (drop 1 parts))))
+    ap (followed (first_of parts)) (filled-followed rest t (drop 1 parts))
+    ∙ sym (followed-followed (first_of parts) (filled rest (drop 1 parts)) (filled t (drop (holes rest) (drop 1 parts))))
     ∙ ap (λ ps. followed (followed (first_of parts) (filled rest (drop 1 parts))) (filled t ps)) (drop-drop (holes rest) 1 parts)
 
 -- ---- A stream without holes
@@ -108,7 +116,8 @@ neither a b h = (omega (arith, h), omega (arith, h))
 
 -- what has a content and a rest
 both : (make : Stream → Stream → Stream) (content rest : Stream) (parts : List Stream) → holes content + holes rest ≡ 0
-    → (holes content ≡ 0 → (ps : List Stream) → filled content ps ≡ content) → (holes rest ≡ 0 → (ps : List Stream) → filled rest ps ≡ rest)
+    → (holes content ≡ 0 → (ps : List Stream) → filled content ps ≡ content)
+    → (holes rest ≡ 0 → (ps : List Stream) → filled rest ps ≡ rest)
     → make (filled content parts) (filled rest (drop (holes content) parts)) ≡ make content rest
 both make content rest parts h below after =
     let none = neither (holes content) (holes rest) h in
@@ -116,7 +125,8 @@ both make content rest parts h below after =
 
 pub filled-none : (s : Stream) → holes s ≡ 0 → (parts : List Stream) → filled s parts ≡ s
 filled-none Ended h parts = refl
-filled-none (Element name uri namespaces content rest) h parts = both (Element name uri namespaces) content rest parts h (filled-none content) (filled-none rest)
+filled-none (Element name uri namespaces content rest) h parts =
+    both (Element name uri namespaces) content rest parts h (filled-none content) (filled-none rest)
 filled-none (Nameless content rest) h parts = both Nameless content rest parts h (filled-none content) (filled-none rest)
 filled-none (Attribute name uri content rest) h parts = both (Attribute name uri) content rest parts h (filled-none content) (filled-none rest)
 filled-none (Namespace prefix uri rest) h parts = ap (Namespace prefix uri) (filled-none rest h parts)
@@ -128,7 +138,9 @@ filled-none (Hole rest) h parts = absurd (omega (arith, h))
 
 -- the first item of several, and the parts for those after it
 pub filled_first : (s t : Stream) (next : ℕ) (parts : List (Rc Items Global))
-    → filled (followed s t) (streams_of (drop next parts)) ≡ followed (filled s (streams_of (drop next parts))) (filled t (streams_of (drop (next + holes s) parts)))
+    → filled (followed s t) (streams_of (drop next parts))
+    ≡ followed (filled s (streams_of (drop next parts))) (filled t (streams_of (drop (next + holes s) parts)))
 filled_first s t next parts =
     filled-followed s t (streams_of (drop next parts))
-    ∙ ap (λ ps. followed (filled s (streams_of (drop next parts))) (filled t ps)) (drop-map (λ p. stream_of p.value) (holes s) (drop next parts) ∙ ap streams_of (drop-drop (holes s) next parts))
+    ∙ ap (λ ps. followed (filled s (streams_of (drop next parts))) (filled t ps))
+    (drop-map (λ p. stream_of p.value) (holes s) (drop next parts) ∙ ap streams_of (drop-drop (holes s) next parts))

@@ -1,5 +1,6 @@
 -- A tree, level by level.
-use Rattle.std.proofs.Common.{◌≡◌, ℕ, ◌-◌, ◌<◌, ◌≤◌, ◌≢◌, suc, sym, eq-eqb, length, get_or, arith, true, false, cond, List, [], ◌∷◌, ◌++◌, ◌==◌, Option, Some, None, is_some, ◌∙◌, refl, ap}
+use Rattle.std.proofs.Common.{◌≡◌, ℕ, ◌-◌, ◌<◌, ◌≤◌, ◌≢◌, suc, sym, eq-eqb, length, get_or, arith, true, false, cond, List, []}
+use Rattle.std.proofs.Common.{◌∷◌, ◌++◌, ◌==◌, Option, Some, None, is_some, ◌∙◌, refl, ap}
 use Rattle.std.proofs.lemmas.Simd.{map-map}
 use Rattle.std.specs.Option.{option_or, option_map}
 use Rattle.std.proofs.lemmas.Bool.{eqb-true}
@@ -9,12 +10,14 @@ use Rattle.spec_document.specs.Forest as spec
 use Rattle.xt_tree.specs.declared.node.Node.{Node, out-Node, fold_out-Node}
 use Rattle.xt_tree.specs.View.{Tree, tree_of, content_of, forest, forest_of, first_tree, tree_at, node_step}
 
-pub view-Node : (n : Node) → tree_of n ≡ record { number = (out-Node n).id.number; content = content_of (out-Node n).content; children = forest_of (out-Node n).children.items }
+pub view-Node : (n : Node)
+    → tree_of n ≡ record { number = (out-Node n).id.number; content = content_of (out-Node n).content; children = forest_of (out-Node n).children.items }
 view-Node n = fold_out-Node Tree node_step n ∙ rw map-map refl
 
 -- the first in document order, where it is not the first sibling itself
 pub first_later : (number : ℕ) (n : Node) (more : List Tree) → ((out-Node n).id.number == number) ≡ false
-    → first_tree number (forest (tree_of n ∷ more)) ≡ option_or (first_tree number (forest_of (out-Node n).children.items)) (first_tree number (forest more))
+    → first_tree number (forest (tree_of n ∷ more))
+    ≡ option_or (first_tree number (forest_of (out-Node n).children.items)) (first_tree number (forest more))
 first_later number n more h = rw (view-Node n, h) refl
 
 pub or_some : {A B : Type 0} (f : A → B) (o : Option A) (rest : Option B) → is_some o ≡ true → option_or (option_map f o) rest ≡ option_map f o
@@ -41,10 +44,12 @@ tree_at-past (x ∷ xs) p h =
       | false ↦ λ _. tree_at-past xs (p - 1) (omega arith)
     ] refl
 
-pub tree_at-index : (xs : List (Rc Node Global)) (p : ℕ) (d : Rc Node Global) → 0 < p → p ≤ length xs → tree_at (forest_of xs) p ≡ Some (tree_of (get_or xs (p - 1) d).value)
+pub tree_at-index : (xs : List (Rc Node Global)) (p : ℕ) (d : Rc Node Global) → 0 < p → p ≤ length xs
+    → tree_at (forest_of xs) p ≡ Some (tree_of (get_or xs (p - 1) d).value)
 tree_at-index [] p d h g = absurd (omega arith)
 tree_at-index (x ∷ xs) p d h g =
-    elim (p == 1) as (λ b. (p == 1) ≡ b → cond b (Some (tree_of x.value)) (tree_at (forest_of xs) (p - 1)) ≡ Some (tree_of (get_or (x ∷ xs) (p - 1) d).value)) [
+    elim (p == 1) as (λ b. (p == 1) ≡ b
+    → cond b (Some (tree_of x.value)) (tree_at (forest_of xs) (p - 1)) ≡ Some (tree_of (get_or (x ∷ xs) (p - 1) d).value)) [
       | true ↦ λ e. let is : p ≡ 1 = eqb-true p 1 e in rw is refl
       | false ↦ λ e.
           let apart : p ≢ 1 = λ is. true_false (sym (eq-eqb p 1 is) ∙ e) in

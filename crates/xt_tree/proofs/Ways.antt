@@ -1,5 +1,6 @@
 -- Ways through a forest, and the nodes that they lead to.
-use Rattle.std.proofs.Common.{◌≡◌, ◌≢◌, ◌≤◌, subst, ℕ, ◌+◌, ◌-◌, true, false, cond, List, [], ◌∷◌, ◌++◌, ◌==◌, Option, Some, None, is_some, refl, sym, ap, ◌∙◌, arith, append_assoc, length, length-append, take}
+use Rattle.std.proofs.Common.{◌≡◌, ◌≢◌, ◌≤◌, subst, ℕ, ◌+◌, ◌-◌, true, false, cond, List, [], ◌∷◌, ◌++◌, ◌==◌}
+use Rattle.std.proofs.Common.{Option, Some, None, is_some, refl, sym, ap, ◌∙◌, arith, append_assoc, length, length-append, take}
 use Rattle.std.proofs.Math.Seq.{take-append_seam}
 use Rattle.std.specs.Prelude.{MatchOption}
 use Rattle.std.proofs.lemmas.Bool.{eqb-true}
@@ -10,7 +11,8 @@ use Rattle.spec_document.specs.declared.kind.Kind.TheVariants as kind
 use Rattle.spec_document.specs.Declaration.{within, namespaces_in, scope_of as scope_in}
 use Rattle.spec_document.specs.Place.{kind_by, namespaces_by, scope_at, Found, found_in, child_at, node_from, node_at, root_of, first_in}
 use Rattle.xt_tree.specs.declared.node.Node.{Node, out-Node}
-use Rattle.xt_tree.specs.View.{scope_from, content_of, Tree, tree_of, forest, forest_of, tree_at, number_from, way_to, gone_on, first_tree, itself, numbered_node, IsWayTo}
+use Rattle.xt_tree.specs.View.{scope_from, content_of, Tree, tree_of, forest, forest_of, tree_at, number_from, way_to, gone_on, first_tree, itself}
+use Rattle.xt_tree.specs.View.{numbered_node, IsWayTo}
 use Rattle.xt_tree.proofs.Views.{view-Node}
 
 abbrev found_tree : List spec.Content → Tree → Found ℕ
@@ -19,14 +21,16 @@ found_tree above t = found_in above t.number t.content t.children
 pub child_at-tree_at : (above : List spec.Content) (f : spec.Forest ℕ) (p : ℕ) → child_at above f p ≡ option_map (found_tree above) (tree_at f p)
 child_at-tree_at above spec.Empty p = refl
 child_at-tree_at above (spec.Node l c f g) p =
-    elim (p == 1) as (λ b. cond b (Some (found_in above l c f)) (child_at above g (p - 1)) ≡ option_map (found_tree above) (cond b (Some (record { number = l; content = c; children = f })) (tree_at g (p - 1)))) [
+    elim (p == 1) as (λ b. cond b (Some (found_in above l c f)) (child_at above g (p - 1))
+    ≡ option_map (found_tree above) (cond b (Some (record { number = l; content = c; children = f })) (tree_at g (p - 1)))) [
       | true ↦ refl
       | false ↦ child_at-tree_at above g (p - 1)
     ]
 
 label_below : (ps : List ℕ) (above : List spec.Content) (o : Option Tree)
     → ((node : Found ℕ) → option_map (λ n. n.label) (node_from ps node) ≡ number_from ps node.label node.children)
-    → option_map (λ n. n.label) (option_and_then (node_from ps) (option_map (found_tree above) o)) ≡ option_and_then (λ tree. number_from ps tree.number tree.children) o
+    → option_map (λ n. n.label) (option_and_then (node_from ps) (option_map (found_tree above) o))
+    ≡ option_and_then (λ tree. number_from ps tree.number tree.children) o
 label_below ps above None below = refl
 label_below ps above (Some t) below = below (found_tree above t)
 
@@ -41,10 +45,13 @@ label-node_from (p ∷ ps) node =
 
 -- the way, where it does not end at the first sibling itself
 pub way_later : (number position : ℕ) (n : Node) (more : List Tree) → ((out-Node n).id.number == number) ≡ false
-    → way_to number position (forest (tree_of n ∷ more)) ≡ option_or (option_map (λ way. position ∷ way) (way_to number 1 (forest_of (out-Node n).children.items))) (way_to number (position + 1) (forest more))
+    → way_to number position (forest (tree_of n ∷ more))
+    ≡ option_or (option_map (λ way. position ∷ way) (way_to number 1 (forest_of (out-Node n).children.items)))
+    (way_to number (position + 1) (forest more))
 way_later number position n more h = rw (view-Node n, h) refl
 
-pub some_first : (position : ℕ) (way rest : Option (List ℕ)) → is_some way ≡ true → is_some (option_or (option_map (λ way. position ∷ way) way) rest) ≡ true
+pub some_first : (position : ℕ) (way rest : Option (List ℕ)) → is_some way ≡ true
+    → is_some (option_or (option_map (λ way. position ∷ way) way) rest) ≡ true
 some_first position (Some way) rest h = refl
 some_first position None rest h = absurd (cc)
 
@@ -53,7 +60,8 @@ pub path_first : (path : List ℕ) (position : ℕ) (way rest : Option (List ℕ
 path_first path position (Some way) rest h = append_assoc path (position ∷ []) way
 path_first path position None rest h = absurd (cc)
 
-pub not_first : (position : ℕ) (way rest : Option (List ℕ)) → is_some way ≡ false → option_or (option_map (λ way. position ∷ way) way) rest ≡ rest
+pub not_first : (position : ℕ) (way rest : Option (List ℕ)) → is_some way ≡ false
+    → option_or (option_map (λ way. position ∷ way) way) rest ≡ rest
 not_first position None rest h = refl
 not_first position (Some way) rest h = absurd (cc)
 
@@ -62,7 +70,8 @@ as_before path None h = refl
 as_before path (Some way) h = absurd (cc)
 
 -- one position less
-pub popped : (r : Option ℕ) (before after path : List ℕ) (n : ℕ) → MatchOption r ((before ≡ []) × (after ≡ [])) (λ position. before ≡ after ++ position ∷ [])
+pub popped : (r : Option ℕ) (before after path : List ℕ) (n : ℕ)
+    → MatchOption r ((before ≡ []) × (after ≡ [])) (λ position. before ≡ after ++ position ∷ [])
     → before ≡ path ++ n ∷ [] → after ≡ path
 popped None before after path n h e = absurd (not_empty path (sym e ∙ h.0))
   where
@@ -72,7 +81,8 @@ popped None before after path n h e = absurd (not_empty path (sym e ∙ h.0))
 popped (Some p) before after path n h e =
     let same : after ++ p ∷ [] ≡ path ++ n ∷ [] = sym h ∙ e in
     let long : length after ≡ length path = omega (arith, ap length same, length-append after (p ∷ []), length-append path (n ∷ [])) in
-    sym (take-append_seam after (p ∷ [])) ∙ ap (take (length after)) same ∙ ap (λ k. take k (path ++ n ∷ [])) long ∙ take-append_seam path (n ∷ [])
+    sym (take-append_seam after (p ∷ [])) ∙ ap (take (length after)) same ∙ ap (λ k. take k (path ++ n ∷ [])) long
+    ∙ take-append_seam path (n ∷ [])
 
 -- one step down
 pub number_down : (p : ℕ) (ps : List ℕ) (number : ℕ) (f : spec.Forest ℕ) (n : Node) → tree_at f p ≡ Some (tree_of n)
@@ -103,7 +113,8 @@ first_child position l c f g above = let one : position + 1 - position ≡ 1 = o
 later_child : (position p : ℕ) (l : ℕ) (c : spec.Content) (f g : spec.Forest ℕ) (above : List spec.Content) → position + 1 ≤ p
     → child_at above (spec.Node l c f g) (p + 1 - position) ≡ child_at above g (p + 1 - (position + 1))
 later_child position p l c f g above h =
-    elim (p + 1 - position == 1) as (λ b. (p + 1 - position == 1) ≡ b → cond b (Some (found_in above l c f)) (child_at above g (p + 1 - position - 1)) ≡ child_at above g (p + 1 - (position + 1))) [
+    elim (p + 1 - position == 1) as (λ b. (p + 1 - position == 1) ≡ b
+    → cond b (Some (found_in above l c f)) (child_at above g (p + 1 - position - 1)) ≡ child_at above g (p + 1 - (position + 1))) [
       | true ↦ λ e. let is : p + 1 - position ≡ 1 = eqb-true (p + 1 - position) 1 e in absurd (omega arith)
       | false ↦ λ _. let less : p + 1 - position - 1 ≡ p + 1 - (position + 1) = omega arith in ap (child_at above g) less
     ] refl
@@ -115,14 +126,16 @@ or_there : {A : Type 0} (a b : Option A) → a ≢ None → option_or a b ≡ a
 or_there None b h = absurd (h refl)
 or_there (Some x) b h = refl
 
-skipped : (position : ℕ) (l : ℕ) (c : spec.Content) (f g : spec.Forest ℕ) (above : List spec.Content) (way : Option (List ℕ)) (found : Option (Found ℕ))
+skipped : (position : ℕ) (l : ℕ) (c : spec.Content) (f g : spec.Forest ℕ) (above : List spec.Content) (way : Option (List ℕ))
+    (found : Option (Found ℕ))
     → LeadsTo (position + 1) g above way found → LeadsTo position (spec.Node l c f g) above way found
 skipped position l c f g above None found h = h
 skipped position l c f g above (Some []) found h = h
 skipped position l c f g above (Some (p ∷ ps)) found h =
     (omega (arith, h.0), ap (option_and_then (node_from ps)) (later_child position p l c f g above h.0) ∙ h.1, h.2)
 
-below_or_behind : (position : ℕ) (l : ℕ) (c : spec.Content) (f g : spec.Forest ℕ) (above : List spec.Content) (way more : Option (List ℕ)) (found others : Option (Found ℕ))
+below_or_behind : (position : ℕ) (l : ℕ) (c : spec.Content) (f g : spec.Forest ℕ) (above : List spec.Content) (way more : Option (List ℕ))
+    (found others : Option (Found ℕ))
     → LeadsTo 1 f (c ∷ above) way found → LeadsTo (position + 1) g above more others
     → LeadsTo position (spec.Node l c f g) above (option_or (option_map (λ w. position ∷ w) way) more) (option_or found others)
 below_or_behind position l c f g above None more found others h k =
@@ -130,10 +143,12 @@ below_or_behind position l c f g above None more found others h k =
 below_or_behind position l c f g above (Some []) more found others h k = absurd h
 below_or_behind position l c f g above (Some (p ∷ ps)) more found others h k =
     let same : p + 1 - 1 ≡ p = omega arith in
-    let down = ap (option_and_then (node_from (p ∷ ps))) (first_child position l c f g above) ∙ ap (λ q. option_and_then (node_from ps) (child_at (c ∷ above) f q)) (sym same) ∙ h.1 in
+    let down = ap (option_and_then (node_from (p ∷ ps))) (first_child position l c f g above)
+    ∙ ap (λ q. option_and_then (node_from ps) (child_at (c ∷ above) f q)) (sym same) ∙ h.1 in
     (omega arith, down ∙ sym (or_there found others h.2), λ e. h.2 (sym (or_there found others h.2) ∙ e))
 
-way_leads : (number position : ℕ) (f : spec.Forest ℕ) (above : List spec.Content) → LeadsTo position f above (way_to number position f) (first_in (λ l. l == number) above f)
+way_leads : (number position : ℕ) (f : spec.Forest ℕ) (above : List spec.Content)
+    → LeadsTo position f above (way_to number position f) (first_in (λ l. l == number) above f)
 way_leads number position spec.Empty above = refl
 way_leads number position (spec.Node l c f g) above =
     elim (l == number) as (λ b. LeadsTo position (spec.Node l c f g) above
@@ -146,7 +161,8 @@ way_leads number position (spec.Node l c f g) above =
 -- from the root
 abbrev pub LeadsFromRoot : spec.Document ℕ → ℕ → Option (List ℕ) → Type 0
 LeadsFromRoot document number None = first_in (λ l. l == number) [] document.nodes ≡ None
-LeadsFromRoot document number (Some way) = (node_at document way ≡ first_in (λ l. l == number) [] document.nodes) × (first_in (λ l. l == number) [] document.nodes ≢ None)
+LeadsFromRoot document number (Some way) =
+    (node_at document way ≡ first_in (λ l. l == number) [] document.nodes) × (first_in (λ l. l == number) [] document.nodes ≢ None)
 
 from_root : (document : spec.Document ℕ) (number : ℕ) (way : Option (List ℕ))
     → LeadsTo 1 document.nodes [] way (first_in (λ l. l == number) [] document.nodes) → LeadsFromRoot document number way
@@ -161,18 +177,22 @@ way_from_root document number = from_root document number _ (way_leads number 1 
 
 pub root_way : (document : spec.Document ℕ) (number : ℕ) → (document.root == number) ≡ true → IsWayTo document number (Some [])
 root_way document number h =
-    let here : numbered_node document number ≡ Some (root_of document) = ap (λ b. cond b (Some (root_of document)) (first_in (λ l. l == number) [] document.nodes)) h in
+    let here : numbered_node document number ≡ Some (root_of document) =
+    ap (λ b. cond b (Some (root_of document)) (first_in (λ l. l == number) [] document.nodes)) h in
     (sym here, λ e. some_none (root_of document) (sym here ∙ e))
 
-not_root : (document : spec.Document ℕ) (number : ℕ) → (document.root == number) ≡ false → numbered_node document number ≡ first_in (λ l. l == number) [] document.nodes
+not_root : (document : spec.Document ℕ) (number : ℕ) → (document.root == number) ≡ false
+    → numbered_node document number ≡ first_in (λ l. l == number) [] document.nodes
 not_root document number h = ap (λ b. cond b (Some (root_of document)) (first_in (λ l. l == number) [] document.nodes)) h
 
-way_is : (document : spec.Document ℕ) (number : ℕ) (way : Option (List ℕ)) → (document.root == number) ≡ false → is_some way ≡ true → LeadsFromRoot document number way
+way_is : (document : spec.Document ℕ) (number : ℕ) (way : Option (List ℕ)) → (document.root == number) ≡ false → is_some way ≡ true
+    → LeadsFromRoot document number way
     → IsWayTo document number (Some (gone_on [] way))
 way_is document number None h s w = absurd (cc)
 way_is document number (Some way) h s w = (w.0 ∙ sym (not_root document number h), λ e. w.1 (sym (not_root document number h) ∙ e))
 
-no_way_is : (document : spec.Document ℕ) (number : ℕ) (way : Option (List ℕ)) → (document.root == number) ≡ false → is_some way ≡ false → LeadsFromRoot document number way
+no_way_is : (document : spec.Document ℕ) (number : ℕ) (way : Option (List ℕ)) → (document.root == number) ≡ false → is_some way ≡ false
+    → LeadsFromRoot document number way
     → numbered_node document number ≡ None
 no_way_is document number None h s w = not_root document number h ∙ w
 no_way_is document number (Some way) h s w = absurd (cc)
@@ -181,7 +201,8 @@ pub place_is : (document : spec.Document ℕ) (number : ℕ) → (document.root 
     → IsWayTo document number (Some (gone_on [] (way_to number 1 document.nodes)))
 place_is document number h s = way_is document number (way_to number 1 document.nodes) h s (way_from_root document number)
 
-pub no_place_is : (document : spec.Document ℕ) (number : ℕ) → (document.root == number) ≡ false → is_some (way_to number 1 document.nodes) ≡ false
+pub no_place_is : (document : spec.Document ℕ) (number : ℕ) → (document.root == number) ≡ false
+    → is_some (way_to number 1 document.nodes) ≡ false
     → numbered_node document number ≡ None
 no_place_is document number h s = no_way_is document number (way_to number 1 document.nodes) h s (way_from_root document number)
 
@@ -204,20 +225,25 @@ either_first (Some n) b (Some s) t h k = h
 either_first None b (Some s) t h k = absurd (cc)
 either_first (Some n) b None t h k = absurd (cc)
 
-pub first_in-tree : (number : ℕ) (above : List spec.Content) (f : spec.Forest ℕ) → option_map seen_node (first_in (λ l. l == number) above f) ≡ option_map seen_tree (first_tree number f)
+pub first_in-tree : (number : ℕ) (above : List spec.Content) (f : spec.Forest ℕ)
+    → option_map seen_node (first_in (λ l. l == number) above f) ≡ option_map seen_tree (first_tree number f)
 first_in-tree number above spec.Empty = refl
 first_in-tree number above (spec.Node l c f g) =
-    elim (l == number) as (λ b. option_map seen_node (cond b (Some (found_in above l c f)) (option_or (first_in (λ l. l == number) (c ∷ above) f) (first_in (λ l. l == number) above g)))
+    elim (l == number) as (λ b. option_map seen_node
+    (cond b (Some (found_in above l c f)) (option_or (first_in (λ l. l == number) (c ∷ above) f) (first_in (λ l. l == number) above g)))
     ≡ option_map seen_tree (cond b (Some (record { number = l; content = c; children = f })) (option_or (first_tree number f) (first_tree number g)))) [
       | true ↦ refl
-      | false ↦ either_first (first_in (λ l. l == number) (c ∷ above) f) (first_in (λ l. l == number) above g) (first_tree number f) (first_tree number g) (first_in-tree number (c ∷ above) f) (first_in-tree number above g)
+      | false ↦ either_first (first_in (λ l. l == number) (c ∷ above) f) (first_in (λ l. l == number) above g) (first_tree number f)
+          (first_tree number g) (first_in-tree number (c ∷ above) f) (first_in-tree number above g)
     ]
 
-seen_number : (document : spec.Document ℕ) (number : ℕ) (x : Found ℕ) → (document.root == number) ≡ false → numbered_node document number ≡ Some x
+seen_number : (document : spec.Document ℕ) (number : ℕ) (x : Found ℕ) → (document.root == number) ≡ false
+    → numbered_node document number ≡ Some x
     → option_map seen_tree (first_tree number document.nodes) ≡ Some (seen_node x)
 seen_number document number x h e = sym (first_in-tree number [] document.nodes) ∙ ap (option_map seen_node) (sym (not_root document number h) ∙ e)
 
-pub no_tree : (document : spec.Document ℕ) (number : ℕ) (x : Found ℕ) → (document.root == number) ≡ false → numbered_node document number ≡ Some x → first_tree number document.nodes ≡ None → ⊥
+pub no_tree : (document : spec.Document ℕ) (number : ℕ) (x : Found ℕ) → (document.root == number) ≡ false
+    → numbered_node document number ≡ Some x → first_tree number document.nodes ≡ None → ⊥
 no_tree document number x h e none = some_none (seen_node x) (sym (seen_number document number x h e) ∙ ap (option_map seen_tree) none)
 
 same_some : {A B C : Type 0} (f : A → C) (g : B → C) (a : Option A) (b : Option B) → option_map f a ≡ option_map g b → is_some a ≡ is_some b
@@ -231,7 +257,8 @@ some_mapped f None = refl
 some_mapped f (Some x) = refl
 
 -- whether there is a node of the number
-pub some_tree : (document : spec.Document ℕ) (number : ℕ) → (document.root == number) ≡ false → is_some (numbered_node document number) ≡ is_some (first_tree number document.nodes)
+pub some_tree : (document : spec.Document ℕ) (number : ℕ) → (document.root == number) ≡ false
+    → is_some (numbered_node document number) ≡ is_some (first_tree number document.nodes)
 some_tree document number h =
     ap is_some (not_root document number h) ∙ same_some seen_node seen_tree _ _ (first_in-tree number [] document.nodes)
 
@@ -243,14 +270,17 @@ pub record IsTree (x : Found ℕ) (t : Tree) : Type 0 where
 some_same : {A : Type 0} (x y : A) → Some x ≡ Some y → x ≡ y
 some_same x y e = ap (λ o. elim o [ Some z ↦ z | None ↦ x ]) e
 
-pub is_tree : (document : spec.Document ℕ) (number : ℕ) (x : Found ℕ) (t : Tree) → (document.root == number) ≡ false → numbered_node document number ≡ Some x
+pub is_tree : (document : spec.Document ℕ) (number : ℕ) (x : Found ℕ) (t : Tree) → (document.root == number) ≡ false
+    → numbered_node document number ≡ Some x
     → first_tree number document.nodes ≡ Some t → IsTree x t
 is_tree document number x t h e some =
-    let same : seen_node x ≡ seen_tree t = some_same (seen_node x) (seen_tree t) (sym (seen_number document number x h e) ∙ ap (option_map seen_tree) some) in
+    let same : seen_node x ≡ seen_tree t =
+    some_same (seen_node x) (seen_tree t) (sym (seen_number document number x h e) ∙ ap (option_map seen_tree) some) in
     record { content = ap (λ s. s.content) same; children = ap (λ s. s.children) same }
 
 -- the root
-pub root_is : (document : spec.Document ℕ) (number : ℕ) (x : Found ℕ) → (document.root == number) ≡ true → numbered_node document number ≡ Some x → root_of document ≡ x
+pub root_is : (document : spec.Document ℕ) (number : ℕ) (x : Found ℕ) → (document.root == number) ≡ true
+    → numbered_node document number ≡ Some x → root_of document ≡ x
 root_is document number x h e =
     some_same (root_of document) x (sym (ap (λ b. cond b (Some (root_of document)) (first_in (λ l. l == number) [] document.nodes)) h) ∙ e)
 
@@ -258,7 +288,8 @@ root_is document number x h e =
 
 scope_below : (ps : List ℕ) (above : List spec.Content) (o : Option Tree)
     → ((node : Found ℕ) → option_map scope_at (node_from ps node) ≡ scope_from ps (scope_at node) node.children)
-    → option_map scope_at (option_and_then (node_from ps) (option_map (found_tree above) o)) ≡ option_and_then (λ tree. scope_from ps (within tree.content (scope_in root_scope above)) tree.children) o
+    → option_map scope_at (option_and_then (node_from ps) (option_map (found_tree above) o))
+    ≡ option_and_then (λ tree. scope_from ps (within tree.content (scope_in root_scope above)) tree.children) o
 scope_below ps above None below = refl
 scope_below ps above (Some t) below = below (found_tree above t)
 
@@ -273,7 +304,8 @@ pub scope_down : (p : ℕ) (ps : List ℕ) (scope : Scope) (f : spec.Forest ℕ)
 scope_down p ps scope f n at = ap (option_and_then (λ tree. scope_from ps (within tree.content scope) tree.children)) at ∙ rw (view-Node n) refl
 
 -- the scope at the node that is there
-pub scope_reached : (document : spec.Document ℕ) (ps : List ℕ) (x : Found ℕ) (o : Option Scope) → o ≡ scope_from ps root_scope document.nodes → node_at document ps ≡ Some x
+pub scope_reached : (document : spec.Document ℕ) (ps : List ℕ) (x : Found ℕ) (o : Option Scope) → o ≡ scope_from ps root_scope document.nodes
+    → node_at document ps ≡ Some x
     → o ≡ Some (scope_at x)
 scope_reached document ps x o e at = e ∙ sym (scope_at-node_from ps (root_of document)) ∙ ap (option_map scope_at) at
 

@@ -62,11 +62,13 @@ stream_from-to (Element name uri namespaces content rest) =
     let pairs = pairs_from namespaces in
     λ i. Element name uri (pairs i) (below i) (after i)
 stream_from-to (Nameless content rest) = let below = stream_from-to content in let after = stream_from-to rest in λ i. Nameless (below i) (after i)
-stream_from-to (Attribute name uri content rest) = let below = stream_from-to content in let after = stream_from-to rest in λ i. Attribute name uri (below i) (after i)
+stream_from-to (Attribute name uri content rest) = let below = stream_from-to content in let after = stream_from-to rest in
+    λ i. Attribute name uri (below i) (after i)
 stream_from-to (Namespace prefix uri rest) = ap (Namespace prefix uri) (stream_from-to rest)
 stream_from-to (Text text rest) = ap (Text text) (stream_from-to rest)
 stream_from-to (Comment content rest) = let below = stream_from-to content in let after = stream_from-to rest in λ i. Comment (below i) (after i)
-stream_from-to (Instruction target content rest) = let below = stream_from-to content in let after = stream_from-to rest in λ i. Instruction target (below i) (after i)
+stream_from-to (Instruction target content rest) = let below = stream_from-to content in let after = stream_from-to rest in
+    λ i. Instruction target (below i) (after i)
 stream_from-to (Message content rest) = let below = stream_from-to content in let after = stream_from-to rest in λ i. Message (below i) (after i)
 stream_from-to (Hole rest) = ap Hole (stream_from-to rest)
 

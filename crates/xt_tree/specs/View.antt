@@ -1,5 +1,6 @@
 -- The trees that shared nodes stand for.
-use Rattle.std.specs.Prelude.{ℕ, ◌≡◌, ◌≢◌, ◌+◌, ◌-◌, List, [], ◌∷◌, ◌++◌, map, Option, None, Some, ◌==◌, if◌then◌else◌}
+use Rattle.std.specs.Prelude.{ℕ, ◌≡◌, ◌≢◌, ◌+◌, ◌-◌, List, [], ◌∷◌, ◌++◌, map, Option, None, Some, ◌==◌}
+use Rattle.std.specs.Prelude.{if◌then◌else◌}
 use Rattle.std.specs.Option.{option_map, option_and_then, option_or}
 use Rattle.std.specs.declared.rc.Rc.{Rc}
 use Rattle.std.specs.declared.alloc.Global.{Global}
@@ -104,4 +105,5 @@ IsPlaceOf document node (Some path) = (node_at document path ≡ numbered_node d
 -- the scope inside the node that positions lead to, from siblings that stand in this scope
 abbrev pub scope_from : List ℕ → Scope → spec.Forest ℕ → Option Scope
 scope_from [] scope siblings = Some scope
-scope_from (position ∷ positions) scope siblings = option_and_then (λ tree. scope_from positions (within tree.content scope) tree.children) (tree_at siblings position)
+scope_from (position ∷ positions) scope siblings =
+    option_and_then (λ tree. scope_from positions (within tree.content scope) tree.children) (tree_at siblings position)

@@ -16,14 +16,16 @@ returns-in-Some-clause-answer c =
     ∙ answered _ _ (found_of c.check_numbers.new.found) (Some (fault_of c.in-Some.fault))
     (document_made c.args.scope.now c.args.first.number c.saturating_add-second.result (forest_in (pieces_of c.as_slice-whole.result.now))
     (found_of c.check_top.new.found) (found_of c.check_nodes.new.found) (found_of c.check_number.new.found) (found_of c.check_numbers.new.found)
-    (second_is_next _ _ c.saturating_add-second.ensures) c.in_ok-check_top.ensures c.in_ok-check_nodes.ensures c.check_number.ensures c.check_numbers.ensures)
+    (second_is_next _ _ c.saturating_add-second.ensures) c.in_ok-check_top.ensures c.in_ok-check_nodes.ensures c.check_number.ensures
+    c.check_numbers.ensures)
     (ap found_of c.in-Some.is)
 
 -- there is room for all numbers
 room : (c : In_default) → c.args.first.number + size (without_texts (forest_in (pieces_of c.args.pieces.items))) < number_limit
 room c =
     subst (λ ps. c.args.first.number + size (without_texts (forest_in (pieces_of ps))) < number_limit) c.as_slice-whole.ensures.value
-    (document_has_room c.args.first.number c.saturating_add-second.result (found_of c.check_nodes.new.found) (found_of c.check_number.new.found) (found_of c.check_numbers.new.found)
+    (document_has_room c.args.first.number c.saturating_add-second.result (found_of c.check_nodes.new.found) (found_of c.check_number.new.found)
+    (found_of c.check_numbers.new.found)
     (without_texts (forest_in (pieces_of c.as_slice-whole.result.now))) (second_is_next _ _ c.saturating_add-second.ensures)
     c.check_number.ensures c.check_numbers.ensures (ap found_of c.in_default.is))
 
@@ -44,8 +46,10 @@ numbered-document-requires-clause-limit c = (made c.before).fit
 
 pub numbered-document-requires-clause-depth : goal.numbered-document-requires-clause-depth
 numbered-document-requires-clause-depth c =
-    let fits = document-height c.args.scope.now (c.args.first.number + 1) (pieces_of c.as_slice-whole.result.now) (found_of c.check_top.new.found) (found_of c.check_nodes.new.found)
-    (found_of c.check_number.new.found) (found_of c.check_numbers.new.found) _ _ c.in_ok-check_nodes.ensures c.check_number.ensures c.check_numbers.ensures (ap found_of c.in_default.is) in
+    let fits = document-height c.args.scope.now (c.args.first.number + 1) (pieces_of c.as_slice-whole.result.now) (found_of c.check_top.new.found)
+    (found_of c.check_nodes.new.found)
+    (found_of c.check_number.new.found) (found_of c.check_numbers.new.found) _ _ c.in_ok-check_nodes.ensures c.check_number.ensures c.check_numbers.ensures
+    (ap found_of c.in_default.is) in
     let are = (made c.before).are in
     let same = ap (λ ps. height (numbered (c.args.first.number + 1) (without_texts (forest_in (pieces_of ps))))) c.as_slice-whole.ensures.value in
     let here = ap height are in
@@ -63,9 +67,11 @@ returns c =
           ∙ answered _ _ (found_of c.check_numbers.new.found) None
           (document_made c.args.scope.now c.args.first.number c.saturating_add-second.result (forest_in (pieces_of c.as_slice-whole.result.now))
           (found_of c.check_top.new.found) (found_of c.check_nodes.new.found) (found_of c.check_number.new.found) (found_of c.check_numbers.new.found)
-          (second_is_next _ _ c.saturating_add-second.ensures) c.in_ok-check_top.ensures c.in_ok-check_nodes.ensures c.check_number.ensures c.check_numbers.ensures)
+          (second_is_next _ _ c.saturating_add-second.ensures) c.in_ok-check_top.ensures c.in_ok-check_nodes.ensures c.check_number.ensures
+          c.check_numbers.ensures)
           (ap found_of c.in_default.is)
-          ∙ ap (λ ps. Ok (record { root = c.args.first.number; nodes = numbered (c.args.first.number + 1) (without_texts (forest_in (pieces_of ps))) })) c.as_slice-whole.ensures.value
+          ∙ ap (λ ps. Ok (record { root = c.args.first.number; nodes = numbered (c.args.first.number + 1) (without_texts (forest_in (pieces_of ps))) }))
+          c.as_slice-whole.ensures.value
           ∙ ap (λ nodes. Ok (record { root = c.args.first.number; nodes = nodes })) (sym m.are) ∙ ap Ok (sym doc);
       next = (c.in_ok-built.ensures {u = tt}).next ∙ ap (λ n. n + size f) second ∙ ap (λ n. c.args.first.number + 1 + n) (sym count);
     }

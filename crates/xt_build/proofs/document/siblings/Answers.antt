@@ -14,7 +14,8 @@ pub returns-in-Some-clause-answer : goal.returns-in-Some-clause-answer
 returns-in-Some-clause-answer c =
     let f = forest_in (pieces_of c.as_slice-whole.result.now) in
     ap (λ ps. nodes_by c.args.scope.now c.args.first c.args.parent (forest_in (pieces_of ps))) (sym c.as_slice-whole.ensures.value)
-    ∙ nodes_by-below c.args.scope.now c.args.first c.args.parent c.depth_of.result c.elements_beside-elements.result f c.depth_of.ensures c.elements_beside-elements.ensures
+    ∙ nodes_by-below c.args.scope.now c.args.first c.args.parent c.depth_of.result c.elements_beside-elements.result f c.depth_of.ensures
+    c.elements_beside-elements.ensures
     ∙ answered _ _ (found_of c.check_numbers.new.found) (Some (fault_of c.in-Some.fault))
     (nodes_made c.args.scope.now c.args.first c.depth_of.result c.elements_beside-elements.result f
     (found_of c.check_top.new.found) (found_of c.check_nodes.new.found) (found_of c.check_numbers.new.found)
@@ -42,5 +43,6 @@ returns c =
           c.in_ok-check_top.ensures c.in_ok-check_nodes.ensures c.check_numbers.ensures)
           (ap found_of c.in_default.is)
           ∙ ap (λ ps. Ok (numbered c.args.first (kept others (forest_in (pieces_of ps))))) c.as_slice-whole.ensures.value ∙ ap Ok (sym made.nodes);
-      next = made.next ∙ ap (λ n. c.args.first + n) (sym (ap size made.nodes ∙ size_numbered c.args.first (kept others (forest_in (pieces_of c.args.pieces.items)))));
+      next = made.next ∙ ap (λ n. c.args.first + n)
+          (sym (ap size made.nodes ∙ size_numbered c.args.first (kept others (forest_in (pieces_of c.args.pieces.items)))));
     }

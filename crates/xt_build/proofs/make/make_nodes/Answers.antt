@@ -10,7 +10,8 @@ use Rattle.xt_build.specs.declared.make.Open.{Open}
 use Rattle.std.proofs.lemmas.List.{nil_from_length}
 use Rattle.xt_build.proofs.Stacks.{open-some, closed-rest, closed-element}
 use Rattle.xt_build.proofs.OpenNodes.{whole, coming, level}
-use Rattle.xt_build.proofs.Making.{whole-ends, size-ends, whole-leaf, whole-element, open_size-leaf, open_size-element, kept-dropped, text-no_element, length-leaf, test-dropped, test-kept, kind-element, whole-end, size-end}
+use Rattle.xt_build.proofs.Making.{whole-ends, size-ends, whole-leaf, whole-element, open_size-leaf, open_size-element, kept-dropped, text-no_element}
+use Rattle.xt_build.proofs.Making.{length-leaf, test-dropped, test-kept, kind-element, whole-end, size-end}
 use denote.Enum.Bare.{sameb}
 use Rattle.spec_document.specs.contracts.kind.Kind.{the_type}
 use Rattle.spec_document.specs.declared.kind.Kind.TheVariants as kind
@@ -33,7 +34,8 @@ loop-piece-preserved-in-Continue-1 c =
           ∙ ap (λ ps. whole c.loop-piece.open.items c.loop-piece.nodes (coming next others (open_in (pieces_of ps)))) (sym step)
           ∙ c.loop-piece.invariant.made;
       closed = rw step at c.loop-piece.invariant.closed;
-      left = ap (λ n. next + n) (sym (size-ends others rest) ∙ ap (λ ps. open_size (kept_open others (open_in (pieces_of ps)))) (sym step)) ∙ c.loop-piece.invariant.left;
+      left = ap (λ n. next + n) (sym (size-ends others rest) ∙ ap (λ ps. open_size (kept_open others (open_in (pieces_of ps)))) (sym step))
+          ∙ c.loop-piece.invariant.left;
     }
 
 pub loop-piece-preserved-in_default : goal.loop-piece-preserved-in_default
@@ -42,7 +44,8 @@ loop-piece-preserved-in_default c =
     let next = c.loop-piece.next in
     let rest = open_in (pieces_of c.next.new.self.rest.items) in
     let step = (c.in-Some.ensures {u = tt}).steps.0 ∙ ap (λ p. p ∷ c.next.new.self.rest.items) c.in-Ends.is in
-    let made = ap (λ ps. whole c.loop-piece.open.items c.loop-piece.nodes (coming next others (open_in (pieces_of ps)))) (sym step) ∙ c.loop-piece.invariant.made in
+    let made = ap (λ ps. whole c.loop-piece.open.items c.loop-piece.nodes (coming next others (open_in (pieces_of ps)))) (sym step)
+    ∙ c.loop-piece.invariant.made in
     let deep = level c.loop-piece.open.items c.loop-piece.nodes next others (Empty ∷ rest) _ made in
     let none = (c.in_default.ensures {u = tt}).cases in
     let some = open-some (pieces_of c.next.new.self.rest.items) in
@@ -57,7 +60,8 @@ loop-piece-preserved-then-is_dropped c =
     let content = content_of c.in-Begins.content in
     let lines : LineNumbers = record { first = c.in-Begins._line; attributes = c.in-Begins._lines.items } in
     let step = (c.in-Some.ensures {u = tt}).steps.0 ∙ ap (λ p. p ∷ items) c.in-Begins.is in
-    let made = ap (λ ps. whole c.loop-piece.open.items c.loop-piece.nodes (coming next others (open_in (pieces_of ps)))) (sym step) ∙ c.loop-piece.invariant.made in
+    let made = ap (λ ps. whole c.loop-piece.open.items c.loop-piece.nodes (coming next others (open_in (pieces_of ps)))) (sym step)
+    ∙ c.loop-piece.invariant.made in
     let test = test-dropped (is_text content) (is_some others) c.len.result (sym c.is_dropped.ensures ∙ c.if-is_dropped.true) in
     let deep = level c.loop-piece.open.items c.loop-piece.nodes next others (node_before lines content rest) _ made in
     let long = length-leaf lines content rest (text-no_element content test.text) (open-some (pieces_of items)) in
@@ -67,7 +71,8 @@ loop-piece-preserved-then-is_dropped c =
       goes = (tt, tt);
       made = ap (λ s. whole c.loop-piece.open.items c.loop-piece.nodes (open_numbered next s)) (sym same) ∙ made;
       closed = closed-rest (Begins lines content) (pieces_of items) (Empty ∷ []) (rw step at c.loop-piece.invariant.closed);
-      left = ap (λ s. next + open_size s) (sym same) ∙ ap (λ ps. next + open_size (kept_open others (open_in (pieces_of ps)))) (sym step) ∙ c.loop-piece.invariant.left;
+      left = ap (λ s. next + open_size s) (sym same) ∙ ap (λ ps. next + open_size (kept_open others (open_in (pieces_of ps)))) (sym step)
+          ∙ c.loop-piece.invariant.left;
     }
 
 pub overflow_add-next : goal.overflow_add-next
@@ -78,7 +83,8 @@ overflow_add-next c =
     let content = content_of c.in-Begins.content in
     let lines : LineNumbers = record { first = c.in-Begins._line; attributes = c.in-Begins._lines.items } in
     let step = (c.in-Some.ensures {u = tt}).steps.0 ∙ ap (λ p. p ∷ items) c.in-Begins.is in
-    let made = ap (λ ps. whole c.loop-piece.open.items c.loop-piece.nodes (coming c.loop-piece.next others (open_in (pieces_of ps)))) (sym step) ∙ c.loop-piece.invariant.made in
+    let made = ap (λ ps. whole c.loop-piece.open.items c.loop-piece.nodes (coming c.loop-piece.next others (open_in (pieces_of ps)))) (sym step)
+    ∙ c.loop-piece.invariant.made in
     let kind = sym (kind-element content) ∙ ap (λ k. sameb the_type k kind.Element) (sym c.kind.ensures) ∙ sym c.eq.ensures in
     let left = ap (λ ps. c.loop-piece.next + open_size (kept_open others (open_in (pieces_of ps)))) (sym step) ∙ c.loop-piece.invariant.left in
     elim c.if-eq.branch [
@@ -92,7 +98,8 @@ overflow_add-next c =
           let some = open-some (pieces_of items) in
           let long = length-leaf lines content rest (kind ∙ w.if-eq.false) some in
           let as_deep : length rest ≡ c.len.result + 1 = omega (arith, c.len.ensures, deep, long) in
-          let size = open_size-leaf others lines content rest (kind ∙ w.if-eq.false) some (test-kept others content rest c.len.result as_deep (sym c.is_dropped.ensures ∙ c.if-is_dropped.false)) in
+          let size = open_size-leaf others lines content rest (kind ∙ w.if-eq.false) some
+          (test-kept others content rest c.len.result as_deep (sym c.is_dropped.ensures ∙ c.if-is_dropped.false)) in
           let numbers = c.requires.numbers in
           omega (arith, left, size, numbers)
     ]
@@ -106,7 +113,8 @@ loop-piece-preserved c =
     let content = content_of c.in-Begins.content in
     let lines : LineNumbers = record { first = c.in-Begins._line; attributes = c.in-Begins._lines.items } in
     let step = (c.in-Some.ensures {u = tt}).steps.0 ∙ ap (λ p. p ∷ items) c.in-Begins.is in
-    let made = ap (λ ps. whole c.loop-piece.open.items c.loop-piece.nodes (coming next others (open_in (pieces_of ps)))) (sym step) ∙ c.loop-piece.invariant.made in
+    let made = ap (λ ps. whole c.loop-piece.open.items c.loop-piece.nodes (coming next others (open_in (pieces_of ps)))) (sym step)
+    ∙ c.loop-piece.invariant.made in
     let kind = sym (kind-element content) ∙ ap (λ k. sameb the_type k kind.Element) (sym c.kind.ensures) ∙ sym c.eq.ensures in
     let left = ap (λ ps. next + open_size (kept_open others (open_in (pieces_of ps)))) (sym step) ∙ c.loop-piece.invariant.left in
     elim c.if-eq.branch [
@@ -130,7 +138,8 @@ loop-piece-preserved c =
           let as_deep : length rest ≡ c.len.result + 1 = omega (arith, c.len.ensures, deep, long) in
           let stays = test-kept others content rest c.len.result as_deep (sym c.is_dropped.ensures ∙ c.if-is_dropped.false) in
           let size = open_size-leaf others lines content rest (kind ∙ w.if-eq.false) some stays in
-          let done = w.nodes-is ∙ w.in_ok-push-in-Begins-2.ensures.ok ∙ ap (λ f. followed c.loop-piece.nodes (Node next content f Empty)) w.new.ensures in
+          let done = w.nodes-is ∙ w.in_ok-push-in-Begins-2.ensures.ok
+          ∙ ap (λ f. followed c.loop-piece.nodes (Node next content f Empty)) w.new.ensures in
           record {
             goes = (tt, tt);
             made = ap (λ v. whole v.items c.if-eq.nodes (coming (next + 1) others rest)) w.open-is
@@ -144,8 +153,10 @@ loop-piece-preserved c =
 pub returns : goal.returns
 returns c =
     let others = c.args.others in
-    let end : c.loop-piece.piece-iterator.rest.items ≡ [] = nil_from_length _ (sym c.loop-piece.piece-iterator.rest.ok.0 ∙ (c.in-None.ensures {u = tt}).steps.0) in
-    let made = ap (λ ps. whole c.loop-piece.open.items c.loop-piece.nodes (coming c.loop-piece.next others (open_in (pieces_of ps)))) (sym end) ∙ c.loop-piece.invariant.made in
+    let end : c.loop-piece.piece-iterator.rest.items ≡ [] =
+    nil_from_length _ (sym c.loop-piece.piece-iterator.rest.ok.0 ∙ (c.in-None.ensures {u = tt}).steps.0) in
+    let made = ap (λ ps. whole c.loop-piece.open.items c.loop-piece.nodes (coming c.loop-piece.next others (open_in (pieces_of ps)))) (sym end)
+    ∙ c.loop-piece.invariant.made in
     let left = ap (λ ps. c.loop-piece.next + open_size (kept_open others (open_in (pieces_of ps)))) (sym end) ∙ c.loop-piece.invariant.left in
     let none = size-end others in
     record {

@@ -28,7 +28,8 @@ loop-i-preserved c =
     let usage : use_in c.use_of-usage.result ≡ use_of x.name = c.use_of-usage.ensures ∙ ap use_of is in
     let name : c.in_ok-name.name ≡ expanded_by scope (use_of x.name) = c.in_ok-name.ensures ∙ ap (expanded_by scope) usage in
     let took : map written_of (take (i + 1) xs) ≡ before ++ written_of x ∷ [] =
-    ap (map written_of) (take_more xs i x (omega arith)) ∙ map-append written_of (take i xs) _ ∙ ap (λ y. before ++ written_of y ∷ []) (sym c.index-attributes-i.is) in
+    ap (map written_of) (take_more xs i x (omega arith)) ∙ map-append written_of (take i xs) _
+    ∙ ap (λ y. before ++ written_of y ∷ []) (sym c.index-attributes-i.is) in
     let left : map written_of (drop i xs) ≡ written_of x ∷ map written_of (drop (i + 1) xs) =
     at_drop_more (map written_of) xs i x (omega arith) ∙ ap (λ y. written_of y ∷ map written_of (drop (i + 1) xs)) (sym c.index-attributes-i.is) in
     let wrong : c.is_wrong-is_wrong.result ≡ is_wrong_use scope (use_of x.name) x.value =
@@ -45,11 +46,13 @@ loop-i-preserved c =
     let names : expanded_names scope (map written_of (take (i + 1) xs)) ≡ expanded_names scope before ++ expanded_by scope (use_of x.name) ∷ [] =
     ap (expanded_names scope) took ∙ map-append (λ a. expanded_by scope (use_of a.name)) before (written_of x ∷ []) in
     record {
-      told = rw took (passed scope before (map written_of (drop (i + 1) xs)) (written_of x) c.args.lines.now i c.line_at-line.result _ _ (found_of c.loop-i.found) _ _
+      told = rw took (passed scope before (map written_of (drop (i + 1) xs)) (written_of x) c.args.lines.now i c.line_at-line.result _ _
+          (found_of c.loop-i.found) _ _
           c.line_at-line.ensures wrong double c.keep_if.ensures c.keep_if-in-loop-i.ensures
           ∙ ap (λ ws. merged (found_of c.loop-i.found) (least (attribute_faults scope before (drop i c.args.lines.now) ws))) (sym left)
           ∙ c.loop-i.invariant.told);
-      written = λ other. c.in_ok-is_double.ensures.written other ∙ ap (λ n. has_written seen other || bytes_eq n other) is ∙ ap (λ b. b || bytes_eq x.name other) (c.loop-i.invariant.written other)
+      written = λ other. c.in_ok-is_double.ensures.written other ∙ ap (λ n. has_written seen other || bytes_eq n other) is
+          ∙ ap (λ b. b || bytes_eq x.name other) (c.loop-i.invariant.written other)
           ∙ sym (ap (list_any (λ b. bytes_eq b.name other)) took ∙ any_behind (λ b. bytes_eq b.name other) before (written_of x));
       expanded = λ other. c.in_ok-is_double.ensures.expanded other
           ∙ ap (λ b. b || same_expanded (option_copied c.as_ref-in-loop-i.result) other) (c.loop-i.invariant.expanded other)

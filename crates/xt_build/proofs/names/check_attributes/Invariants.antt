@@ -13,8 +13,10 @@ use Rattle.xt_build.proofs.names.check_attributes.Given as goal
 -- what was found, with the faults of the attributes that are left, and the names of those that were gone through
 abbrev pub invariant-loop-i : goal.invariant-loop-i
 invariant-loop-i l = record {
-  told : merged (found_of l.found) (least (attribute_faults l.scope (map written_of (take l.i l.attributes)) (drop l.i l.lines) (map written_of (drop l.i l.attributes))))
+  told : merged (found_of l.found)
+      (least (attribute_faults l.scope (map written_of (take l.i l.attributes)) (drop l.i l.lines) (map written_of (drop l.i l.attributes))))
       ≡ merged (found_of l.initial.found) (least (attribute_faults l.scope [] l.lines (map written_of l.attributes)));
   written : (name : List ℕ) → has_written l.names name ≡ list_any (λ b. bytes_eq b.name name) (map written_of (take l.i l.attributes));
-  expanded : (name : Option Expanded) → has_expanded l.names name ≡ list_any (λ other. same_expanded other name) (expanded_names l.scope (map written_of (take l.i l.attributes)));
+  expanded : (name : Option Expanded)
+      → has_expanded l.names name ≡ list_any (λ other. same_expanded other name) (expanded_names l.scope (map written_of (take l.i l.attributes)));
 }

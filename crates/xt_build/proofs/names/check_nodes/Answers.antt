@@ -16,6 +16,7 @@ returns c =
     let now = found_of c.loop-piece.found in
     let scope = c.args.scope.now in
     let depth = c.args.depth + 1 in
-    let none = at_drop_all (λ ps. merged now (least (open_faults scope depth (reverse c.loop-piece.scopes.items) (open_in (pieces_of ps))))) pieces c.loop-piece.piece-index (omega arith) in
+    let none = at_drop_all (λ ps. merged now (least (open_faults scope depth (reverse c.loop-piece.scopes.items) (open_in (pieces_of ps))))) pieces
+    c.loop-piece.piece-index (omega arith) in
     sym (none ∙ merged-none now) ∙ c.loop-piece.invariant
     ∙ ap (λ fs. merged before (least fs)) (whole_faults scope depth (open_in (pieces_of pieces)) c.requires.0)

@@ -21,7 +21,8 @@ returns-in-Instruction c behind =
     let found = found_of c.args.found.now in
     let outside = c.args.outside.now in
     let scopes = reverse c.args.scopes.now.items in
-    instructed outside (c.args.depth + 1) scopes (record { first = c.in-Begins.line; attributes = lines.items }) c.in-Instruction.target c.in-Instruction.text behind found _
+    instructed outside (c.args.depth + 1) scopes (record { first = c.in-Begins.line; attributes = lines.items }) c.in-Instruction.target
+    c.in-Instruction.text behind found _
     (c.keep_if-in-Instruction.ensures ∙ ap (λ b. merged found (least (fault_if b 10 c.in-Begins.line))) c.is_wrong_target.ensures)
     ∙ ap (λ p. merged found (least (open_faults outside (c.args.depth + 1) scopes (piece_before (piece_of p) behind)))) (sym piece)
 
@@ -40,7 +41,8 @@ returns-in_ok-push-in-Element c behind =
     let scopes = reverse items in
     let scope = declared_all attributes (innermost outside scopes) in
     let around : c.unwrap_or-around.result.now ≡ innermost outside scopes =
-    ap (λ s. s.now) c.unwrap_or-around.ensures ∙ last_innermost c.deref.result.now c.last.result c.args.outside (c.last.ensures.item.4 (omega arith) c.args.outside.now)
+    ap (λ s. s.now) c.unwrap_or-around.ensures
+    ∙ last_innermost c.deref.result.now c.last.result c.args.outside (c.last.ensures.item.4 (omega arith) c.args.outside.now)
     ∙ ap (λ xs. innermost outside (reverse xs)) c.deref.ensures.value in
     let inside : c.in_ok-inside-in-Element.inside ≡ scope =
     c.in_ok-inside-in-Element.ensures ∙ ap (λ xs. declared_all (map written_of xs) c.unwrap_or-around.result.now) c.as_slice.ensures.value
@@ -49,11 +51,13 @@ returns-in_ok-push-in-Element c behind =
     c.is_wrong_element-is_wrong.ensures ∙ ap (λ s. is_wrong_element s name) inside in
     let deep : c.is_too_deep-is_deep.result ≡ nat_lt greatest_depth (depth + length scopes) =
     c.is_too_deep-is_deep.ensures ∙ ap (λ n. nat_lt greatest_depth (depth + n)) (omega (arith, length-reverse items, c.args.scopes.now.ok.0)) in
-    let own : found_of c.check_attributes.new.found ≡ merged (found_of c.keep_if-in-Element.new.found) (least (attribute_faults scope [] lines.items attributes)) =
+    let own : found_of c.check_attributes.new.found
+    ≡ merged (found_of c.keep_if-in-Element.new.found) (least (attribute_faults scope [] lines.items attributes)) =
     let before = found_of c.keep_if-in-Element.new.found in
     c.in_ok-check_attributes-in-Element.ensures
     ∙ ap (λ s. merged before (least (attribute_faults s [] c.as_slice-in-Element-2.result.now (map written_of c.as_slice-in-Element.result.now)))) inside
-    ∙ ap (λ ls. merged before (least (attribute_faults scope [] ls (map written_of c.as_slice-in-Element.result.now)))) c.as_slice-in-Element-2.ensures.value
+    ∙ ap (λ ls. merged before (least (attribute_faults scope [] ls (map written_of c.as_slice-in-Element.result.now))))
+    c.as_slice-in-Element-2.ensures.value
     ∙ ap (λ xs. merged before (least (attribute_faults scope [] lines.items (map written_of xs)))) c.as_slice-in-Element.ensures.value in
     let more : reverse c.push.new.self.items ≡ scope ∷ scopes =
     ap reverse c.in_ok-push-in-Element.ensures.items ∙ reverse-append items (c.in_ok-inside-in-Element.inside ∷ []) ∙ ap (λ s. s ∷ scopes) inside in

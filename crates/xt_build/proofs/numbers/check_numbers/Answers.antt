@@ -10,7 +10,9 @@ use Rattle.xt_build.proofs.numbers.check_numbers.Goals as goal
 use Rattle.xt_build.proofs.numbers.check_numbers.Goals.{in-Ends, in-Begins+in-Element, then-not-is_dropped, else-not-is_dropped, in-Begins+in_default}
 
 pub overflow_sub-level : goal.overflow_sub-level
-overflow_sub-level c = (closes c.args.pieces.now c.loop-piece.piece-index c.piece-item.result c.loop-piece.level (omega arith) c.piece-item.is c.in-Ends.is c.loop-piece.invariant.within).some
+overflow_sub-level c =
+    (closes c.args.pieces.now c.loop-piece.piece-index c.piece-item.result c.loop-piece.level (omega arith) c.piece-item.is c.in-Ends.is
+    c.loop-piece.invariant.within).some
 
 pub loop-piece-preserved : goal.loop-piece-preserved
 loop-piece-preserved c =
@@ -44,7 +46,8 @@ loop-piece-preserved c =
               | then-not-is_dropped w' ↦
                   let more = ap (lines_at others level) t.stack ∙ lines-opens others level _ w.in-Element.name attributes behind in
                   rw (w.level-is, w.found-is, w.next-is, w'.found-is, w'.next-is, w'.check_number.ensures)
-                  (number-more found next w'.saturating_add-next.result w.in-Begins.line (lines_at others (level + 1) behind) (next-limit next _ w'.saturating_add-next.ensures)
+                  (number-more found next w'.saturating_add-next.result w.in-Begins.line (lines_at others (level + 1) behind)
+                  (next-limit next _ w'.saturating_add-next.ensures)
                   ∙ sym (ap (λ lines. merged found (least (number_faults next lines))) more) ∙ c.loop-piece.invariant.found)
               | else-not-is_dropped w' ↦ absurd (true≢false (sym w'.if-not-is_dropped.false ∙ kept))
             ];
@@ -58,12 +61,15 @@ loop-piece-preserved c =
             within = rw w.level-is t.within;
             found = elim w.if-not-is_dropped.branch [
               | then-not-is_dropped w' ↦
-                  let more = ap (lines_at others level) t.stack ∙ lines-stands others level _ content behind (sym w.is_dropped.ensures ∙ w'.if-not-is_dropped.true) in
+                  let more = ap (lines_at others level) t.stack
+                  ∙ lines-stands others level _ content behind (sym w.is_dropped.ensures ∙ w'.if-not-is_dropped.true) in
                   rw (w.level-is, w.found-is, w.next-is, w'.found-is, w'.next-is, w'.check_number.ensures)
-                  (number-more found next w'.saturating_add-next.result w.in-Begins.line (lines_at others level behind) (next-limit next _ w'.saturating_add-next.ensures)
+                  (number-more found next w'.saturating_add-next.result w.in-Begins.line (lines_at others level behind)
+                  (next-limit next _ w'.saturating_add-next.ensures)
                   ∙ sym (ap (λ lines. merged found (least (number_faults next lines))) more) ∙ c.loop-piece.invariant.found)
               | else-not-is_dropped w' ↦
-                  let same = ap (lines_at others level) t.stack ∙ lines-left_out others level _ content behind (sym w.is_dropped.ensures ∙ w'.if-not-is_dropped.false) in
+                  let same = ap (lines_at others level) t.stack
+                  ∙ lines-left_out others level _ content behind (sym w.is_dropped.ensures ∙ w'.if-not-is_dropped.false) in
                   rw (w.level-is, w.found-is, w.next-is, w'.found-is, w'.next-is, ← same) c.loop-piece.invariant.found
             ];
           }

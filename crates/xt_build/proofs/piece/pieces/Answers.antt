@@ -1,4 +1,5 @@
-use Rattle.std.proofs.Common.{◌≡◌, false, ◌≤◌, ◌<◌, ◌++◌, [], ◌∷◌, ◌∙◌, sym, ap, subst, arith, map, drop, length, length-drop, List, ℕ}
+use Rattle.std.proofs.Common.{◌≡◌, false, ◌≤◌, ◌<◌, ◌++◌, [], ◌∷◌, ◌∙◌, sym, ap, subst, arith, map, drop, length}
+use Rattle.std.proofs.Common.{length-drop, List, ℕ}
 use Rattle.std.proofs.lemmas.List.{drop-map, nil_from_length, length-map}
 use Rattle.std.specs.Prelude.{◌==◌}
 use Rattle.std.proofs.lemmas.Bool.{eqb-true}
@@ -31,7 +32,8 @@ loop-rest-preserved c w e =
     let es = map located_of xs in
     let told = c.in_ok-taken.ensures {u = tt} in
     let behind = ap (map located_of) c.split_at.ensures.back ∙ sym (drop-map located_of c.in_ok-taken.taken xs) ∙ ap (λ n. drop n es) told.taken in
-    let stands = fronted-stands (rest_of es) (rest_of (drop (events_first es) es)) (pieces_of c.loop-rest.pieces.items) (pieces_first es) w (first-fronted es) (c.loop-rest.invariant w e) in
+    let stands = fronted-stands (rest_of es) (rest_of (drop (events_first es) es)) (pieces_of c.loop-rest.pieces.items) (pieces_first es) w
+    (first-fronted es) (c.loop-rest.invariant w e) in
     subst (λ (ps : List Piece). Stands (rest_of (map located_of c.split_at.result.1.now)) ps w) (sym told.pieces)
     (subst (λ (rest : List (ℕ × Event (List ℕ))). Stands (rest_of rest) (pieces_of c.loop-rest.pieces.items ++ pieces_first es) w) (sym behind) stands)
 
@@ -46,6 +48,8 @@ loop-rest-smaller c =
 
 pub returns : goal.returns
 returns c f e =
-    let none : c.loop-rest.rest.now ≡ [] = nil_from_length _ (eqb-true (length c.loop-rest.rest.now) 0 (sym c.is_empty.ensures ∙ c.loop-rest-test.false)) in
+    let none : c.loop-rest.rest.now ≡ [] =
+    nil_from_length _ (eqb-true (length c.loop-rest.rest.now) 0 (sym c.is_empty.ensures ∙ c.loop-rest-test.false)) in
     pieces-whole (pieces_of c.loop-rest.pieces.items) (map located_of c.args.events.now) f
-    (λ w is. subst (λ (xs : List Located). Stands (rest_of (map located_of xs)) (pieces_of c.loop-rest.pieces.items) w) none (c.loop-rest.invariant w is)) e
+    (λ w is. subst (λ (xs : List Located). Stands (rest_of (map located_of xs)) (pieces_of c.loop-rest.pieces.items) w) none (c.loop-rest.invariant w is))
+    e

@@ -11,10 +11,13 @@ use Rattle.xt_build.specs.View.{found_of, pieces_of}
 use Rattle.xt_build.proofs.Levels.{at_level, left, closes, opens, stands, text-other}
 use Rattle.xt_build.proofs.AtTop.{texts-Opens, texts-Stands, others-Stands}
 use Rattle.xt_build.proofs.top.check_texts.Goals as goal
-use Rattle.xt_build.proofs.top.check_texts.Goals.{in-Ends, in-Begins+in-Element, in-Begins+in-Text+then-level-eq0, in-Begins+in-Text+else-level-eq0, in-Begins+in_default}
+use Rattle.xt_build.proofs.top.check_texts.Goals.{in-Ends, in-Begins+in-Element, in-Begins+in-Text+then-level-eq0, in-Begins+in-Text+else-level-eq0}
+use Rattle.xt_build.proofs.top.check_texts.Goals.{in-Begins+in_default}
 
 pub overflow_sub-level : goal.overflow_sub-level
-overflow_sub-level c = (closes c.args.pieces.now c.loop-piece.piece-index c.piece-item.result c.loop-piece.level (omega arith) c.piece-item.is c.in-Ends.is c.loop-piece.invariant.within).some
+overflow_sub-level c =
+    (closes c.args.pieces.now c.loop-piece.piece-index c.piece-item.result c.loop-piece.level (omega arith) c.piece-item.is c.in-Ends.is
+    c.loop-piece.invariant.within).some
 
 pub loop-piece-preserved : goal.loop-piece-preserved
 loop-piece-preserved c =
@@ -38,7 +41,8 @@ loop-piece-preserved c =
           record {
             counted = omega arith;
             within = rw w.level-is t.within;
-            found = rw (w.level-is, w.found-is, ← texts-Opens ps n level _ w.in-Element.name (map written_of w.in-Element.attributes.items) t) c.loop-piece.invariant.found;
+            found = rw (w.level-is, w.found-is, ← texts-Opens ps n level _ w.in-Element.name (map written_of w.in-Element.attributes.items) t)
+                c.loop-piece.invariant.found;
           }
       | in-Begins+in-Text+then-level-eq0 w ↦
           let top : level ≡ 0 = w.if-level-eq0.true in
@@ -51,7 +55,9 @@ loop-piece-preserved c =
             counted = omega arith;
             within = rw (w.level-is, top) t.within;
             found = rw (w.level-is, top, w.found-is, w.check_text.ensures)
-                (texts-Stands ps n l text found t ∙ subst (λ (k : ℕ). merged found (least (text_faults (at_level k (left ps n)))) ≡ merged (found_of c.args.found.now) (least (text_faults (forest_in (pieces_of ps))))) top c.loop-piece.invariant.found);
+                (texts-Stands ps n l text found t
+                ∙ subst (λ (k : ℕ). merged found (least (text_faults (at_level k (left ps n))))
+                ≡ merged (found_of c.args.found.now) (least (text_faults (forest_in (pieces_of ps))))) top c.loop-piece.invariant.found);
           }
       | in-Begins+in-Text+else-level-eq0 w ↦
           let text = w.in-Text.text in

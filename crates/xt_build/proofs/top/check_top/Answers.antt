@@ -14,6 +14,7 @@ returns c =
     let others = c.in-Some.others in
     c.check_texts.ensures
     ∙ ap (λ found. merged found (least (text_faults forest)))
-    (c.check_elements.ensures ∙ ap (λ lines. merged before (least (element_faults others lines))) (c.as_slice.ensures.value ∙ c.in_ok-elements.ensures {u = tt}))
+    (c.check_elements.ensures
+    ∙ ap (λ lines. merged before (least (element_faults others lines))) (c.as_slice.ensures.value ∙ c.in_ok-elements.ensures {u = tt}))
     ∙ both-found before (element_faults others (elements_at_top forest)) (text_faults forest)
     ∙ ap (λ o. merged before (least (top_faults o forest))) (sym c.in-Some.is)

@@ -9,5 +9,6 @@ abbrev pub invariant-loop-piece : goal.invariant-loop-piece
 invariant-loop-piece l = record {
   counted : l.level ≤ l.piece-index;
   within : length (open_in (pieces_of (drop l.piece-index l.pieces))) ≤ l.level + 1;
-  found : l.lines.items ++ elements_at_top (at_level l.level (open_in (pieces_of (drop l.piece-index l.pieces)))) ≡ elements_at_top (forest_in (pieces_of l.pieces));
+  found : l.lines.items ++ elements_at_top (at_level l.level (open_in (pieces_of (drop l.piece-index l.pieces))))
+      ≡ elements_at_top (forest_in (pieces_of l.pieces));
 }

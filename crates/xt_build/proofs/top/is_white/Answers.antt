@@ -7,5 +7,6 @@ use Rattle.xt_build.proofs.top.is_white.Goals as goal
 
 pub returns : goal.returns
 returns c =
-    all_from_yields_List is_space _ _ c.all.result c.all.ensures.ran (YieldsList-from_chars c.as_str.result.now c.as_str.utf8 cc) (λ x b q k. search (rules, tests))
+    all_from_yields_List is_space _ _ c.all.result c.all.ensures.ran (YieldsList-from_chars c.as_str.result.now c.as_str.utf8 cc)
+    (λ x b q k. search (rules, tests))
     ∙ ap (list_all is_space) c.as_str.ensures.characters

@@ -16,7 +16,8 @@ filled_item-returns-in_ok-part-in-Hole-clause-stream t c =
     let one : holes (single_of c.args.item.now) ≡ 1 = ap holes hole ∙ none in
     let at = at_drop_more (λ ps. first_of (streams_of ps)) c.args.parts.now next c.index-parts-next.result (omega (arith, one, c.requires)) in
     let here = rw (← c.index-parts-next.is) at at in
-    view-Part c.in_ok-part-in-Hole.part ∙ ap stream_of c.in_ok-part-in-Hole.ensures.cases ∙ sym here ∙ sym (followed-Ended (first_of left)) ∙ ap (λ s. filled s left) (sym hole)
+    view-Part c.in_ok-part-in-Hole.part ∙ ap stream_of c.in_ok-part-in-Hole.ensures.cases ∙ sym here ∙ sym (followed-Ended (first_of left))
+    ∙ ap (λ s. filled s left) (sym hole)
 
 -- the parts are enough for the next item
 enough : (t : ℕ) (c : goal.filled-After-filled_item-arg-1 t) → c.loop-item.next + holes (single_of c.item-item.result) ≤ length c.args.parts.now
@@ -55,13 +56,15 @@ filled-returns-clause-stream t c =
     let list = c.list-item-items.result.now in
     let left = streams_of (drop c.loop-item.next c.args.parts.now) in
     let at = at_drop_all (λ xs. filled (all_followed (map single_of xs)) left) list c.loop-item.item-index (omega arith) in
-    ap stream_of c.in_ok-new.ensures.ok ∙ sym (followed-Ended (stream_of c.loop-item.list)) ∙ ap (followed (stream_of c.loop-item.list)) (sym at) ∙ c.loop-item.invariant.stream
+    ap stream_of c.in_ok-new.ensures.ok ∙ sym (followed-Ended (stream_of c.loop-item.list)) ∙ ap (followed (stream_of c.loop-item.list)) (sym at)
+    ∙ c.loop-item.invariant.stream
 
 -- a content without holes is as it is
 pub filled_content-returns-in_ok-clone : goal.filled_content-returns-in_ok-clone
 filled_content-returns-in_ok-clone t c =
     let stream = stream_of c.args.content.now.value in
-    let few : holes stream ≤ 0 = ltb-false 0 (holes stream) (ap (λ i. nat_lt 0 (holes (stream_of i))) (sym c.deref.ensures) ∙ sym c.has_hole.ensures ∙ c.if-has_hole.false) in
+    let few : holes stream ≤ 0 =
+    ltb-false 0 (holes stream) (ap (λ i. nat_lt 0 (holes (stream_of i))) (sym c.deref.ensures) ∙ sym c.has_hole.ensures ∙ c.if-has_hole.false) in
     let none : holes stream ≡ 0 = omega (arith, few) in
     record {
       next = omega (arith, none);

@@ -9,5 +9,6 @@ invariant-filled-loop-item l =
     let ahead = all_followed (map single_of (drop l.item-index l.item-items)) in
     record {
       next : l.next + holes ahead ≡ l.fn.next + holes (stream_of l.items);
-      stream : followed (stream_of l.list) (filled ahead (streams_of (drop l.next l.parts))) ≡ filled (stream_of l.items) (streams_of (drop l.fn.next l.parts));
+      stream : followed (stream_of l.list) (filled ahead (streams_of (drop l.next l.parts)))
+          ≡ filled (stream_of l.items) (streams_of (drop l.fn.next l.parts));
     }

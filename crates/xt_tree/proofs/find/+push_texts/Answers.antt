@@ -7,6 +7,15 @@ use Rattle.xt_tree.proofs.find.+push_texts.Goals as goal
 
 pub loop-sibling-preserved : goal.loop-sibling-preserved
 loop-sibling-preserved t c =
-    let at = sym (at_drop_more (λ rest. c.loop-sibling.text ++ texts_in (forest_of rest)) c.args.siblings.now c.loop-sibling.sibling-index c.sibling-item.result (omega arith)) ∙ c.loop-sibling.invariant in
+    let at = sym (at_drop_more (λ rest. c.loop-sibling.text ++ texts_in (forest_of rest)) c.args.siblings.now c.loop-sibling.sibling-index
+    c.sibling-item.result (omega arith)) ∙ c.loop-sibling.invariant in
     let here = rw (← c.sibling-item.is) at at in
-    rw (c.in_ok-push_texts.ensures, c.in_ok-push_own_text.ensures, c.as_slice.ensures.value, c.deref.ensures, c.deref-in-loop-sibling.ensures, append_assoc, append_assoc) (rw (view-Node c.sibling-item.result.value, append_assoc) at here)
+    rw (
+      c.in_ok-push_texts.ensures,
+      c.in_ok-push_own_text.ensures,
+      c.as_slice.ensures.value,
+      c.deref.ensures,
+      c.deref-in-loop-sibling.ensures,
+      append_assoc,
+      append_assoc,
+    ) (rw (view-Node c.sibling-item.result.value, append_assoc) at here)

@@ -7,7 +7,8 @@ use Rattle.xt_tree.proofs.find.sibling_at.Goals.{then-position-eq0-via-then-posi
 pub returns-then-position-eq0 : goal.returns-then-position-eq0
 returns-then-position-eq0 c =
     elim c.then-position-eq0.branch [
-      | then-position-eq0-via-then-position-eq0 w ↦ sym (ap (tree_at (forest_of c.args.siblings.now)) w.if-position-eq0.true ∙ tree_at-zero (forest_of c.args.siblings.now))
+      | then-position-eq0-via-then-position-eq0 w ↦ sym
+          (ap (tree_at (forest_of c.args.siblings.now)) w.if-position-eq0.true ∙ tree_at-zero (forest_of c.args.siblings.now))
       | then-position-eq0-via-else-position-eq0+then-position-siblings w ↦ sym (tree_at-past c.args.siblings.now c.args.position (omega arith))
     ]
 

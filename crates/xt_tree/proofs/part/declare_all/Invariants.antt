@@ -4,4 +4,5 @@ use Rattle.xt_tree.specs.View.{written_of}
 use Rattle.xt_tree.proofs.part.declare_all.Given as goal
 
 abbrev pub invariant-loop-attribute : goal.invariant-loop-attribute
-invariant-loop-attribute l = declared_all (map written_of (drop l.attribute-index l.attributes)) l.scope ≡ declared_all (map written_of l.attributes) l.fn.scope
+invariant-loop-attribute l =
+    declared_all (map written_of (drop l.attribute-index l.attributes)) l.scope ≡ declared_all (map written_of l.attributes) l.fn.scope

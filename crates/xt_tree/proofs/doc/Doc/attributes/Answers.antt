@@ -9,7 +9,8 @@ pub returns-in-None : goal.returns-in-None
 returns-in-None c x e =
     let d = c.args.self.now in
     let apart : (d.root == c.args.id.number) ≡ false = ap (λ e. e.root == c.args.id.number) (sym c.self.view_is) ∙ sym c.eq.ensures ∙ c.if-eq.false in
-    let same = ap (λ xs. first_tree c.args.id.number (forest_of xs)) c.as_slice.ensures.value ∙ ap (λ e. first_tree c.args.id.number e.nodes) c.self.view_is in
+    let same = ap (λ xs. first_tree c.args.id.number (forest_of xs)) c.as_slice.ensures.value
+    ∙ ap (λ e. first_tree c.args.id.number e.nodes) c.self.view_is in
     absurd (no_tree d c.args.id.number x apart e (sym same ∙ sym c.in-None.ensures))
 
 more_known : {A E : Type 0} (P Q : A → Type 0) (r : Result A E) → ((a : A) → P a → Q a) → IfOk r P → IfOk r Q
@@ -20,7 +21,8 @@ pub returns-in-Some : goal.returns-in-Some
 returns-in-Some c =
     let d = c.args.self.now in
     let apart : (d.root == c.args.id.number) ≡ false = ap (λ e. e.root == c.args.id.number) (sym c.self.view_is) ∙ sym c.eq.ensures ∙ c.if-eq.false in
-    let same = ap (λ xs. first_tree c.args.id.number (forest_of xs)) c.as_slice.ensures.value ∙ ap (λ e. first_tree c.args.id.number e.nodes) c.self.view_is in
+    let same = ap (λ xs. first_tree c.args.id.number (forest_of xs)) c.as_slice.ensures.value
+    ∙ ap (λ e. first_tree c.args.id.number e.nodes) c.self.view_is in
     more_known _ _ c.attributes_in.result
     (λ found known x e.
     let is = is_tree d c.args.id.number x (tree_of c.in-Some.node.now) apart e (sym same ∙ sym c.in-Some.ensures) in

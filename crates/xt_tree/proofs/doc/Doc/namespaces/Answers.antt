@@ -15,7 +15,8 @@ returns-in_ok-scope_of-in-Element c =
     more_known _ _ c.namespaces-in-Element.result
     (λ list known x e.
     let is = sym (c.own_kind.ensures x e) ∙ c.in-Element.is in
-    known ∙ ap namespaces_in (c.in_ok-scope_of-in-Element.ensures x (ap (λ r. numbered_node c.args.self.now r.node.number) c.of.ensures ∙ e)) ∙ sym (in_element x.content (scope_at x) is))
+    known ∙ ap namespaces_in (c.in_ok-scope_of-in-Element.ensures x (ap (λ r. numbered_node c.args.self.now r.node.number) c.of.ensures ∙ e))
+    ∙ sym (in_element x.content (scope_at x) is))
     c.namespaces-in-Element.ensures
 
 pub returns-in_default : goal.returns-in_default

@@ -27,5 +27,6 @@ returns-in_ok-scope-in-Some c =
     more_known _ _ c.content_name.result
     (λ name known x e.
     let is = is_tree d number x (tree_of c.in-Some.found.now) apart e (sym same ∙ sym c.in-Some.ensures) in
-    known ∙ sym (ap (λ o. name_by o (scope_at x)) (is.content ∙ ap (λ t. Some t.content) (view-Node c.in-Some.found.now)) ∙ ap (name_by (Some (content_of (out-Node c.in-Some.found.now).content))) (sym (c.in_ok-scope-in-Some.ensures x e))))
+    known ∙ sym (ap (λ o. name_by o (scope_at x)) (is.content ∙ ap (λ t. Some t.content) (view-Node c.in-Some.found.now))
+    ∙ ap (name_by (Some (content_of (out-Node c.in-Some.found.now).content))) (sym (c.in_ok-scope-in-Some.ensures x e))))
     c.content_name.ensures

@@ -18,9 +18,11 @@ returns-then-branch c =
     let d = c.args.self.now in
     let number = c.args.id.number in
     let apart : (d.root == number) ≡ false = ap (λ e. e.root == number) (sym c.self.view_is) ∙ sym c.eq.ensures ∙ c.if-eq.false in
-    let same : way_to number 1 (forest_of c.as_slice.result.now) ≡ way_to number 1 d.nodes = ap (λ xs. way_to number 1 (forest_of xs)) c.as_slice.ensures.value ∙ ap (λ e. way_to number 1 e.nodes) c.self.view_is in
+    let same : way_to number 1 (forest_of c.as_slice.result.now) ≡ way_to number 1 d.nodes =
+    ap (λ xs. way_to number 1 (forest_of xs)) c.as_slice.ensures.value ∙ ap (λ e. way_to number 1 e.nodes) c.self.view_is in
     let some = sym (ap is_some same) ∙ sym c.in_ok-lead.ensures.found ∙ c.if-branch.true in
-    let path = c.in_ok-lead.ensures.path ∙ ap (λ p. gone_on p (way_to number 1 (forest_of c.as_slice.result.now))) c.new-path.ensures ∙ ap (gone_on []) same in
+    let path = c.in_ok-lead.ensures.path ∙ ap (λ p. gone_on p (way_to number 1 (forest_of c.as_slice.result.now))) c.new-path.ensures
+    ∙ ap (gone_on []) same in
     let way = subst (λ p. IsWayTo d number (Some p)) (sym path) (place_is d number apart some) in
     record { way = way; only = only_way d number (Some c.lead.new.path) (subst IsNumbered c.self.view_is c.self.invariant.numbers) way }
 
@@ -29,6 +31,7 @@ returns c =
     let d = c.args.self.now in
     let number = c.args.id.number in
     let apart : (d.root == number) ≡ false = ap (λ e. e.root == number) (sym c.self.view_is) ∙ sym c.eq.ensures ∙ c.if-eq.false in
-    let same : way_to number 1 (forest_of c.as_slice.result.now) ≡ way_to number 1 d.nodes = ap (λ xs. way_to number 1 (forest_of xs)) c.as_slice.ensures.value ∙ ap (λ e. way_to number 1 e.nodes) c.self.view_is in
+    let same : way_to number 1 (forest_of c.as_slice.result.now) ≡ way_to number 1 d.nodes =
+    ap (λ xs. way_to number 1 (forest_of xs)) c.as_slice.ensures.value ∙ ap (λ e. way_to number 1 e.nodes) c.self.view_is in
     let way = no_place_is d number apart (sym (ap is_some same) ∙ sym c.in_ok-lead.ensures.found ∙ c.if-branch.false) in
     record { way = way; only = only_way d number None (subst IsNumbered c.self.view_is c.self.invariant.numbers) way }

@@ -10,4 +10,5 @@ returns-clause-ok c =
     ap forest_of c.in_ok-push.ensures.items ∙ forest_of-append xs (c.in_ok-shared.shared ∷ [])
     ∙ ap (λ n. followed (forest_of xs) (forest (tree_of n ∷ []))) c.in_ok-shared.ensures.ok
     ∙ ap (λ t. followed (forest_of xs) (forest (t ∷ []))) c.node.ensures
-    ∙ ap (λ f. followed f (forest (record { number = c.args.id.number; content = content_of c.args.content; children = c.args.children } ∷ []))) c.self.view_is
+    ∙ ap (λ f. followed f (forest (record { number = c.args.id.number; content = content_of c.args.content; children = c.args.children } ∷ [])))
+    c.self.view_is
