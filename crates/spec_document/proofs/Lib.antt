@@ -7,3 +7,4 @@ pub mod Written
 pub mod Ways
 pub mod Listed
 pub mod Balanced
+pub mod ByPrefix

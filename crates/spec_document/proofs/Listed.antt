@@ -76,17 +76,17 @@ joined w S T f (p ∷ ps) qs g h i j =
 abbrev Namespaces : Type 0
 Namespaces = List (List ℕ × List ℕ)
 
-abbrev rises : Namespaces → Bool
+abbrev pub rises : Namespaces → Bool
 rises = is_sorted (slice_cmp nat_cmp)
 
-abbrev below : List ℕ → Namespaces → Bool
+abbrev pub below : List ℕ → Namespaces → Bool
 below = below_all (slice_cmp nat_cmp)
 
-first_of : (a b : Bool) → IsTrue (a && b) → IsTrue a
+pub first_of : (a b : Bool) → IsTrue (a && b) → IsTrue a
 first_of true b h = refl
 first_of false b h = absurd (cc)
 
-second_of : (a b : Bool) → IsTrue (a && b) → IsTrue b
+pub second_of : (a b : Bool) → IsTrue (a && b) → IsTrue b
 second_of true b h = h
 second_of false b h = absurd (cc)
 
@@ -117,7 +117,7 @@ IsToNamespace (ToNamespace prefix) = Unit {0}
 IsToNamespace (ToAttribute number) = ⊥
 IsToNamespace (ToChild position) = ⊥
 
-less : (o : Ordering) → IsTrue (is_lt o) → o ≡ Less
+pub less : (o : Ordering) → IsTrue (is_lt o) → o ≡ Less
 less Less h = refl
 less Equal h = absurd (cc)
 less Greater h = absurd (cc)
@@ -149,7 +149,7 @@ passed false t = elim t [ ]
 scope-rises : (scope : Scope) → IsTrue (rises (entries scope))
 scope-rises scope = passed (rises (entries scope)) (entries_sorted scope)
 
-namespaces-rise : {L : Type 0} (node : Found L) → IsTrue (rises (namespaces_of node))
+pub namespaces-rise : {L : Type 0} (node : Found L) → IsTrue (rises (namespaces_of node))
 namespaces-rise node = by node.content
   where
     by : (c : Option Content) → IsTrue (rises (namespaces_by c (scope_at node)))

@@ -1,9 +1,10 @@
 // Laws of PYX lines and of forests, which hold of the definitions alone.
 ghost use Rattle.std.specs.Prelude.{◌≡◌, ◌↔◌, ℕ, List, [], None, Some, map};
-ghost use Rattle.std.specs.Option.{option_map};
+ghost use Rattle.std.specs.Option.{option_map, option_and_then};
 ghost use Rattle.spec_document.specs.declared.event.Event.{Event};
 ghost use Rattle.spec_document.specs.Balance.{forest_of, unbalanced_line, IsUnbalanced};
 ghost use Rattle.spec_document.specs.Forest.{Plain, IsForestOf, IsNormal, plain, written};
+ghost use Rattle.spec_document.specs.Place.{Found, at_number, namespaces_of, namespace_at, namespace_of};
 ghost use Rattle.spec_document.specs.Pyx.{escaped, unescaped, line_of, event_of, IsWritable};
 
 /// What is written with escapes is read as it was.
@@ -38,4 +39,11 @@ pub fn written_forests_read_back()
 /// forest, as they can with those before it; where each may follow, an end is missing, which is no line's.
 pub fn unbalanced_lines_are_the_first()
     ensures { (events : List (ℕ × Event (List ℕ))) → IsUnbalanced events (unbalanced_line None [] events) }
+{}
+
+/// The namespace node of an element that has a number in document order is the one of its prefix, by which
+/// its place ends: each prefix stands once (XPath 1.0, section 5.4).
+pub fn namespace_nodes_are_told_by_their_prefix()
+    ensures { (node : Found ℕ) (number : ℕ)
+        → option_and_then (λ n. namespace_of node n.0) (at_number number (namespaces_of node)) ≡ namespace_at node number }
 {}

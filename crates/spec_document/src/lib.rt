@@ -19,7 +19,8 @@ pub use event::Event;
 pub use kind::Kind;
 pub use laws::{
     escapes_read_back, events_have_one_forest, forests_are_computed,
-    unbalanced_lines_are_the_first, written_forests_read_back, written_lines_read_back,
+    namespace_nodes_are_told_by_their_prefix, unbalanced_lines_are_the_first,
+    written_forests_read_back, written_lines_read_back,
 };
 pub use order::{axes_part_the_tree, document_order_is_total, nodes_stand_in_order};
 pub use parent::Parent;
