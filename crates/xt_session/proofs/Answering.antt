@@ -7,7 +7,7 @@ use Rattle.std.specs.Str.{encode_utf8_all}
 use Rattle.spec_document.specs.Fault.{Fault}
 use Rattle.spec_document.specs.Forest.{Plain, Document, plain, lines_of}
 use Rattle.spec_session.specs.Command.{Command}
-use Rattle.spec_session.specs.Machine.{State, Answer, Changes, ShowsResult, ShowsDocument, Refuses, kept_by, outcome_by, main_name, change_reply}
+use Rattle.spec_session.specs.Machine.{State, Changes, ShowsResult, ShowsDocument, Refuses, kept_by, outcome_by, main_name, change_reply}
 use Rattle.spec_session.specs.Machine.{with_module, shows, result_reply, answer_by, answer_to, Gives, Step}
 use Rattle.spec_session.specs.Request.{Request, request_of}
 use Rattle.spec_session.specs.Reply.{Reply, No, Shown, reply_text}

@@ -1,8 +1,8 @@
-use Rattle.std.proofs.Common.{refl, ap, ◌∙◌}
+use Rattle.std.proofs.Common.{ap, ◌∙◌}
 use Rattle.std.specs.Str.{chars}
 use Rattle.spec_session.specs.Machine.{with_source, change_reply, outcome_by}
 use Rattle.xt_wire.specs.View.{reply_of}
-use Rattle.xt_session.specs.Documents.{state_of, plain_in}
+use Rattle.xt_session.specs.Documents.{state_of}
 use Rattle.xt_session.proofs.Answering.{gives_changed}
 use Rattle.xt_session.proofs.answer.keep_source.Goals as goal
 

@@ -1,5 +1,4 @@
-use Rattle.std.proofs.Common.{refl}
-use Rattle.spec_session.specs.Machine.{kept_by, with_module}
+use Rattle.spec_session.specs.Machine.{with_module}
 use Rattle.spec_document.specs.Document.{document_of}
 use Rattle.spec_document.specs.Scope.{root_scope}
 use Rattle.xt_build.specs.View.{fault_of}
