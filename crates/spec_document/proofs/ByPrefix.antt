@@ -30,7 +30,8 @@ some_same : {A : Type 0} (x y : A) → Option.Some x ≡ Some y → x ≡ y
 some_same x y e = ap (λ o. elim o [ None ↦ x | Some z ↦ z ]) e
 
 -- what stands among texts that are above one is another
-among_above : (x : List ℕ) (ns : List (List ℕ × List ℕ)) (number : ℕ) (n : List ℕ × List ℕ) → IsTrue (below x ns) → at_number number ns ≡ Some n → bytes_eq x n.0 ≡ false
+among_above : (x : List ℕ) (ns : List (List ℕ × List ℕ)) (number : ℕ) (n : List ℕ × List ℕ) → IsTrue (below x ns)
+    → at_number number ns ≡ Some n → bytes_eq x n.0 ≡ false
 among_above x [] number n h e = absurd (cc)
 among_above x (m ∷ ns) number n h e =
     elim (number == 1) as (λ b. cond b (Some m) (at_number (number - 1) ns) ≡ Some n → bytes_eq x n.0 ≡ false) [
@@ -38,10 +39,12 @@ among_above x (m ∷ ns) number n h e =
       | false ↦ λ is. among_above x ns (number - 1) n (second_of _ (below x ns) h) is
     ] e
 
-find_again : (ns : List (List ℕ × List ℕ)) (number : ℕ) (n : List ℕ × List ℕ) → IsTrue (rises ns) → at_number number ns ≡ Some n → find (λ m. bytes_eq m.0 n.0) ns ≡ Some n
+find_again : (ns : List (List ℕ × List ℕ)) (number : ℕ) (n : List ℕ × List ℕ) → IsTrue (rises ns) → at_number number ns ≡ Some n
+    → find (λ m. bytes_eq m.0 n.0) ns ≡ Some n
 find_again [] number n h e = absurd (cc)
 find_again (m ∷ ns) number n h e =
-    elim (number == 1) as (λ b. cond b (Some m) (at_number (number - 1) ns) ≡ Some n → cond (bytes_eq m.0 n.0) (Some m) (find (λ k. bytes_eq k.0 n.0) ns) ≡ Some n) [
+    elim (number == 1) as (λ b. cond b (Some m) (at_number (number - 1) ns) ≡ Some n
+    → cond (bytes_eq m.0 n.0) (Some m) (find (λ k. bytes_eq k.0 n.0) ns) ≡ Some n) [
       | true ↦ λ is.
           let same = some_same m n is in
           ap (λ t. cond t (Some m) (find (λ k. bytes_eq k.0 n.0) ns)) ((bytes_eq-Decides m.0 n.0).1 (ap (λ k. k.0) same)) ∙ is
@@ -50,7 +53,8 @@ find_again (m ∷ ns) number n h e =
           ∙ find_again ns (number - 1) n (second_of _ (rises ns) h) is
     ] e
 
-pub by_prefix : {L : Type 0} (node : Found L) (number : ℕ) → option_and_then (λ n. namespace_of node n.0) (at_number number (namespaces_of node)) ≡ namespace_at node number
+pub by_prefix : {L : Type 0} (node : Found L) (number : ℕ)
+    → option_and_then (λ n. namespace_of node n.0) (at_number number (namespaces_of node)) ≡ namespace_at node number
 by_prefix node number = at (at_number number (namespaces_of node)) refl
   where
     at : (o : Option (List ℕ × List ℕ)) → at_number number (namespaces_of node) ≡ o

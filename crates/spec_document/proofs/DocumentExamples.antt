@@ -17,12 +17,21 @@ abbrev refused_nodes : ℕ → ℕ → Result (Forest ℕ) Fault
 refused_nodes number line = Err (record { number = number; line = line })
 
 -- adjacent data is one text; white space at the top is dropped, and has no number
-pub joined_texts : document_of root_scope 7 (codes "- " ∷ codes "(a" ∷ codes "-x" ∷ codes "-y" ∷ codes ")a" ∷ []) ≡ Ok (record { root = 7; nodes = Node 8 (Element (codes "a") []) (Node 9 (Text (codes "xy")) Empty Empty) Empty })
+pub joined_texts : document_of root_scope 7 (codes "- " ∷ codes "(a" ∷ codes "-x" ∷ codes "-y" ∷ codes ")a" ∷ [])
+    ≡ Ok (record { root = 7; nodes = Node 8 (Element (codes "a") []) (Node 9 (Text (codes "xy")) Empty Empty) Empty })
 unfolding is_char is_name_start is_name_part is_utf8 chars encode
 joined_texts = refl
 
 -- numbers go in document order; declarations stay among the attributes
-pub numbers_in_order : document_of root_scope 0 (codes "?t d" ∷ codes "(a" ∷ codes "Ax 1" ∷ codes "Axmlns u" ∷ codes "-" ∷ codes "(b" ∷ codes ")b" ∷ codes "Cc" ∷ codes ")a" ∷ []) ≡ Ok (record { root = 0; nodes = Node 1 (Instruction (codes "t") (codes "d")) Empty (Node 2 (Element (codes "a") (record { name = codes "x"; value = codes "1" } ∷ record { name = codes "xmlns"; value = codes "u" } ∷ [])) (Node 3 (Element (codes "b") []) Empty (Node 4 (Comment (codes "c")) Empty Empty)) Empty) })
+pub numbers_in_order : document_of root_scope 0
+    (codes "?t d" ∷ codes "(a" ∷ codes "Ax 1" ∷ codes "Axmlns u" ∷ codes "-" ∷ codes "(b" ∷ codes ")b" ∷ codes "Cc" ∷ codes ")a" ∷ [])
+    ≡ Ok (record {
+      root = 0;
+      nodes =
+          Node 1 (Instruction (codes "t") (codes "d")) Empty
+          (Node 2 (Element (codes "a") (record { name = codes "x"; value = codes "1" } ∷ record { name = codes "xmlns"; value = codes "u" } ∷ []))
+          (Node 3 (Element (codes "b") []) Empty (Node 4 (Comment (codes "c")) Empty Empty)) Empty);
+    })
 unfolding is_char is_name_start is_name_part is_utf8 chars encode
 numbers_in_order = refl
 
@@ -51,7 +60,8 @@ unfolding is_char is_name_start is_name_part is_utf8 chars encode
 late_attribute = refl
 
 -- behind an empty line it is still behind the start
-pub attribute_behind_empty_line : document_of root_scope 0 (codes "(a" ∷ [] ∷ codes "Ax 1" ∷ codes ")a" ∷ []) ≡ Ok (record { root = 0; nodes = Node 1 (Element (codes "a") (record { name = codes "x"; value = codes "1" } ∷ [])) Empty Empty })
+pub attribute_behind_empty_line : document_of root_scope 0 (codes "(a" ∷ [] ∷ codes "Ax 1" ∷ codes ")a" ∷ [])
+    ≡ Ok (record { root = 0; nodes = Node 1 (Element (codes "a") (record { name = codes "x"; value = codes "1" } ∷ [])) Empty Empty })
 unfolding is_char is_name_start is_name_part is_utf8 chars encode
 attribute_behind_empty_line = refl
 
@@ -85,7 +95,8 @@ pub xml_with_another_uri : document_of root_scope 0 (codes "(a" ∷ codes "Axmln
 unfolding is_char is_name_start is_name_part is_utf8 chars encode
 xml_with_another_uri = refl
 
-pub another_with_its_uri : document_of root_scope 0 (codes "(a" ∷ codes "Axmlns http://www.w3.org/XML/1998/namespace" ∷ codes ")a" ∷ []) ≡ refused 10 2
+pub another_with_its_uri : document_of root_scope 0 (codes "(a" ∷ codes "Axmlns http://www.w3.org/XML/1998/namespace" ∷ codes ")a" ∷ [])
+    ≡ refused 10 2
 unfolding is_char is_name_start is_name_part is_utf8 chars encode
 another_with_its_uri = refl
 
@@ -120,7 +131,8 @@ unfolding is_char is_name_start is_name_part is_utf8 chars encode
 last_number = refl
 
 -- siblings: text below an element, a second element under a root
-pub below_an_element : nodes_of root_scope 5 (ElementParent 3) (codes "-x" ∷ codes "(a" ∷ codes ")a" ∷ []) ≡ Ok (Node 5 (Text (codes "x")) Empty (Node 6 (Element (codes "a") []) Empty Empty))
+pub below_an_element : nodes_of root_scope 5 (ElementParent 3) (codes "-x" ∷ codes "(a" ∷ codes ")a" ∷ [])
+    ≡ Ok (Node 5 (Text (codes "x")) Empty (Node 6 (Element (codes "a") []) Empty Empty))
 unfolding is_char is_name_start is_name_part is_utf8 chars encode
 below_an_element = refl
 

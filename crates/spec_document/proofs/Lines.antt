@@ -16,18 +16,25 @@ known f c d e = ap f (sym (eqb-true c d e))
 -- one character, escaped and read
 escape_reads_back : (c : ℕ) (rest : List ℕ) → unescaped (escape c ++ rest) ≡ c ∷ unescaped rest
 escape_reads_back c rest =
-    elim (c == 0xA) as (λ b. (c == 0xA) ≡ b → unescaped (cond b (0x5C ∷ 0x6E ∷ []) (cond (c == 0x9) (0x5C ∷ 0x74 ∷ []) (cond (c == 0xD) (0x5C ∷ 0x72 ∷ []) (cond (c == 0x5C) (0x5C ∷ 0x5C ∷ []) (c ∷ [])))) ++ rest) ≡ c ∷ unescaped rest) [
+    elim (c == 0xA) as (λ b. (c == 0xA) ≡ b
+    → unescaped (cond b (0x5C ∷ 0x6E ∷ [])
+    (cond (c == 0x9) (0x5C ∷ 0x74 ∷ []) (cond (c == 0xD) (0x5C ∷ 0x72 ∷ []) (cond (c == 0x5C) (0x5C ∷ 0x5C ∷ []) (c ∷ [])))) ++ rest)
+    ≡ c ∷ unescaped rest) [
       | true ↦ λ e. known (λ x. x ∷ unescaped rest) c 0xA e
-      | false ↦ λ _. elim (c == 0x9) as (λ b. (c == 0x9) ≡ b → unescaped (cond b (0x5C ∷ 0x74 ∷ []) (cond (c == 0xD) (0x5C ∷ 0x72 ∷ []) (cond (c == 0x5C) (0x5C ∷ 0x5C ∷ []) (c ∷ []))) ++ rest) ≡ c ∷ unescaped rest) [
-        | true ↦ λ e. known (λ x. x ∷ unescaped rest) c 0x9 e
-        | false ↦ λ _. elim (c == 0xD) as (λ b. (c == 0xD) ≡ b → unescaped (cond b (0x5C ∷ 0x72 ∷ []) (cond (c == 0x5C) (0x5C ∷ 0x5C ∷ []) (c ∷ [])) ++ rest) ≡ c ∷ unescaped rest) [
-          | true ↦ λ e. known (λ x. x ∷ unescaped rest) c 0xD e
-          | false ↦ λ _. elim (c == 0x5C) as (λ b. (c == 0x5C) ≡ b → unescaped (cond b (0x5C ∷ 0x5C ∷ []) (c ∷ []) ++ rest) ≡ c ∷ unescaped rest) [
-            | true ↦ λ e. known (λ x. x ∷ unescaped rest) c 0x5C e
-            | false ↦ λ e. rw e refl
+      | false ↦ λ _. elim (c == 0x9) as (λ b. (c == 0x9) ≡ b
+          → unescaped (cond b (0x5C ∷ 0x74 ∷ []) (cond (c == 0xD) (0x5C ∷ 0x72 ∷ []) (cond (c == 0x5C) (0x5C ∷ 0x5C ∷ []) (c ∷ []))) ++ rest)
+          ≡ c ∷ unescaped rest) [
+            | true ↦ λ e. known (λ x. x ∷ unescaped rest) c 0x9 e
+            | false ↦ λ _. elim (c == 0xD) as (λ b. (c == 0xD) ≡ b
+                → unescaped (cond b (0x5C ∷ 0x72 ∷ []) (cond (c == 0x5C) (0x5C ∷ 0x5C ∷ []) (c ∷ [])) ++ rest) ≡ c ∷ unescaped rest) [
+                  | true ↦ λ e. known (λ x. x ∷ unescaped rest) c 0xD e
+                  | false ↦ λ _. elim (c == 0x5C) as (λ b. (c == 0x5C) ≡ b
+                      → unescaped (cond b (0x5C ∷ 0x5C ∷ []) (c ∷ []) ++ rest) ≡ c ∷ unescaped rest) [
+                        | true ↦ λ e. known (λ x. x ∷ unescaped rest) c 0x5C e
+                        | false ↦ λ e. rw e refl
+                      ] refl
+                ] refl
           ] refl
-        ] refl
-      ] refl
     ] refl
 
 pub unescaped-escaped : (text : List ℕ) → unescaped (escaped text) ≡ text
@@ -38,36 +45,44 @@ unescaped-escaped (c ∷ cs) = escape_reads_back c (escaped cs) ∙ ap (λ xs. c
 escape_chars : (c : ℕ) → is_char c ≡ true → list_all is_char (escape c) ≡ true
 unfolding is_char
 escape_chars c h =
-    elim (c == 0xA) as (λ b. list_all is_char (cond b (0x5C ∷ 0x6E ∷ []) (cond (c == 0x9) (0x5C ∷ 0x74 ∷ []) (cond (c == 0xD) (0x5C ∷ 0x72 ∷ []) (cond (c == 0x5C) (0x5C ∷ 0x5C ∷ []) (c ∷ []))))) ≡ true) [
+    elim (c == 0xA) as (λ b. list_all is_char
+    (cond b (0x5C ∷ 0x6E ∷ [])
+    (cond (c == 0x9) (0x5C ∷ 0x74 ∷ []) (cond (c == 0xD) (0x5C ∷ 0x72 ∷ []) (cond (c == 0x5C) (0x5C ∷ 0x5C ∷ []) (c ∷ []))))) ≡ true) [
       | true ↦ refl
-      | false ↦ elim (c == 0x9) as (λ b. list_all is_char (cond b (0x5C ∷ 0x74 ∷ []) (cond (c == 0xD) (0x5C ∷ 0x72 ∷ []) (cond (c == 0x5C) (0x5C ∷ 0x5C ∷ []) (c ∷ [])))) ≡ true) [
-        | true ↦ refl
-        | false ↦ elim (c == 0xD) as (λ b. list_all is_char (cond b (0x5C ∷ 0x72 ∷ []) (cond (c == 0x5C) (0x5C ∷ 0x5C ∷ []) (c ∷ []))) ≡ true) [
-          | true ↦ refl
-          | false ↦ elim (c == 0x5C) as (λ b. list_all is_char (cond b (0x5C ∷ 0x5C ∷ []) (c ∷ [])) ≡ true) [
+      | false ↦ elim (c == 0x9) as (λ b. list_all is_char
+          (cond b (0x5C ∷ 0x74 ∷ []) (cond (c == 0xD) (0x5C ∷ 0x72 ∷ []) (cond (c == 0x5C) (0x5C ∷ 0x5C ∷ []) (c ∷ [])))) ≡ true) [
             | true ↦ refl
-            | false ↦ and_from (is_char c) true h refl
+            | false ↦ elim (c == 0xD) as (λ b. list_all is_char (cond b (0x5C ∷ 0x72 ∷ []) (cond (c == 0x5C) (0x5C ∷ 0x5C ∷ []) (c ∷ [])))
+                ≡ true) [
+                  | true ↦ refl
+                  | false ↦ elim (c == 0x5C) as (λ b. list_all is_char (cond b (0x5C ∷ 0x5C ∷ []) (c ∷ [])) ≡ true) [
+                    | true ↦ refl
+                    | false ↦ and_from (is_char c) true h refl
+                  ]
+                ]
           ]
-        ]
-      ]
     ]
 
 pub escaped_chars : (text : List ℕ) → list_all is_char text ≡ true → list_all is_char (escaped text) ≡ true
 escaped_chars [] h = refl
 escaped_chars (c ∷ cs) h =
     let parts = and_parts (is_char c) (list_all is_char cs) h in
-    list_all-append is_char (escape c) (escaped cs) ∙ and_from (list_all is_char (escape c)) (list_all is_char (escaped cs)) (escape_chars c parts.0) (escaped_chars cs parts.1)
+    list_all-append is_char (escape c) (escaped cs)
+    ∙ and_from (list_all is_char (escape c)) (list_all is_char (escaped cs)) (escape_chars c parts.0) (escaped_chars cs parts.1)
 
 -- a line of XML Chars has the event that its first character says
-read_line : (sign : ℕ) (rest : List ℕ) → is_char sign ≡ true → list_all is_char rest ≡ true → event_of (sign ∷ rest) ≡ event_behind sign rest
+read_line : (sign : ℕ) (rest : List ℕ) → is_char sign ≡ true → list_all is_char rest ≡ true
+    → event_of (sign ∷ rest) ≡ event_behind sign rest
 read_line sign rest s h = ap (λ b. cond b (event_behind sign rest) None) (and_from (is_char sign) (list_all is_char rest) s h)
 
 -- a name, a space and an escaped text
-named_chars : (name text : List ℕ) → list_all is_char name ≡ true → list_all is_char text ≡ true → list_all is_char (name ++ 0x20 ∷ escaped text) ≡ true
+named_chars : (name text : List ℕ) → list_all is_char name ≡ true → list_all is_char text ≡ true
+    → list_all is_char (name ++ 0x20 ∷ escaped text) ≡ true
 unfolding is_char
 named_chars name text n t =
     list_all-append is_char name (0x20 ∷ escaped text)
-    ∙ and_from (list_all is_char name) (list_all is_char (0x20 ∷ escaped text)) n (and_from (is_char 0x20) (list_all is_char (escaped text)) refl (escaped_chars text t))
+    ∙ and_from (list_all is_char name) (list_all is_char (0x20 ∷ escaped text)) n
+    (and_from (is_char 0x20) (list_all is_char (escaped text)) refl (escaped_chars text t))
 
 named_reads_back : {X : Type 0} (make : List ℕ → List ℕ → X) (name text : List ℕ) → list_any is_blank name ≡ false
     → make (before_first is_blank (name ++ 0x20 ∷ escaped text)) (unescaped (after_first is_blank (name ++ 0x20 ∷ escaped text))) ≡ make name text

@@ -1,5 +1,6 @@
 -- The nodes of a document are listed in document order.
-use Rattle.std.proofs.Common.{◌≡◌, ℕ, ◌+◌, ◌≤◌, ◌<◌, Bool, true, false, cond, List, [], ◌∷◌, ◌++◌, Option, None, Some, refl, sym, ◌∙◌, ap, subst, arith, append_assoc, append-nil}
+use Rattle.std.proofs.Common.{◌≡◌, ℕ, ◌+◌, ◌≤◌, ◌<◌, Bool, true, false, cond, List, [], ◌∷◌, ◌++◌, Option, None, Some, refl}
+use Rattle.std.proofs.Common.{sym, ◌∙◌, ap, subst, arith, append_assoc, append-nil}
 use Rattle.std.specs.Prelude.{IsTrue, ◌&&◌, map, filter, nat_lt}
 use lib.Dec.{T}
 use Rattle.std.proofs.lemmas.Bool.Decides.{nat_tests}
@@ -13,7 +14,8 @@ use Rattle.spec_document.specs.Scope.{Scope}
 use Rattle.spec_document.specs.Declaration.{is_there}
 use Rattle.spec_document.specs.Forest.{Written, Content, Element, Text, Comment, Instruction, Forest, Empty, Node, Document}
 use Rattle.spec_document.specs.Place.{Found, root_of, found_in, attributes_of, namespaces_of, namespaces_by, scope_at}
-use Rattle.spec_document.specs.Order.{Way, ToNamespace, ToAttribute, ToChild, way_to, way_cmp, precedes, Entry, namespace_entries, attribute_entries, own_entries, entries_in, entries_of, ways_of, ComesBeforeAll, AreInOrder}
+use Rattle.spec_document.specs.Order.{Way, ToNamespace, ToAttribute, ToChild, way_to, way_cmp, precedes, Entry, namespace_entries, attribute_entries}
+use Rattle.spec_document.specs.Order.{own_entries, entries_in, entries_of, ways_of, ComesBeforeAll, AreInOrder}
 use Rattle.spec_document.proofs.Ways.{way_total}
 
 -- a way that goes on from w by a step that S allows
@@ -50,7 +52,8 @@ goes-on : (w : List Way) (a : Way) (p : List Way) → IsTrue (precedes w (w ++ a
 goes-on [] a p = refl
 goes-on (c ∷ w) a p = rw (way_self c) (goes-on w a p)
 
-one-before : (w : List Way) (a : Way) (rest : List Way) (T : Way → Type 0) → ((b : Way) → T b → way_cmp a b ≡ Less) → (qs : List (List Way)) → AllGo w T qs → ComesBeforeAll (w ++ a ∷ rest) qs
+one-before : (w : List Way) (a : Way) (rest : List Way) (T : Way → Type 0) → ((b : Way) → T b → way_cmp a b ≡ Less) → (qs : List (List Way))
+    → AllGo w T qs → ComesBeforeAll (w ++ a ∷ rest) qs
 one-before w a rest T f [] g = tt
 one-before w a rest T f (q ∷ qs) g =
     (rw g.0.3 (parts-at w a g.0.0 rest g.0.1 (f g.0.0 g.0.2)), one-before w a rest T f qs g.1)
@@ -122,7 +125,8 @@ less Less h = refl
 less Equal h = absurd (cc)
 less Greater h = absurd (cc)
 
-namespaces-go : {L : Type 0} (positions : List ℕ) (element : Found L) (number : ℕ) (ns : Namespaces) → AllGo (map ToChild positions) IsToNamespace (ways_of (namespace_entries positions element number ns))
+namespaces-go : {L : Type 0} (positions : List ℕ) (element : Found L) (number : ℕ) (ns : Namespaces)
+    → AllGo (map ToChild positions) IsToNamespace (ways_of (namespace_entries positions element number ns))
 namespaces-go positions element number [] = tt
 namespaces-go positions element number (n ∷ ns) = ((ToNamespace n.0, [], tt, refl), namespaces-go positions element (number + 1) ns)
 
@@ -251,10 +255,12 @@ abbrev IsAny : Way → Type 0
 IsAny a = Unit {0}
 
 -- what stands below a node, in order, stands in order with the node, its namespace nodes and its attributes
-node-order : {L : Type 0} (positions : List ℕ) (node : Found L) (below : List (Entry L)) → AllGo (map ToChild positions) (IsChildFrom 1) (ways_of below) → AreInOrder (ways_of below)
+node-order : {L : Type 0} (positions : List ℕ) (node : Found L) (below : List (Entry L)) → AllGo (map ToChild positions) (IsChildFrom 1) (ways_of below)
+    → AreInOrder (ways_of below)
     → AreInOrder (ways_of (own_entries positions node ++ below))
 node-order {L} positions node below g h =
-    let split : ways_of (parts_of positions node ++ below) ≡ ways_of (parts_of positions node) ++ ways_of below = ways-append (parts_of positions node) below in
+    let split : ways_of (parts_of positions node ++ below) ≡ ways_of (parts_of positions node) ++ ways_of below =
+    ways-append (parts_of positions node) below in
     let go : AllGo w IsAny (ways_of (parts_of positions node) ++ ways_of below) =
     go-append w IsAny _ _ (go-wider w IsOwn IsAny (λ a o. tt) _ (parts-go positions node)) (go-wider w (IsChildFrom 1) IsAny (λ a o. tt) _ g) in
     let order : AreInOrder (ways_of (parts_of positions node) ++ ways_of below) =
@@ -268,14 +274,25 @@ node-order {L} positions node below g h =
 node-go : {L : Type 0} (positions : List ℕ) (node : Found L) (below : List (Entry L)) → AllGo (map ToChild positions) (IsChildFrom 1) (ways_of below)
     → (w : List Way) (a : Way) → map ToChild positions ≡ w ++ a ∷ [] → AllGo w (λ b. b ≡ a) (ways_of (own_entries positions node ++ below))
 node-go {L} positions node below g w a e =
-    let split : ways_of (parts_of positions node ++ below) ≡ ways_of (parts_of positions node) ++ ways_of below = ways-append (parts_of positions node) below in
+    let split : ways_of (parts_of positions node ++ below) ≡ ways_of (parts_of positions node) ++ ways_of below =
+    ways-append (parts_of positions node) below in
     let go : AllGo (map ToChild positions) IsAny (ways_of (parts_of positions node) ++ ways_of below) =
-    go-append (map ToChild positions) IsAny _ _ (go-wider _ IsOwn IsAny (λ b o. tt) _ (parts-go positions node)) (go-wider _ (IsChildFrom 1) IsAny (λ b o. tt) _ g) in
+    go-append (map ToChild positions) IsAny _ _ (go-wider _ IsOwn IsAny (λ b o. tt) _ (parts-go positions node))
+    (go-wider _ (IsChildFrom 1) IsAny (λ b o. tt) _ g) in
     ((a, [], refl, append-nil (map ToChild positions) ∙ e), rw split (lifted _ go))
   where
     lifted : (ps : List (List Way)) → AllGo (map ToChild positions) IsAny ps → AllGo w (λ b. b ≡ a) ps
     lifted [] h = tt
-    lifted (p ∷ ps) h = ((a, h.0.0 ∷ h.0.1, refl, h.0.3 ∙ ap (λ (v : List Way). v ++ h.0.0 ∷ h.0.1) e ∙ append_assoc w (a ∷ []) (h.0.0 ∷ h.0.1)), lifted ps h.1)
+    lifted (p ∷ ps) h = (
+      (
+        a,
+        h.0.0 ∷ h.0.1,
+        refl,
+        h.0.3 ∙ ap (λ (v : List Way). v ++ h.0.0 ∷ h.0.1) e
+            ∙ append_assoc w (a ∷ []) (h.0.0 ∷ h.0.1),
+      ),
+      lifted ps h.1,
+    )
 
 -- the positions of one more step
 way-snoc : (parent : List ℕ) (position : ℕ) → map ToChild (parent ++ position ∷ []) ≡ map ToChild parent ++ ToChild position ∷ []
@@ -297,7 +314,8 @@ earlier-first position a (ToChild n) e h = ap (λ (c : Way). way_cmp c (ToChild 
 
 -- siblings, with all below them, go on from their parent, and stand in order
 pub siblings : {L : Type 0} (above : List Content) (parent : List ℕ) (position : ℕ) (f : Forest L)
-    → AllGo (map ToChild parent) (IsChildFrom position) (ways_of (entries_in above parent position f)) × AreInOrder (ways_of (entries_in above parent position f))
+    → AllGo (map ToChild parent) (IsChildFrom position) (ways_of (entries_in above parent position f))
+    × AreInOrder (ways_of (entries_in above parent position f))
 siblings above parent position Empty = (tt, tt)
 siblings above parent position (Node label content children after) =
     let here = parent ++ position ∷ [] in
@@ -306,14 +324,17 @@ siblings above parent position (Node label content children after) =
     let rest = siblings above parent (position + 1) after in
     let w = map ToChild parent in
     let below = entries_in (content ∷ above) here 1 children in
-    let go : AllGo w (λ a. a ≡ ToChild position) (ways_of (own_entries here node ++ below)) = node-go here node below inner.0 w (ToChild position) (way-snoc parent position) in
+    let go : AllGo w (λ a. a ≡ ToChild position) (ways_of (own_entries here node ++ below)) =
+    node-go here node below inner.0 w (ToChild position) (way-snoc parent position) in
     let order : AreInOrder (ways_of (own_entries here node ++ below)) = node-order here node below inner.0 inner.1 in
     let split : ways_of (own_entries here node ++ below ++ entries_in above parent (position + 1) after)
-    ≡ ways_of (own_entries here node ++ below) ++ ways_of (entries_in above parent (position + 1) after) = ways-append (own_entries here node ++ below) (entries_in above parent (position + 1) after) in
+    ≡ ways_of (own_entries here node ++ below) ++ ways_of (entries_in above parent (position + 1) after) =
+    ways-append (own_entries here node ++ below) (entries_in above parent (position + 1) after) in
     let G : List (List Way) → Type 0 = AllGo w (IsChildFrom position) in
     let first : List (List Way) = ways_of (own_entries here node ++ below) in
     let second : List (List Way) = ways_of (entries_in above parent (position + 1) after) in (
-      subst G (sym split) (go-append w (IsChildFrom position) first second (go-wider w (λ a. a ≡ ToChild position) (IsChildFrom position) (is-from position) first go)
+      subst G (sym split) (go-append w (IsChildFrom position) first second
+          (go-wider w (λ a. a ≡ ToChild position) (IsChildFrom position) (is-from position) first go)
           (go-wider w (IsChildFrom (position + 1)) (IsChildFrom position) (from-later position) second rest.0)),
       subst AreInOrder (sym split)
           (joined w (λ a. a ≡ ToChild position) (IsChildFrom (position + 1)) (earlier-first position) first second go rest.0 order rest.1),

@@ -11,7 +11,8 @@ use Rattle.spec_document.proofs.Listed.{in_order}
 use Rattle.spec_expression.specs.Syntax.{Test}
 use Rattle.spec_meaning.specs.Step.{passes, step_from, stepped}
 
-first-filter : {L : Type 0} (p : Entry L → Bool) (w : List Way) (es : List (Entry L)) → ComesBeforeAll w (ways_of es) → ComesBeforeAll w (ways_of (filter p es))
+first-filter : {L : Type 0} (p : Entry L → Bool) (w : List Way) (es : List (Entry L)) → ComesBeforeAll w (ways_of es)
+    → ComesBeforeAll w (ways_of (filter p es))
 first-filter p w [] h = tt
 first-filter p w (e ∷ es) h =
     let rest = first-filter p w es h.1 in
@@ -21,7 +22,8 @@ order-filter : {L : Type 0} (p : Entry L → Bool) (es : List (Entry L)) → Are
 order-filter p [] h = tt
 order-filter p (e ∷ es) h =
     let rest = order-filter p es h.1 in
-    elim (p e) as (λ b. AreInOrder (ways_of (cond b (e ∷ filter p es) (filter p es)))) [ true ↦ (first-filter p (way_to e.place) es h.0, rest) | false ↦ rest ]
+    elim (p e) as (λ b. AreInOrder (ways_of (cond b (e ∷ filter p es) (filter p es))))
+    [ true ↦ (first-filter p (way_to e.place) es h.0, rest) | false ↦ rest ]
 
 places-ways : {L : Type 0} (es : List (Entry L)) → map way_to (map (λ e. e.place) es) ≡ ways_of es
 places-ways [] = refl
@@ -40,7 +42,8 @@ in_axis_order-nil {A} axis = go (is_reverse axis)
 abbrev Once : List Place → Axis → Type 0
 Once answer axis = (nodes : List Place) × (answer ≡ in_axis_order axis nodes) × AreInOrder (map way_to nodes)
 
-once_from : {L : Type 0} (document : Document L) (axis : Axis) (test : Test) (found : Option (Entry L)) → Once (step_from (λ e. e.place) (entries_of document) axis test found) axis
+once_from : {L : Type 0} (document : Document L) (axis : Axis) (test : Test) (found : Option (Entry L))
+    → Once (step_from (λ e. e.place) (entries_of document) axis test found) axis
 once_from document axis test None = ([], sym (in_axis_order-nil axis), tt)
 once_from {L} document axis test (Some node) =
     let p : Entry L → Bool = λ other. is_on axis (way_to node.place) (way_to other.place) && passes axis test other.item in (
@@ -49,5 +52,6 @@ once_from {L} document axis test (Some node) =
       subst AreInOrder (sym (places-ways (filter p (entries_of document)))) (order-filter p (entries_of document) (in_order document)),
     )
 
-pub once : {L : Type 0} (document : Document L) (axis : Axis) (test : Test) (node : Place) → Once (stepped (λ e. e.place) is_same_place (entries_of document) axis test node) axis
+pub once : {L : Type 0} (document : Document L) (axis : Axis) (test : Test) (node : Place)
+    → Once (stepped (λ e. e.place) is_same_place (entries_of document) axis test node) axis
 once document axis test node = once_from document axis test (find (λ entry. is_same_place node entry.place) (entries_of document))

@@ -6,7 +6,9 @@ use Rattle.spec_document.specs.Scope.{root_scope}
 use Rattle.spec_document.specs.Forest.{Plain, Document}
 use Rattle.spec_document.specs.Fault.{Fault}
 use Rattle.spec_session.specs.Command.{Command}
-use Rattle.spec_session.specs.Request.{Request, SetSource, SetModule, DropModule, Insert, Delete, SetText, SetAttribute, RemoveAttribute, Rename, SetParameter, Show, Write, Messages, Dump, Statistics, request_by, Words, is_text, is_taken, or_number, asked_by, words_of}
+use Rattle.spec_session.specs.Request.{Request, SetSource, SetModule, DropModule, Insert, Delete, SetText, SetAttribute, RemoveAttribute, Rename}
+use Rattle.spec_session.specs.Request.{SetParameter, Show, Write, Messages, Dump, Statistics, request_by, Words, is_text, is_taken, or_number, asked_by}
+use Rattle.spec_session.specs.Request.{words_of}
 use Rattle.spec_session.specs.Machine.{State, answer_of, answer_by, answer_to, kept_by, shows, document_named}
 use Rattle.spec_session.proofs.Steps.{IsOther}
 use Rattle.spec_session.proofs.FaultNumbers.{FaultIsAbove, fault-above}
@@ -40,7 +42,8 @@ formed : (old : State) (o : Option Request) → IsOther (answer_by old (or_numbe
 formed old None = lit< tt
 formed old (Some request) = to old request
 
-worded : (old : State) (words : Words) (body : List (List ℕ)) (taken : Bool) → IsOther (answer_by old (if taken then or_number (asked_by words body) 4 else Err 3))
+worded : (old : State) (words : Words) (body : List (List ℕ)) (taken : Bool)
+    → IsOther (answer_by old (if taken then or_number (asked_by words body) 4 else Err 3))
 worded old words body true = formed old (asked_by words body)
 worded old words body false = lit< tt
 

@@ -49,7 +49,8 @@ least-above : (faults : List Fault) → Above faults → IsAbove (least faults)
 least-above [] a = tt
 least-above (x ∷ xs) a = lesser-above x (least xs) a.0 (least-above xs a.1)
 
-answer-above : {A : Type 0} (faults : List Fault) (otherwise : Result A Fault) → Above faults → FaultIsAbove otherwise → FaultIsAbove (answer_of faults otherwise)
+answer-above : {A : Type 0} (faults : List Fault) (otherwise : Result A Fault) → Above faults → FaultIsAbove otherwise
+    → FaultIsAbove (answer_of faults otherwise)
 answer-above {A} faults otherwise a h = go (least faults) (least-above faults a)
   where
     go : (o : Option Fault) → IsAbove o → FaultIsAbove {A = A} (elim o [ None ↦ otherwise | Some fault ↦ Err fault ])

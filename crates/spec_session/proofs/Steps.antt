@@ -3,7 +3,8 @@ use Rattle.std.proofs.Common.{◌≡◌, ℕ, refl, sym, ◌∙◌, ap, arith, i
 use Rattle.std.specs.Prelude.{◌≢◌, ◌<◌}
 use Rattle.spec_session.specs.Command.{Command}
 use Rattle.spec_session.specs.Reply.{Reply, OkDone, OkRefused, Refused, Shown, No}
-use Rattle.spec_session.specs.Machine.{State, Outcome, Done, Failed, Answer, Refuses, Changes, ShowsResult, ShowsDocument, Gives, Step, answer_of, change_reply, result_reply, outcome_by, main_name}
+use Rattle.spec_session.specs.Machine.{State, Outcome, Done, Failed, Answer, Refuses, Changes, ShowsResult, ShowsDocument, Gives, Step, answer_of}
+use Rattle.spec_session.specs.Machine.{change_reply, result_reply, outcome_by, main_name}
 
 number_in : Reply → ℕ
 number_in (No number) = number
@@ -45,7 +46,8 @@ gives old ShowsResult h = (result_reply (outcome old), old, ((outcome old, refl,
 gives old (ShowsDocument tree) h = (Shown _, old, (refl, refl), λ e. cc)
 
 -- what one answer gives is one reply and one state
-pub one : (old : State) (answer : Answer) (reply other : Reply) (new another : State) → Gives old answer reply new → Gives old answer other another → (reply ≡ other) × (new ≡ another)
+pub one : (old : State) (answer : Answer) (reply other : Reply) (new another : State) → Gives old answer reply new → Gives old answer other another
+    → (reply ≡ other) × (new ≡ another)
 one old (Refuses number) reply other new another g h = (g.0 ∙ sym h.0, g.1 ∙ sym h.1)
 one old (Changes next) reply other new another g h =
     (g.0.2 ∙ ap change_reply (g.0.1 ∙ sym h.0.1) ∙ sym h.0.2, g.1 ∙ sym h.1)

@@ -30,16 +30,19 @@ pub same_instrs : (xs ys : List Instr) → instrs xs ≡ instrs ys → xs ≡ ys
 same_instrs [] [] h = refl
 same_instrs [] (y ∷ ys) h = cc
 same_instrs (x ∷ xs) [] h = cc
-same_instrs (x ∷ xs) (y ∷ ys) h = let t : instrs xs ≡ instrs ys = cc in let r = same_instrs xs ys t in let p : x.place ≡ y.place = cc in let f : x.form ≡ y.form = cc in let e = same_instr x y p f in cc
+same_instrs (x ∷ xs) (y ∷ ys) h = let t : instrs xs ≡ instrs ys = cc in let r = same_instrs xs ys t in let p : x.place ≡ y.place = cc in
+    let f : x.form ≡ y.form = cc in let e = same_instr x y p f in cc
 
 pub same_branches : (xs ys : List Branch) → branches xs ≡ branches ys → xs ≡ ys
 same_branches [] [] h = refl
 same_branches [] (y ∷ ys) h = cc
 same_branches (x ∷ xs) [] h = cc
-same_branches (x ∷ xs) (y ∷ ys) h = let t : branches xs ≡ branches ys = cc in let r = same_branches xs ys t in let p : x.place ≡ y.place = cc in let s : x.test ≡ y.test = cc in let c : x.content ≡ y.content = cc in let e = same_branch x y p s c in cc
+same_branches (x ∷ xs) (y ∷ ys) h = let t : branches xs ≡ branches ys = cc in let r = same_branches xs ys t in let p : x.place ≡ y.place = cc in
+    let s : x.test ≡ y.test = cc in let c : x.content ≡ y.content = cc in let e = same_branch x y p s c in cc
 
 pub same_bindings : (xs ys : List Binding) → bindings xs ≡ bindings ys → xs ≡ ys
 same_bindings [] [] h = refl
 same_bindings [] (y ∷ ys) h = cc
 same_bindings (x ∷ xs) [] h = cc
-same_bindings (x ∷ xs) (y ∷ ys) h = let t : bindings xs ≡ bindings ys = cc in let r = same_bindings xs ys t in let p : x.place ≡ y.place = cc in let n : x.name ≡ y.name = cc in let s : x.select ≡ y.select = cc in let c : x.content ≡ y.content = cc in let e = same_binding x y p n s c in cc
+same_bindings (x ∷ xs) (y ∷ ys) h = let t : bindings xs ≡ bindings ys = cc in let r = same_bindings xs ys t in let p : x.place ≡ y.place = cc in
+    let n : x.name ≡ y.name = cc in let s : x.select ≡ y.select = cc in let c : x.content ≡ y.content = cc in let e = same_binding x y p n s c in cc

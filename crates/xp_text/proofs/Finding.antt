@@ -1,5 +1,6 @@
 -- Where one text stands in another, by bytes and by characters.
-use Rattle.std.proofs.Common.{◌≡◌, ℕ, zero, suc, ◌+◌, ◌<◌, ◌≤◌, Bool, true, false, eqb, List, [], ◌∷◌, ◌++◌, length, take, drop, Some, None, arith, refl, sym, ap, ◌∙◌, append_assoc, inl, inr, length-append, length-drop, length-take}
+use Rattle.std.proofs.Common.{◌≡◌, ℕ, zero, suc, ◌+◌, ◌<◌, ◌≤◌, Bool, true, false, eqb, List, [], ◌∷◌, ◌++◌, length, take}
+use Rattle.std.proofs.Common.{drop, Some, None, arith, refl, sym, ap, ◌∙◌, append_assoc, inl, inr, length-append, length-drop, length-take}
 use Rattle.std.specs.List.{find, starts_with, range_with_len}
 use Rattle.std.specs.Option.{option_map_or}
 use Rattle.std.specs.Str.{chars, IsUtf8}
@@ -9,7 +10,8 @@ use Rattle.std.proofs.lemmas.Bool.Decides.{Decides-eqb, same_from_decides}
 use Rattle.std.proofs.lemmas.List.{take-append-drop, take-append-le}
 use Rattle.std.proofs.lemmas.List.Prefix.{front_rest}
 use Rattle.std.proofs.lemmas.Slice.Eq.{starts_is}
-use Rattle.std.proofs.lemmas.Str.{cons_from_encodes, encodes-append, encodes-chars, chars-append, length-le-encodes, IsUtf8-append, IsUtf8-drop, IsUtf8-take, IsCharBoundary-from_drop}
+use Rattle.std.proofs.lemmas.Str.{cons_from_encodes, encodes-append, encodes-chars, chars-append, length-le-encodes, IsUtf8-append, IsUtf8-drop, IsUtf8-take}
+use Rattle.std.proofs.lemmas.Str.{IsCharBoundary-from_drop}
 use lib.Utf8.{encodes, encode}
 use Rattle.spec_expression.specs.Strings.{begins_with, first_place, text_before, text_after}
 
@@ -40,7 +42,8 @@ pub same_begins : (s n : List ℕ) → IsUtf8 s → IsUtf8 n → starts_with eqb
 same_begins s n us un = rw (encodes-chars s us, encodes-chars n un) at (same_begins_encoded (chars s) (chars n))
 
 -- ---- the first place
-find_first : (p : ℕ → Bool) (n a k : ℕ) → a ≤ k → k < a + n → p k ≡ true → ((j : ℕ) → a ≤ j → j < k → p j ≡ false) → find p (range_with_len a n) ≡ Some k
+find_first : (p : ℕ → Bool) (n a k : ℕ) → a ≤ k → k < a + n → p k ≡ true → ((j : ℕ) → a ≤ j → j < k → p j ≡ false)
+    → find p (range_with_len a n) ≡ Some k
 find_first p zero a k from below hits misses = absurd (omega arith)
 find_first p (suc n) a k from below hits misses =
     elim (cases_order a k) [
@@ -68,7 +71,8 @@ module _ (cs ns : List ℕ) where
 
   stands : (j : ℕ) → begins_with (drop j cs) ns ≡ true → drop (byte_place j) (encodes cs) ≡ encodes ns ++ encodes (drop (length ns) (drop j cs))
   unfolding byte_place
-  stands j h = front_rest (encodes cs) (encodes (take j cs)) (encodes (drop j cs)) (cut j) ∙ ap encodes (begins_to (drop j cs) ns h) ∙ encodes-append ns _
+  stands j h = front_rest (encodes cs) (encodes (take j cs)) (encodes (drop j cs)) (cut j) ∙ ap encodes (begins_to (drop j cs) ns h)
+      ∙ encodes-append ns _
 
   absent : (j : ℕ) → LacksTextAt (encodes ns) (encodes cs) (byte_place j) → begins_with (drop j cs) ns ≡ false
   absent j lacks = false_from_ne_true _ (λ h. lacks _ (stands j h))
@@ -103,7 +107,8 @@ pub record Found (cs ns front back : List ℕ) : Type 0 where
   pub before : text_before cs ns ≡ front
   pub after : text_after cs ns ≡ back
 
-found_at : (cs ns fs bs : List ℕ) → cs ≡ fs ++ (ns ++ bs) → ((j : ℕ) → j < length fs → begins_with (drop j cs) ns ≡ false) → Found cs ns fs bs
+found_at : (cs ns fs bs : List ℕ) → cs ≡ fs ++ (ns ++ bs) → ((j : ℕ) → j < length fs → begins_with (drop j cs) ns ≡ false)
+    → Found cs ns fs bs
 found_at cs ns fs bs e misses =
     let long = ap length e ∙ length-append fs (ns ++ bs) in
     let hits = begins_from (drop (length fs) cs) ns bs (front_rest cs fs (ns ++ bs) e) in
@@ -134,8 +139,10 @@ module _ (s n : List ℕ) (us : IsUtf8 s) (un : IsUtf8 n) where
       let until : IsUtf8 (take i s) = IsUtf8-take s i us (IsCharBoundary-from_drop s i (omega arith) from) in
       let fs = chars (take i s) in
       let e : chars s ≡ fs ++ (chars n ++ chars (drop j s)) =
-      ap chars (sym (take-append-drop i s)) ∙ chars-append (take i s) (drop i s) until ∙ ap (λ t. fs ++ t) (ap chars at.split ∙ chars-append n (drop j s) un) in
+      ap chars (sym (take-append-drop i s)) ∙ chars-append (take i s) (drop i s) until
+      ∙ ap (λ t. fs ++ t) (ap chars at.split ∙ chars-append n (drop j s) un) in
       let long : length (encodes fs) ≡ i = ap length (encodes-chars (take i s) until) ∙ length_front i s (omega arith) in
       found_at (chars s) (chars n) fs (chars (drop j s)) e
       (λ k l. absent (chars s) (chars n) k
-      (rw (encodes-chars s us, encodes-chars n un) (h.0 (byte_place (chars s) (chars n) k) (before_byte k fs (chars s) (chars n) (chars n ++ chars (drop j s)) i e long l))))
+      (rw (encodes-chars s us, encodes-chars n un)
+      (h.0 (byte_place (chars s) (chars n) k) (before_byte k fs (chars s) (chars n) (chars n ++ chars (drop j s)) i e long l))))

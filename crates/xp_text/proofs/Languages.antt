@@ -1,5 +1,6 @@
 -- Languages by bytes and by characters: what `lang` compares is ASCII, or is compared as it is.
-use Rattle.std.proofs.Common.{◌≡◌, ◌≢◌, ℕ, suc, ◌<◌, ◌≤◌, true, false, ◌||◌, ◌==◌, List, [], ◌∷◌, ◌++◌, length, get_or, take, drop, map, bytes_eq, arith, refl, sym, ap, ◌∙◌, append_assoc, append-nil, inl, inr, length-append}
+use Rattle.std.proofs.Common.{◌≡◌, ◌≢◌, ℕ, suc, ◌<◌, ◌≤◌, true, false, ◌||◌, ◌==◌, List, [], ◌∷◌, ◌++◌, length}
+use Rattle.std.proofs.Common.{get_or, take, drop, map, bytes_eq, arith, refl, sym, ap, ◌∙◌, append_assoc, append-nil, inl, inr, length-append}
 use Rattle.std.specs.Char.{to_ascii_lowercase}
 use Rattle.std.specs.Str.{chars, IsUtf8}
 use Rattle.std.proofs.lemmas.Bool.{cases_lt, or_cases, or_left, or_right, false_from_ne_true, false≢true, eqb-true, eq-eqb}
@@ -48,7 +49,8 @@ lower_encodes (c ∷ cs) =
 same_equal : (xs ys : List ℕ) → bytes_eq (encodes xs) (encodes ys) ≡ bytes_eq xs ys
 same_equal xs ys =
     let d = bytes_eq-Decides (encodes xs) (encodes ys) in
-    same_from_decides {P = xs ≡ ys} (bytes_eq (encodes xs) (encodes ys)) (bytes_eq xs ys) (λ h. encodes_same xs ys (d.0 h), λ e. d.1 (ap encodes e)) (bytes_eq-Decides xs ys)
+    same_from_decides {P = xs ≡ ys} (bytes_eq (encodes xs) (encodes ys)) (bytes_eq xs ys) (λ h. encodes_same xs ys (d.0 h), λ e. d.1 (ap encodes e))
+    (bytes_eq-Decides xs ys)
 
 encodes_dash : (ys : List ℕ) → encodes ys ++ 0x2D ∷ [] ≡ encodes (ys ++ 0x2D ∷ [])
 unfolding encode
@@ -90,15 +92,18 @@ take-append : (xs ys : List ℕ) → take (length xs) (xs ++ ys) ≡ xs
 take-append [] ys = refl
 take-append (x ∷ xs) ys = ap (λ t. x ∷ t) (take-append xs ys)
 
-front_is : (s w rest : List ℕ) → map to_ascii_lowercase s ≡ map to_ascii_lowercase w ++ rest → map to_ascii_lowercase (take (length w) s) ≡ map to_ascii_lowercase w
+front_is : (s w rest : List ℕ) → map to_ascii_lowercase s ≡ map to_ascii_lowercase w ++ rest
+    → map to_ascii_lowercase (take (length w) s) ≡ map to_ascii_lowercase w
 front_is s w rest e =
-    sym (take-map to_ascii_lowercase (length w) s) ∙ ap (take (length w)) e ∙ ap (λ n. take n (map to_ascii_lowercase w ++ rest)) (sym (length-map w to_ascii_lowercase))
+    sym (take-map to_ascii_lowercase (length w) s) ∙ ap (take (length w)) e
+    ∙ ap (λ n. take n (map to_ascii_lowercase w ++ rest)) (sym (length-map w to_ascii_lowercase))
     ∙ take-append (map to_ascii_lowercase w) rest
 
 unlike : (s w : List ℕ) → map to_ascii_lowercase (take (length w) s) ≢ map to_ascii_lowercase w → false ≡ is_language s w
 unlike s w apart = sym (false_from_ne_true _ (λ t. let f = fronts s w t in apart (front_is s w f.0 f.1)))
 
-whole_is : (s w : List ℕ) → map to_ascii_lowercase (take (length w) s) ≡ map to_ascii_lowercase w → map to_ascii_lowercase s ≡ map to_ascii_lowercase w ++ map to_ascii_lowercase (drop (length w) s)
+whole_is : (s w : List ℕ) → map to_ascii_lowercase (take (length w) s) ≡ map to_ascii_lowercase w
+    → map to_ascii_lowercase s ≡ map to_ascii_lowercase w ++ map to_ascii_lowercase (drop (length w) s)
 whole_is s w e =
     ap (map to_ascii_lowercase) (sym (take-append-drop (length w) s)) ∙ map-append to_ascii_lowercase (take (length w) s) (drop (length w) s)
     ∙ ap (λ t. t ++ map to_ascii_lowercase (drop (length w) s)) e
@@ -112,26 +117,31 @@ ends s w e nil =
 dash_lower : (c : ℕ) → to_ascii_lowercase c ≡ 0x2D → c ≡ 0x2D
 dash_lower c h = grind (arith, nat_tests)
 
-goes_on_at : (a b : List ℕ) (c : ℕ) (rest : List ℕ) → a ≡ b ++ (to_ascii_lowercase c ∷ rest) → (c == 0x2D) ≡ (bytes_eq a b || begins_with a (b ++ 0x2D ∷ []))
+goes_on_at : (a b : List ℕ) (c : ℕ) (rest : List ℕ) → a ≡ b ++ (to_ascii_lowercase c ∷ rest)
+    → (c == 0x2D) ≡ (bytes_eq a b || begins_with a (b ++ 0x2D ∷ []))
 goes_on_at a b c rest e =
     same_from_decides {P = c ≡ 0x2D} (c == 0x2D) (bytes_eq a b || begins_with a (b ++ 0x2D ∷ []))
     (λ h. eqb-true c 0x2D h, λ h. eq-eqb c 0x2D h) (
       λ h. dash_lower c (elim (or_cases (bytes_eq a b) (begins_with a (b ++ 0x2D ∷ [])) h) [
-        | inl same ↦ (let long = ap length e ∙ length-append b (to_ascii_lowercase c ∷ rest) in let eq = ap length ((bytes_eq-Decides a b).0 same) in absurd (omega arith))
+        | inl same ↦ (let long = ap length e ∙ length-append b (to_ascii_lowercase c ∷ rest) in let eq = ap length ((bytes_eq-Decides a b).0 same) in
+            absurd (omega arith))
         | inr begins ↦ (
             let f = begins_to a (b ++ 0x2D ∷ []) begins ∙ append_assoc b (0x2D ∷ []) _ in
             let x = front_rest a b _ e in
             let y = front_rest a b _ f in
             cc)
       ]),
-      λ h. or_right (bytes_eq a b) _ (begins_from a (b ++ 0x2D ∷ []) rest (e ∙ ap (λ t. b ++ (to_ascii_lowercase t ∷ rest)) h ∙ sym (append_assoc b (0x2D ∷ []) rest))),
+      λ h. or_right (bytes_eq a b) _
+          (begins_from a (b ++ 0x2D ∷ []) rest (e ∙ ap (λ t. b ++ (to_ascii_lowercase t ∷ rest)) h ∙ sym (append_assoc b (0x2D ∷ []) rest))),
     )
 
-goes_on_cons : (a b : List ℕ) (r : List ℕ) → 0 < length r → a ≡ b ++ map to_ascii_lowercase r → (get_or r 0 0 == 0x2D) ≡ (bytes_eq a b || begins_with a (b ++ 0x2D ∷ []))
+goes_on_cons : (a b : List ℕ) (r : List ℕ) → 0 < length r → a ≡ b ++ map to_ascii_lowercase r
+    → (get_or r 0 0 == 0x2D) ≡ (bytes_eq a b || begins_with a (b ++ 0x2D ∷ []))
 goes_on_cons a b [] l e = absurd (omega arith)
 goes_on_cons a b (c ∷ r) l e = goes_on_at a b c (map to_ascii_lowercase r) e
 
-goes_on : (s w : List ℕ) → map to_ascii_lowercase (take (length w) s) ≡ map to_ascii_lowercase w → 0 < length (drop (length w) s) → (get_or (drop (length w) s) 0 0 == 0x2D) ≡ is_language s w
+goes_on : (s w : List ℕ) → map to_ascii_lowercase (take (length w) s) ≡ map to_ascii_lowercase w → 0 < length (drop (length w) s)
+    → (get_or (drop (length w) s) 0 0 == 0x2D) ≡ is_language s w
 goes_on s w e l = goes_on_cons (map to_ascii_lowercase s) (map to_ascii_lowercase w) (drop (length w) s) l (whole_is s w e)
 
 nothing : (xs : List ℕ) → length xs ≡ 0 → xs ≡ []

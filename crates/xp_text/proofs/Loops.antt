@@ -1,5 +1,6 @@
 -- What is left of a text, or of a list, at a turn of a loop; and the functions of texts, a character at a time.
-use Rattle.std.proofs.Common.{◌≡◌, ℕ, zero, suc, ◌+◌, ◌<◌, ◌≤◌, Bool, true, false, cond, not, ◌&&◌, List, [], ◌∷◌, ◌++◌, length, get_or, take, drop, map, arith, refl, sym, ap, ◌∙◌, append_assoc, append-nil, ◌==◌, length-append}
+use Rattle.std.proofs.Common.{◌≡◌, ℕ, zero, suc, ◌+◌, ◌<◌, ◌≤◌, Bool, true, false, cond, not, ◌&&◌, List, [], ◌∷◌, ◌++◌}
+use Rattle.std.proofs.Common.{length, get_or, take, drop, map, arith, refl, sym, ap, ◌∙◌, append_assoc, append-nil, ◌==◌, length-append}
 use Rattle.std.proofs.Math.Seq.{drop-cons}
 use Rattle.std.proofs.Math.Numerals.{add-one}
 use Rattle.std.proofs.lemmas.Bool.{cond-true, cond-false, lt-ltb}
@@ -24,11 +25,13 @@ concat_push : (xs : List (List ℕ)) (x : List ℕ) → concat (xs ++ x ∷ []) 
 concat_push [] x = append-nil x
 concat_push (y ∷ ys) x = ap (λ t. y ++ t) (concat_push ys x) ∙ sym (append_assoc y (concat ys) x)
 
-pub concat_more : (xs : List (List ℕ)) (i : ℕ) (x : List ℕ) → i < length xs → x ≡ get_or xs i x → concat (take (i + 1) xs) ≡ concat (take i xs) ++ x
+pub concat_more : (xs : List (List ℕ)) (i : ℕ) (x : List ℕ) → i < length xs → x ≡ get_or xs i x
+    → concat (take (i + 1) xs) ≡ concat (take i xs) ++ x
 concat_more xs i x h e = ap concat (take_more xs i x h) ∙ ap (λ t. concat (take i xs ++ t ∷ [])) (sym e) ∙ concat_push (take i xs) x
 
 -- nothing is left at the end of a loop
-pub finished : (f : List ℕ → List ℕ) → f [] ≡ [] → (out cs all : List ℕ) (n : ℕ) → n ≡ length cs → out ++ f (drop n cs) ≡ all → out ≡ all
+pub finished : (f : List ℕ → List ℕ) → f [] ≡ [] → (out cs all : List ℕ) (n : ℕ) → n ≡ length cs → out ++ f (drop n cs) ≡ all
+    → out ≡ all
 finished f nil out cs all n e so_far =
     sym (append-nil out) ∙ ap (λ t. out ++ t) (sym (ap f (rest_all cs n (omega arith)) ∙ nil)) ∙ so_far
 
@@ -38,13 +41,16 @@ selected is_place k [] = []
 selected is_place k (c ∷ cs) = cond (is_place k) (c ∷ selected is_place (k + 1) cs) (selected is_place (k + 1) cs)
 
 selected_step :
-    (is_place : ℕ → Bool) (k c : ℕ) (cs : List ℕ) (b : Bool) → map (λ c. c.1) (filter (λ c. is_place c.0) (enumerate_from (k + 1) cs)) ≡ selected is_place (k + 1) cs
-    → map (λ c. c.1) (cond b ((k, c) ∷ filter (λ c. is_place c.0) (enumerate_from (k + 1) cs)) (filter (λ c. is_place c.0) (enumerate_from (k + 1) cs)))
+    (is_place : ℕ → Bool) (k c : ℕ) (cs : List ℕ) (b : Bool)
+    → map (λ c. c.1) (filter (λ c. is_place c.0) (enumerate_from (k + 1) cs)) ≡ selected is_place (k + 1) cs
+    → map (λ c. c.1) (cond b ((k, c) ∷ filter (λ c. is_place c.0) (enumerate_from (k + 1) cs))
+    (filter (λ c. is_place c.0) (enumerate_from (k + 1) cs)))
     ≡ cond b (c ∷ selected is_place (k + 1) cs) (selected is_place (k + 1) cs)
 selected_step is_place k c cs true rest = ap (λ t. c ∷ t) rest
 selected_step is_place k c cs false rest = rest
 
-selected_is : (is_place : ℕ → Bool) (k : ℕ) (cs : List ℕ) → map (λ c. c.1) (filter (λ c. is_place c.0) (enumerate_from k cs)) ≡ selected is_place k cs
+selected_is : (is_place : ℕ → Bool) (k : ℕ) (cs : List ℕ)
+    → map (λ c. c.1) (filter (λ c. is_place c.0) (enumerate_from k cs)) ≡ selected is_place k cs
 selected_is is_place k [] = refl
 selected_is is_place k (c ∷ cs) = selected_step is_place k c cs (is_place k) (selected_is is_place (k + 1) cs)
 
@@ -144,7 +150,8 @@ rest_step c cs false e r =
     record {
       apart = cond-false (is_space c) _ _ e ∙ ap (λ t. 0x20 ∷ t) word ∙ sym (onto_spaced c more) ∙ sym (ap (λ t. spaced (filter is_word t)) parts);
       inside = cond-false (is_space c) _ _ e ∙ word ∙ sym (onto_continued c more) ∙ sym (ap continued parts);
-      begin = λ is_apart. cond-false (is_space c) _ _ e ∙ first is_apart c _ ∙ word ∙ sym (onto_joined c more) ∙ sym (ap (λ t. join_with_byte 0x20 (filter is_word t)) parts);
+      begin = λ is_apart. cond-false (is_space c) _ _ e ∙ first is_apart c _ ∙ word ∙ sym (onto_joined c more)
+          ∙ sym (ap (λ t. join_with_byte 0x20 (filter is_word t)) parts);
     }
 
 rest_is : (cs : List ℕ) → Rest cs
@@ -168,7 +175,8 @@ begun false out c = grind (arith, nat_tests, length-append {A = ℕ})
 pub normal_word :
     (cs out new all : List ℕ) (is_apart : Bool) (n c : ℕ) → (n < length cs) × (c ≡ get_or cs n c) → is_space c ≡ false
     → new ≡ out ++ cond (is_apart && not (length out == 0)) (0x20 ∷ c ∷ []) (c ∷ [])
-    → out ++ normal_rest (not (length out == 0)) is_apart (drop n cs) ≡ all → new ++ normal_rest (not (length new == 0)) false (drop (n + 1) cs) ≡ all
+    → out ++ normal_rest (not (length out == 0)) is_apart (drop n cs) ≡ all
+    → new ++ normal_rest (not (length new == 0)) false (drop (n + 1) cs) ≡ all
 normal_word cs out new all is_apart n c turn word e so_far =
     let b = is_apart && not (length out == 0) in
     let piece : List ℕ = cond b (0x20 ∷ c ∷ []) (c ∷ []) in

@@ -1,5 +1,6 @@
 -- Keys of ordered sets, and the names that they stand for.
-use Rattle.std.proofs.Common.{◌≡◌, ℕ, Bool, true, false, not, List, [], ◌∷◌, bytes_eq, string_bytes, map, Option, None, Some, refl, sym, ap, ◌∙◌}
+use Rattle.std.proofs.Common.{◌≡◌, ℕ, Bool, true, false, not, List, [], ◌∷◌, bytes_eq, string_bytes, map, Option, None, Some, refl, sym, ap}
+use Rattle.std.proofs.Common.{◌∙◌}
 use Rattle.std.specs.Prelude.{◌||◌, ◌&&◌}
 use Rattle.std.specs.List.{list_any}
 use Rattle.std.specs.Ordering.{is_eq, ordering_then, match_ordering}
@@ -68,7 +69,8 @@ bytes_turned a b =
 
 -- keys are in one place of the order exactly if their texts are one
 text_order : (x y : String Global) → is_eq (string_cmp x y) ≡ bytes_eq (text_in x) (text_in y)
-text_order x y = is_eq-slice_cmp (string_bytes x) (string_bytes y) ∙ same_chars (string_bytes x) (string_bytes y) (IsUtf8-string_bytes x) (IsUtf8-string_bytes y)
+text_order x y = is_eq-slice_cmp (string_bytes x) (string_bytes y)
+    ∙ same_chars (string_bytes x) (string_bytes y) (IsUtf8-string_bytes x) (IsUtf8-string_bytes y)
 
 same_text : (x y : String Global) → string_cmp x y ≡ Equal → text_in x ≡ text_in y
 same_text x y e = (bytes_eq-Decides (text_in x) (text_in y)).0 (sym (text_order x y) ∙ ap is_eq e)
@@ -145,7 +147,8 @@ pair_before keys key name e =
     (λ x. pair_order key x ∙ expanded_turned (name_in key) (name_in x) ∙ ap (λ n. same_expanded (Some (name_in x)) (Some n)) e) keys
     ∙ sym (any_of (λ n. same_expanded (Some n) (Some name)) name_in keys)
 
-pub pair_kept : (keys : List (String Global × String Global)) (key : String Global × String Global) (name : Expanded) (other : Option Expanded) → name_in key ≡ name
+pub pair_kept : (keys : List (String Global × String Global)) (key : String Global × String Global) (name : Expanded) (other : Option Expanded)
+    → name_in key ≡ name
     → is_expanded (names_in (insert_key pair_cmp keys key)) other ≡ (is_expanded (names_in keys) other || same_expanded (Some name) other)
 pair_kept keys key name other e =
     let among = λ (ks : List (String Global × String Global)). list_any (λ x. same_expanded (Some (name_in x)) other) ks in

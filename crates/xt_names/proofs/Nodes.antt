@@ -1,5 +1,6 @@
 -- A node of a search tree, opened.
-use Rattle.std.proofs.Common.{◌≡◌, ℕ, List, ◌∷◌, ◌++◌, Option, None, Some, Result, Ok, Err, IfOk, ◌<◌, length, length-append, ◌∙◌, refl, sym, ap, subst, arith}
+use Rattle.std.proofs.Common.{◌≡◌, ℕ, List, ◌∷◌, ◌++◌, Option, None, Some, Result, Ok, Err, IfOk, ◌<◌, length, length-append}
+use Rattle.std.proofs.Common.{◌∙◌, refl, sym, ap, subst, arith}
 use Rattle.std.specs.declared.rc.Rc.{Rc}
 use Rattle.std.specs.declared.alloc.Global.{Global}
 use Rattle.std.specs.Str.{chars}
@@ -19,42 +20,53 @@ use Rattle.xt_names.proofs.Trees.{sorted_front, sorted_back, put-before, put-at,
 use Rattle.xt_names.specs.SearchTree.{node_step, node_entries, link_entries, IsOrdered}
 
 by_links : (own : Rc Namespace Global) (height : ℕ) (before after : Option (Rc Node Global))
-    → node_step (map-Node Node (List Entry) node_entries (record { namespace = own; height = height; before = before; after = after })) ≡ link_entries before ++ entry_of own.value ∷ link_entries after
+    → node_step (map-Node Node (List Entry) node_entries (record { namespace = own; height = height; before = before; after = after }))
+    ≡ link_entries before ++ entry_of own.value ∷ link_entries after
 by_links own height None None = refl
 by_links own height None (Some a) = refl
 by_links own height (Some b) None = refl
 by_links own height (Some b) (Some a) = refl
 
-pub view-Node : (n : Node) → node_entries n ≡ link_entries (out-Node n).before ++ entry_of (out-Node n).namespace.value ∷ link_entries (out-Node n).after
+pub view-Node : (n : Node)
+    → node_entries n ≡ link_entries (out-Node n).before ++ entry_of (out-Node n).namespace.value ∷ link_entries (out-Node n).after
 view-Node n = fold_out-Node (List Entry) node_step n ∙ by_links (out-Node n).namespace (out-Node n).height (out-Node n).before (out-Node n).after
 
 pub made-Node : (own : Rc Namespace Global) (height : ℕ) (before after : Option (Rc Node Global))
-    → node_entries (roll-Node (record { namespace = own; height = height; before = before; after = after })) ≡ link_entries before ++ entry_of own.value ∷ link_entries after
-made-Node own height before after = fold-roll-Node (List Entry) node_step (record { namespace = own; height = height; before = before; after = after }) ∙ by_links own height before after
+    → node_entries (roll-Node (record { namespace = own; height = height; before = before; after = after }))
+    ≡ link_entries before ++ entry_of own.value ∷ link_entries after
+made-Node own height before after =
+    fold-roll-Node (List Entry) node_step (record { namespace = own; height = height; before = before; after = after }) ∙ by_links own height before after
 
 -- parts that have what the parts of a node have
-pub parted : (n : Node) (before after : Option (Rc Node Global)) (own : Namespace) → link_entries before ≡ link_entries (out-Node n).before → own ≡ (out-Node n).namespace.value
+pub parted : (n : Node) (before after : Option (Rc Node Global)) (own : Namespace) → link_entries before ≡ link_entries (out-Node n).before
+    → own ≡ (out-Node n).namespace.value
     → link_entries after ≡ link_entries (out-Node n).after → node_entries n ≡ link_entries before ++ entry_of own ∷ link_entries after
 parted n before after own b o a = rw (b, o, a) (view-Node n)
 
 -- what is said of the entries of a node that a call gave, with others that are the same
-pub ok_with : (r : Result (Rc Node Global) Memory) (es fs : List Entry) → es ≡ fs → IfOk r (λ node. node_entries node.value ≡ es) → IfOk r (λ node. node_entries node.value ≡ fs)
+pub ok_with : (r : Result (Rc Node Global) Memory) (es fs : List Entry) → es ≡ fs → IfOk r (λ node. node_entries node.value ≡ es)
+    → IfOk r (λ node. node_entries node.value ≡ fs)
 ok_with (Ok node) es fs e h = h ∙ e
 ok_with (Err m) es fs e h = tt
 
-pub opened : (link : Option (Rc Node Global)) (at : Rc Node Global) (n : Node) (own : Namespace) → link ≡ Some at → n ≡ at.value → own ≡ (out-Node n).namespace.value
+pub opened : (link : Option (Rc Node Global)) (at : Rc Node Global) (n : Node) (own : Namespace) → link ≡ Some at → n ≡ at.value
+    → own ≡ (out-Node n).namespace.value
     → link_entries link ≡ link_entries (out-Node n).before ++ entry_of own ∷ link_entries (out-Node n).after
-opened link at n own is e o = ap link_entries is ∙ ap node_entries (sym e) ∙ view-Node n ∙ ap (λ m. link_entries (out-Node n).before ++ entry_of m ∷ link_entries (out-Node n).after) (sym o)
+opened link at n own is e o =
+    ap link_entries is ∙ ap node_entries (sym e) ∙ view-Node n
+    ∙ ap (λ m. link_entries (out-Node n).before ++ entry_of m ∷ link_entries (out-Node n).after) (sym o)
 
 -- the order of a text and a prefix, as their characters are compared
-pub asked : (o : Ordering) (q : List ℕ) (n : Namespace) (b : List ℕ) → chars b ≡ n.prefix → o ≡ slice_cmp nat_cmp q (chars b) → slice_cmp nat_cmp q n.prefix ≡ o
+pub asked : (o : Ordering) (q : List ℕ) (n : Namespace) (b : List ℕ) → chars b ≡ n.prefix → o ≡ slice_cmp nat_cmp q (chars b)
+    → slice_cmp nat_cmp q n.prefix ≡ o
 asked o q n b e h = ap (slice_cmp nat_cmp q) (sym e) ∙ sym h
 
 -- the order of the prefixes, as their characters are compared
 pub compared : (o : Ordering) (n m : Namespace) (x y : Namespace) (a b : List ℕ) → x ≡ n → y ≡ m → chars a ≡ x.prefix → chars b ≡ y.prefix
     → o ≡ slice_cmp nat_cmp (chars a) (chars b) → slice_cmp nat_cmp n.prefix m.prefix ≡ o
 compared o n m x y a b p q e f h =
-    ap (λ z. slice_cmp nat_cmp z m.prefix) (sym (e ∙ ap (λ z. z.prefix) p)) ∙ ap (slice_cmp nat_cmp (chars a)) (sym (f ∙ ap (λ z. z.prefix) q)) ∙ sym h
+    ap (λ z. slice_cmp nat_cmp z m.prefix) (sym (e ∙ ap (λ z. z.prefix) p)) ∙ ap (slice_cmp nat_cmp (chars a)) (sym (f ∙ ap (λ z. z.prefix) q))
+    ∙ sym h
 
 pub shorter_before : (es fs : List Entry) (e : Entry) (all : List Entry) → all ≡ es ++ e ∷ fs → length es < length all
 shorter_before es fs e all is = omega (arith, ap length is, length-append es (e ∷ fs))

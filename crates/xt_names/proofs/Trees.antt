@@ -67,18 +67,22 @@ module _ {K X : Type 0} (R : K → K → Ordering) (o : IsTotalOrder R) where
         | Greater ↦ ap (λ es. x ∷ es) (put-before k v xs e ys p)
       ]
 
-  pub put-at : ((x y : K) → R x y ≡ Equal → x ≡ y) → (k : K) (v : X) (xs : List (K × X)) (e : K × X) (ys : List (K × X)) → T (is_sorted R (xs ++ e ∷ ys)) → R k e.0 ≡ Equal
+  pub put-at : ((x y : K) → R x y ≡ Equal → x ≡ y) → (k : K) (v : X) (xs : List (K × X)) (e : K × X) (ys : List (K × X))
+      → T (is_sorted R (xs ++ e ∷ ys)) → R k e.0 ≡ Equal
       → put R k v (xs ++ e ∷ ys) ≡ xs ++ (k, v) ∷ ys
-  put-at same k v [] e ys h p = ap (λ r. by_order r ((k, v) ∷ e ∷ ys) ((e.0, v) ∷ ys) (e ∷ put R k v ys)) p ∙ ap (λ x. (x, v) ∷ ys) (sym (same k e.0 p))
+  put-at same k v [] e ys h p =
+      ap (λ r. by_order r ((k, v) ∷ e ∷ ys) ((e.0, v) ∷ ys) (e ∷ put R k v ys)) p ∙ ap (λ x. (x, v) ∷ ys) (sym (same k e.0 p))
   put-at same k v (x ∷ xs) e ys h p =
-      ap (λ r. by_order r ((k, v) ∷ x ∷ (xs ++ e ∷ ys)) ((x.0, v) ∷ (xs ++ e ∷ ys)) (x ∷ put R k v (xs ++ e ∷ ys))) (above_tied R o k x.0 e.0 p (below_at x.0 xs e ys (first _ _ h)))
+      ap (λ r. by_order r ((k, v) ∷ x ∷ (xs ++ e ∷ ys)) ((x.0, v) ∷ (xs ++ e ∷ ys)) (x ∷ put R k v (xs ++ e ∷ ys)))
+      (above_tied R o k x.0 e.0 p (below_at x.0 xs e ys (first _ _ h)))
       ∙ ap (λ es. x ∷ es) (put-at same k v xs e ys (second _ _ h) p)
 
   pub put-after : (k : K) (v : X) (xs : List (K × X)) (e : K × X) (ys : List (K × X)) → T (is_sorted R (xs ++ e ∷ ys)) → R k e.0 ≡ Greater
       → put R k v (xs ++ e ∷ ys) ≡ xs ++ e ∷ put R k v ys
   put-after k v [] e ys h p = ap (λ r. by_order r ((k, v) ∷ e ∷ ys) ((e.0, v) ∷ ys) (e ∷ put R k v ys)) p
   put-after k v (x ∷ xs) e ys h p =
-      ap (λ r. by_order r ((k, v) ∷ x ∷ (xs ++ e ∷ ys)) ((x.0, v) ∷ (xs ++ e ∷ ys)) (x ∷ put R k v (xs ++ e ∷ ys))) (above R o k x.0 e.0 p (below_at x.0 xs e ys (first _ _ h)))
+      ap (λ r. by_order r ((k, v) ∷ x ∷ (xs ++ e ∷ ys)) ((x.0, v) ∷ (xs ++ e ∷ ys)) (x ∷ put R k v (xs ++ e ∷ ys)))
+      (above R o k x.0 e.0 p (below_at x.0 xs e ys (first _ _ h)))
       ∙ ap (λ es. x ∷ es) (put-after k v xs e ys (second _ _ h) p)
 
   passed : (q : K) (e : K × X) (es : List (K × X)) (r : Ordering) → R q e.0 ≡ r → is_eq r ≡ false → find R q (e ∷ es) ≡ find R q es
@@ -90,7 +94,8 @@ module _ {K X : Type 0} (R : K → K → Ordering) (o : IsTotalOrder R) where
 
   below_less : (q y : K) (es : List (K × X)) → R q y ≡ Less → T (below_all R y es) → T (below_all R q es)
   below_less q y [] p h = tt
-  below_less q y (e ∷ es) p h = both _ _ (subst (λ r. T (is_lt r)) (sym (o.trans q y e.0 p (less _ (first _ _ h)))) tt) (below_less q y es p (second _ _ h))
+  below_less q y (e ∷ es) p h =
+      both _ _ (subst (λ r. T (is_lt r)) (sym (o.trans q y e.0 p (less _ (first _ _ h)))) tt) (below_less q y es p (second _ _ h))
 
   pub find-before : (q : K) (xs : List (K × X)) (e : K × X) (ys : List (K × X)) → T (is_sorted R (xs ++ e ∷ ys)) → R q e.0 ≡ Less
       → find R q (xs ++ e ∷ ys) ≡ find R q xs

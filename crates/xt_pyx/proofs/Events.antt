@@ -12,8 +12,10 @@ bad_character [] h = refl
 bad_character (c ∷ cs) h = ap (λ b. cond b (event_behind c cs) None) h
 
 -- `start` is what is iterated, and `next` what is left of it behind the sign
-pub event_by_sign : (line start next rest : List ℕ) (sign : ℕ) → IsUtf8 line → start ≡ line → start ≡ encode sign ++ next → rest ≡ next → list_all is_char (chars line) ≡ true
+pub event_by_sign : (line start next rest : List ℕ) (sign : ℕ) → IsUtf8 line → start ≡ line → start ≡ encode sign ++ next → rest ≡ next
+    → list_all is_char (chars line) ≡ true
     → event_of (chars line) ≡ event_behind sign (chars rest)
 event_by_sign line start next rest sign u l s r h =
     let e = chars_past_char line next sign u (sym l ∙ s) in
-    ap event_of e ∙ ap (λ b. cond b (event_behind sign (chars next)) None) (ap (list_all is_char) (sym e) ∙ h) ∙ ap (λ x. event_behind sign (chars x)) (sym r)
+    ap event_of e ∙ ap (λ b. cond b (event_behind sign (chars next)) None) (ap (list_all is_char) (sym e) ∙ h)
+    ∙ ap (λ x. event_behind sign (chars x)) (sym r)

@@ -1,5 +1,6 @@
 -- Texts cut at a character, as lists of characters.
-use Rattle.std.proofs.Common.{◌≡◌, ℕ, Bool, true, false, ◌==◌, ◌||◌, List, [], ◌∷◌, ◌++◌, refl, sym, ap, ◌∙◌, take, drop, take-append-drop}
+use Rattle.std.proofs.Common.{◌≡◌, ℕ, Bool, true, false, ◌==◌, ◌||◌, List, [], ◌∷◌, ◌++◌, refl, sym, ap, ◌∙◌, take, drop}
+use Rattle.std.proofs.Common.{take-append-drop}
 use Rattle.std.specs.List.{list_any, before_first, after_first}
 use Rattle.std.specs.Str.{chars, IsUtf8, NoCharPasses, NonePass}
 use Rattle.std.specs.Option.{MatchOption}
@@ -55,14 +56,16 @@ cut_there c bs i j u n h =
     let none = any_of_none (is_mark c) n.0 n.2 in
     record {
       there = ap (list_any (is_mark c)) (sym shown) ∙ any_at c n.0 ds;
-      front = sym (chars_from_encodes n.0 (take i bs) v n.1) ∙ sym (before_first-at (is_mark c) n.0 c ds none (eq-eqb c c refl)) ∙ ap (before_first (is_mark c)) shown;
+      front = sym (chars_from_encodes n.0 (take i bs) v n.1) ∙ sym (before_first-at (is_mark c) n.0 c ds none (eq-eqb c c refl))
+          ∙ ap (before_first (is_mark c)) shown;
       back = sym (after_first-at (is_mark c) n.0 c ds none (eq-eqb c c refl)) ∙ ap (after_first (is_mark c)) shown;
     }
 
 -- what `split_once` gives, in characters
 pub in_characters : (c : ℕ) (bs : List ℕ) (r : Option (Bor (List ℕ) × Bor (List ℕ))) → IsUtf8 bs → IsSplitOnceResult c bs r
     → MatchOption r (list_any (is_mark c) (chars bs) ≡ false)
-    (λ x. (list_any (is_mark c) (chars bs) ≡ true) × (chars x.0.now ≡ before_first (is_mark c) (chars bs)) × (chars x.1.now ≡ after_first (is_mark c) (chars bs)))
+    (λ x. (list_any (is_mark c) (chars bs) ≡ true) × (chars x.0.now ≡ before_first (is_mark c) (chars bs))
+    × (chars x.1.now ≡ after_first (is_mark c) (chars bs)))
 in_characters c bs None u h = none_there c bs u h
 in_characters c bs (Some x) u h =
     let is_cut = cut_there c bs h.0 h.1 u h.2.0 h.2.1 in

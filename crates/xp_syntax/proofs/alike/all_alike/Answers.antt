@@ -7,5 +7,6 @@ returns-then-list-others g c = different_length g.T.Alike.seen (λ us. us) (λ u
 
 pub returns-then-not-alike : goal.returns-then-not-alike
 returns-then-not-alike g c =
-    different_at g.T.Alike.seen (λ us. us) (λ us vs e. e) c.args.list.now c.args.others.now c.loop-index.index c.index-list-index.result c.index-others-index.result
+    different_at g.T.Alike.seen (λ us. us) (λ us vs e. e) c.args.list.now c.args.others.now c.loop-index.index c.index-list-index.result
+    c.index-others-index.result
     (omega arith) (omega arith) c.index-list-index.is c.index-others-index.is c.alike.result c.if-not-alike.true c.alike.ensures.1

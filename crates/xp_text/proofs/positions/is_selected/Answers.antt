@@ -1,4 +1,5 @@
-use Rattle.std.proofs.Common.{◌≡◌, ◌∙◌, ◌+◌, ◌&&◌, ℕ, ℤ, pos, ◌+ℤ◌, ◌≤ℤ◌, true, Option, Some, sym, refl, arith, rules, w64, FitsSigned, to_z, of_z}
+use Rattle.std.proofs.Common.{◌≡◌, ◌∙◌, ◌+◌, ◌&&◌, ℕ, ℤ, pos, ◌+ℤ◌, ◌≤ℤ◌, true, Option, Some, sym, refl, arith, rules}
+use Rattle.std.proofs.Common.{w64, FitsSigned, to_z, of_z}
 use Rattle.std.specs.Int.{w128}
 use Rattle.std.specs.Prelude.{int_le, int_lt}
 use Rattle.std.proofs.lemmas.Int.{ints}
@@ -17,7 +18,8 @@ whole_from (Whole z) a e = cc
 whole_from NaN a e = absurd (cc)
 
 selected_by :
-    (start number : Number) (count : Option Number) (a b x y : ℤ) (p : ℕ) → Some a ≡ value_of start → count ≡ Some number → Some b ≡ value_of number → a ≤ℤ pos p → x ≡ pos p
+    (start number : Number) (count : Option Number) (a b x y : ℤ) (p : ℕ) → Some a ≡ value_of start → count ≡ Some number
+    → Some b ≡ value_of number → a ≤ℤ pos p → x ≡ pos p
     → y ≡ a +ℤ b → int_lt x y ≡ is_selected start count p
 selected_by start number count a b x y p from is by h e f =
     tested a b x y p h e f ∙ sym (rw (is, whole_from start a from, whole_from number b by) refl)
@@ -33,4 +35,5 @@ returns-in-Some-get c =
     let low : c.in-Some.start ≤ℤ pos (c.args.passed + 1) = omega (arith, ints) in
     let position : x ≡ pos (c.args.passed + 1) = omega (arith, ints) in
     let end : y ≡ c.in-Some.start +ℤ c.in-Some-get.count = omega (arith, ints) in
-    selected_by c.args.start c.in-Some-count.count c.args.count.now c.in-Some.start c.in-Some-get.count x y (c.args.passed + 1) from c.in-Some-count.is by low position end
+    selected_by c.args.start c.in-Some-count.count c.args.count.now c.in-Some.start c.in-Some-get.count x y (c.args.passed + 1) from c.in-Some-count.is by
+    low position end

@@ -6,4 +6,9 @@ use Rattle.xp_text.proofs.positions.substring.Given as goal
 
 abbrev pub invariant-loop-character : goal.invariant-loop-character
 invariant-loop-character l =
-    record { counted : l.passed ≡ length l.yielded; so_far : l.part ++ selected (is_selected l.start l.count) (l.passed + 1) (drop l.passed (chars l.text)) ≡ substring (chars l.text) l.start l.count }
+    record {
+      counted : l.passed
+          ≡ length l.yielded;
+      so_far : l.part ++ selected (is_selected l.start l.count) (l.passed + 1) (drop l.passed (chars l.text))
+          ≡ substring (chars l.text) l.start l.count;
+    }

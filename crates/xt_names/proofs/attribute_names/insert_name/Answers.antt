@@ -5,4 +5,5 @@ use Rattle.xt_names.proofs.Keys.{pair_none}
 use Rattle.xt_names.proofs.attribute_names.insert_name.Goals as goal
 
 pub returns-in-None-clause-before : goal.returns-in-None-clause-before
-returns-in-None-clause-before c = sym (ap (λ n. is_expanded (names_in c.args.pairs.now.keys) (option_copied n)) c.in-None.is ∙ pair_none (names_in c.args.pairs.now.keys))
+returns-in-None-clause-before c =
+    sym (ap (λ n. is_expanded (names_in c.args.pairs.now.keys) (option_copied n)) c.in-None.is ∙ pair_none (names_in c.args.pairs.now.keys))

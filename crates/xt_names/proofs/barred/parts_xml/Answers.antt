@@ -5,4 +5,5 @@ use Rattle.xt_names.proofs.barred.parts_xml.Goals as goal
 
 pub returns : goal.returns
 returns c =
-    unlike _ _ _ _ (c.is_same.ensures ∙ ap (bytes_eq (chars c.args.prefix.now)) xml_chars) (c.is_same-2.ensures ∙ ap (bytes_eq (chars c.args.uri.now)) xml_uri_chars)
+    unlike _ _ _ _ (c.is_same.ensures ∙ ap (bytes_eq (chars c.args.prefix.now)) xml_chars)
+    (c.is_same-2.ensures ∙ ap (bytes_eq (chars c.args.uri.now)) xml_uri_chars)

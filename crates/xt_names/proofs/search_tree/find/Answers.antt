@@ -11,7 +11,8 @@ loop-below-preserved-in-Less c =
     let all = opened c.loop-below.below.now c.in-Some.node c.deref-node.result.now own c.in-Some.is c.deref-node.ensures c.deref-own.ensures in
     record {
       ordered = ordered_before _ _ _ _ all c.loop-below.invariant.ordered;
-      found = found_before _ _ _ _ q all c.loop-below.invariant.ordered (asked Less q own _ c.as_str.ensures.characters c.in-Less.ensures) ∙ c.loop-below.invariant.found;
+      found = found_before _ _ _ _ q all c.loop-below.invariant.ordered (asked Less q own _ c.as_str.ensures.characters c.in-Less.ensures)
+          ∙ c.loop-below.invariant.found;
     }
 
 pub returns-in-Equal : goal.returns-in-Equal
@@ -19,7 +20,8 @@ returns-in-Equal c =
     let own = c.deref-own.result.now in
     let q = chars c.args.prefix.now in
     let all = opened c.loop-below.below.now c.in-Some.node c.deref-node.result.now own c.in-Some.is c.deref-node.ensures c.deref-own.ensures in
-    found_at _ _ _ _ q all c.loop-below.invariant.ordered (asked Equal q own _ c.as_str.ensures.characters c.in-Equal.ensures) ∙ c.loop-below.invariant.found
+    found_at _ _ _ _ q all c.loop-below.invariant.ordered (asked Equal q own _ c.as_str.ensures.characters c.in-Equal.ensures)
+    ∙ c.loop-below.invariant.found
 
 pub loop-below-preserved : goal.loop-below-preserved
 loop-below-preserved c =
@@ -28,5 +30,6 @@ loop-below-preserved c =
     let all = opened c.loop-below.below.now c.in-Some.node c.deref-node.result.now own c.in-Some.is c.deref-node.ensures c.deref-own.ensures in
     record {
       ordered = ordered_after _ _ _ _ all c.loop-below.invariant.ordered;
-      found = found_after _ _ _ _ q all c.loop-below.invariant.ordered (asked Greater q own _ c.as_str.ensures.characters c.in-Greater.ensures) ∙ c.loop-below.invariant.found;
+      found = found_after _ _ _ _ q all c.loop-below.invariant.ordered (asked Greater q own _ c.as_str.ensures.characters c.in-Greater.ensures)
+          ∙ c.loop-below.invariant.found;
     }

@@ -20,4 +20,5 @@ pub returns-in_err-push_escape-clause-err : goal.returns-in_err-push_escape-clau
 returns-in_err-push_escape-clause-err c =
     let known = c.loop-character.invariant in
     on_err c.from_residual.result
-    (cut_short _ _ _ (chars c.args.more.now) _ _ c.in-Some.character known.utf8 c.in-Some.ensures.steps.0 known.begun c.in_err-push_escape.ensures.err known.so_far)
+    (cut_short _ _ _ (chars c.args.more.now) _ _ c.in-Some.character known.utf8 c.in-Some.ensures.steps.0 known.begun c.in_err-push_escape.ensures.err
+    known.so_far)

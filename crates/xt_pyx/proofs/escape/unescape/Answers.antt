@@ -10,7 +10,8 @@ loop-character-preserved-then-is_behind_backslash c =
     let step = c.in-Some.ensures.steps.0 in
     record {
       utf8 = IsUtf8-past_char _ _ _ known.utf8 step;
-      so_far = read_behind_more _ _ _ _ _ _ c.loop-character.is_behind_backslash known.utf8 step c.if-is_behind_backslash.true c.in_ok-push_behind_backslash.ensures known.so_far;
+      so_far = read_behind_more _ _ _ _ _ _ c.loop-character.is_behind_backslash known.utf8 step c.if-is_behind_backslash.true
+          c.in_ok-push_behind_backslash.ensures known.so_far;
     }
 
 pub loop-character-preserved-then-character-eq92 : goal.loop-character-preserved-then-character-eq92
@@ -19,7 +20,8 @@ loop-character-preserved-then-character-eq92 c =
     let step = c.in-Some.ensures.steps.0 in
     record {
       utf8 = IsUtf8-past_char _ _ _ known.utf8 step;
-      so_far = read_backslash _ _ _ _ _ c.loop-character.is_behind_backslash known.utf8 step c.if-is_behind_backslash.false c.if-character-eq92.true known.so_far;
+      so_far = read_backslash _ _ _ _ _ c.loop-character.is_behind_backslash known.utf8 step c.if-is_behind_backslash.false c.if-character-eq92.true
+          known.so_far;
     }
 
 pub loop-character-preserved : goal.loop-character-preserved
@@ -28,13 +30,16 @@ loop-character-preserved c =
     let step = c.in-Some.ensures.steps.0 in
     record {
       utf8 = IsUtf8-past_char _ _ _ known.utf8 step;
-      so_far = read_plain _ _ _ _ _ _ c.loop-character.is_behind_backslash known.utf8 step c.if-is_behind_backslash.false c.if-character-eq92.false c.in_ok-push.ensures.ok known.so_far;
+      so_far = read_plain _ _ _ _ _ _ c.loop-character.is_behind_backslash known.utf8 step c.if-is_behind_backslash.false c.if-character-eq92.false
+          c.in_ok-push.ensures.ok known.so_far;
     }
 
 pub returns : goal.returns
 returns c =
     let all = read_all _ _ _ c.loop-character.is_behind_backslash c.in-None.ensures.steps.0.0 c.loop-character.invariant.so_far in
     elim c.if-is_behind_backslash-2.branch [
-      | then-is_behind_backslash-2+in_ok-push-2 w ↦ w.text-is ∙ w.in_ok-push-2.ensures.ok ∙ ap (λ b. c.loop-character.text ++ rest_read b []) (sym w.if-is_behind_backslash-2.true) ∙ all
-      | else-is_behind_backslash-2 w ↦ w.text-is ∙ sym (append-nil c.loop-character.text) ∙ ap (λ b. c.loop-character.text ++ rest_read b []) (sym w.if-is_behind_backslash-2.false) ∙ all
+      | then-is_behind_backslash-2+in_ok-push-2 w ↦ w.text-is ∙ w.in_ok-push-2.ensures.ok
+          ∙ ap (λ b. c.loop-character.text ++ rest_read b []) (sym w.if-is_behind_backslash-2.true) ∙ all
+      | else-is_behind_backslash-2 w ↦ w.text-is ∙ sym (append-nil c.loop-character.text)
+          ∙ ap (λ b. c.loop-character.text ++ rest_read b []) (sym w.if-is_behind_backslash-2.false) ∙ all
     ]

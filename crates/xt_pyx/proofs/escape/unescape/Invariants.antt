@@ -8,6 +8,7 @@ use Rattle.xt_pyx.proofs.escape.unescape.Given as goal
 abbrev pub invariant-loop-character : goal.invariant-loop-character
 invariant-loop-character l = record {
   utf8 : IsUtf8 (chars_rest l.character-iterator);
-  so_far : l.text ++ (if l.is_behind_backslash then behind_backslash (chars (chars_rest l.character-iterator)) else unescaped (chars (chars_rest l.character-iterator)))
+  so_far : l.text ++ (if l.is_behind_backslash then behind_backslash (chars (chars_rest l.character-iterator)) else unescaped
+      (chars (chars_rest l.character-iterator)))
       ≡ unescaped (chars l.escaped);
 }

@@ -5,4 +5,5 @@ use Rattle.spec_document.specs.Character.{is_char}
 use Rattle.xt_pyx.proofs.read.has_only_chars.Goals as goal
 
 pub returns : goal.returns
-returns c = all_from_yields_List is_char _ _ c.all.result c.all.ensures.ran (YieldsList-from_chars _ c.utf8.line c.chars.ensures.rest) (λ x b q k. search (rules, tests))
+returns c = all_from_yields_List is_char _ _ c.all.result c.all.ensures.ran (YieldsList-from_chars _ c.utf8.line c.chars.ensures.rest)
+    (λ x b q k. search (rules, tests))

@@ -7,4 +7,5 @@ pub returns : goal.returns
 returns c =
     let a = c.self.inside.inner in
     let b = c.other.inside.inner in
-    c.eq.ensures ∙ rw (c.as_str.ensures.value, c.as_str-2.ensures.value, ← c.self.view_is, ← c.other.view_is) (same_chars _ _ (IsUtf8-string_bytes a) (IsUtf8-string_bytes b))
+    c.eq.ensures ∙ rw (c.as_str.ensures.value, c.as_str-2.ensures.value, ← c.self.view_is, ← c.other.view_is)
+    (same_chars _ _ (IsUtf8-string_bytes a) (IsUtf8-string_bytes b))
