@@ -34,7 +34,7 @@ go-wider : (w : List Way) (S T : Way → Type 0) → ((a : Way) → S a → T a)
 go-wider w S T f [] g = tt
 go-wider w S T f (p ∷ ps) g = ((g.0.0, g.0.1, f g.0.0 g.0.2, g.0.3), go-wider w S T f ps g.1)
 
-way_self : (a : Way) → way_cmp a a ≡ Equal
+pub way_self : (a : Way) → way_cmp a a ≡ Equal
 way_self a = self (way_cmp a a) refl
   where
     self : (o : Ordering) → way_cmp a a ≡ o → way_cmp a a ≡ Equal
@@ -76,7 +76,7 @@ joined w S T f (p ∷ ps) qs g h i j =
 
 -- ---- Namespace nodes, by the order of the map of the scope
 
-abbrev Namespaces : Type 0
+abbrev pub Namespaces : Type 0
 Namespaces = List (List ℕ × List ℕ)
 
 abbrev pub rises : Namespaces → Bool
@@ -170,7 +170,7 @@ IsToAttribute (ToNamespace prefix) = ⊥
 IsToAttribute (ToAttribute number) = Unit {0}
 IsToAttribute (ToChild position) = ⊥
 
-less-number : (m n : ℕ) → m < n → nat_cmp m n ≡ Less
+pub less-number : (m n : ℕ) → m < n → nat_cmp m n ≡ Less
 less-number m n h = let e : nat_lt m n ≡ true = grind (arith, nat_tests) in rw e refl
 
 attributes-go : {L : Type 0} (positions : List ℕ) (element : Found L) (number : ℕ) (more : List Written)

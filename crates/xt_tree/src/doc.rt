@@ -150,6 +150,13 @@ impl Doc {
         self.children.as_slice()
     }
 
+    /// Does nothing: it tells proofs that the numbers of the nodes are distinct and below 2^62.
+    pub fn distinct_numbers(&self)
+        ensures { IsNumbered self.now }
+    {
+        let _ = &self.root;
+    }
+
     /// The number of the root.
     pub fn root(&self) -> NodeId
         ensures { result.number ≡ self.now.root }

@@ -1,0 +1,7 @@
+pub mod Picked
+pub mod Onward
+pub mod Ends
+pub mod Entries
+pub mod Located
+pub mod Sliced
+pub mod Reached

@@ -1,0 +1,8 @@
+use Rattle.std.proofs.Common.{◌≡◌}
+use Rattle.std.specs.Prelude.{map}
+use Rattle.std.specs.List.{range_with_len}
+use Rattle.xt_tree.specs.declared.node_ref.Part.TheVariants as part
+use Rattle.xp_axes.proofs.own.numbered_namespaces.Given as goal
+
+abbrev pub invariant-loop-index : goal.invariant-loop-index
+invariant-loop-index l = l.nodes.items ≡ map (λ n. record { node = l.id; part = part.Namespace n }) (range_with_len 1 l.index)

@@ -1,0 +1,99 @@
+// Steps (XPath 1.0, section 2.1).
+ghost use Rattle.std.specs.Prelude.{◌≡◌, IfOk, IsSome};
+ghost use Rattle.spec_document.specs.Axis as spec;
+ghost use Rattle.spec_document.specs.Order.{entries_of};
+ghost use Rattle.spec_meaning.specs.Step.{stepped};
+ghost use Rattle.xp_syntax.specs.View.{test_of};
+ghost use Rattle.xt_tree.specs.View.{item_of};
+ghost use Rattle.xp_axes.specs.Along as ways;
+ghost use Rattle.xp_axes.specs.View.{on_axis, ref_of, same_ref};
+
+use crate::along::along;
+use crate::own::{attributes, namespaces};
+use crate::passing::passing;
+use spec_document::Axis;
+use std::alloc::Global;
+use xp_syntax::Test;
+use xt_text::{Memory, Path};
+use xt_tree::{Doc, NodeRef, Part};
+
+// Whether the nodes of the axis are counted in reverse document order.
+fn is_reverse(axis: Axis) -> bool
+    ensures { result ≡ spec.is_reverse axis }
+{
+    matches!(
+        axis,
+        Axis::Ancestor | Axis::AncestorOrSelf | Axis::Preceding | Axis::PrecedingSibling
+    )
+}
+
+// Nodes in document order, in the order of the axis.
+fn in_axis_order(axis: Axis, mut nodes: Vec<NodeRef>) -> Vec<NodeRef>
+    ensures { result.items ≡ spec.in_axis_order axis nodes.items }
+{
+    if is_reverse(axis) {
+        nodes.reverse();
+    }
+    nodes
+}
+
+// The nodes of the axis of a node of a place, in document order.
+fn walked(
+    alloc: Global,
+    document: &Doc,
+    node: &NodeRef,
+    axis: Axis,
+    path: &Path,
+) -> Result<Vec<NodeRef>, Memory>
+    ensures { IfOk result (λ nodes. nodes.items ≡ ways.along axis node.now.part (ways.ended axis node.now node.now.part) path.now document.now.root document.now.nodes) }
+{
+    let mut found = Vec::new(alloc);
+    along(
+        &mut found,
+        axis,
+        *node,
+        path.positions(),
+        document.root(),
+        document.children(),
+    )?;
+    Ok(found)
+}
+
+// The nodes of the axis, in document order.
+fn all_on(alloc: Global, document: &Doc, node: &NodeRef, axis: Axis) -> Result<Vec<NodeRef>, Memory>
+    requires { IsSome (item_of document.now node.now) }
+    ensures { IfOk result (λ nodes. nodes.items ≡ on_axis document.now axis node.now) }
+{
+    match document.place(alloc, node)? {
+        None => Ok(Vec::new(alloc)),
+        Some(path) => match axis {
+            Axis::Attribute => match node.part {
+                Part::Itself => attributes(alloc, document, node.node),
+                _ => walked(alloc, document, node, axis, &path),
+            },
+            Axis::Namespace => match node.part {
+                Part::Itself => namespaces(alloc, document, node.node),
+                _ => walked(alloc, document, node, axis, &path),
+            },
+            _ => walked(alloc, document, node, axis, &path),
+        },
+    }
+}
+
+/// The nodes of the axis of a node that pass the node test, in the order of the axis (XPath 1.0, sections
+/// 2.2 and 2.3).
+pub fn step(
+    alloc: Global,
+    document: &Doc,
+    node: &NodeRef,
+    axis: Axis,
+    test: &Test,
+) -> Result<Vec<NodeRef>, Memory>
+    requires { IsSome (item_of document.now node.now) }
+    ensures { IfOk result (λ nodes. nodes.items ≡ stepped ref_of same_ref (entries_of document.now) axis (test_of test.now) node.now) }
+{
+    document.distinct_numbers();
+    let nodes = all_on(alloc, document, node, axis)?;
+    let kept = passing(alloc, document, axis, test, nodes.as_slice())?;
+    Ok(in_axis_order(axis, kept))
+}

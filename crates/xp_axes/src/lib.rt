@@ -1,0 +1,17 @@
+//! Steps and document order over documents (XPath 1.0, sections 2.1 to 2.3 and 5). Contracts say which
+//! nodes, in which order, by `stepped` and `ordered` of `spec_meaning` over the listing of the document's
+//! nodes, where `ref_of` names an entry of the listing (`specs/View.antt`).
+//!
+//! ```text
+//! let children = step(alloc, &doc, &node, Axis::Child, &Test::AnyName)?;   // child::*
+//! ```
+#![tactic(auto)]
+
+mod along;
+mod answer;
+mod extent;
+mod own;
+mod passing;
+
+pub use answer::step;
+pub use xp_syntax::{Axis, Test};
