@@ -23,17 +23,15 @@ use xt_text::Memory;
 fn main(rt: HostRuntime) -> io::Result<()> {
     let alloc = rt.alloc();
     let words: Vec<String> = env::args(&rt)?.collect(alloc)?;
-    let mut rest = words.as_slice();
-    if let Some((_, others)) = rest.split_first() {
-        rest = others;
-    }
-    while let [bench, shape, size, others @ ..] = rest {
-        let size = size.as_str().parse::<u64>().unwrap_or(0);
-        match outcome(alloc, bench.as_str(), shape.as_str(), size) {
-            Ok(text) => rt.println(text)?,
-            Err(Memory) => rt.println("memory")?,
+    let benches = words.as_slice().get(1..).unwrap_or(&[]);
+    for bench in benches.chunks(3) {
+        if let [bench, shape, size] = bench {
+            let size = size.as_str().parse::<u64>().unwrap_or(0);
+            match outcome(alloc, bench.as_str(), shape.as_str(), size) {
+                Ok(text) => rt.println(text)?,
+                Err(Memory) => rt.println("memory")?,
+            }
         }
-        rest = others;
     }
     Ok(())
 }
