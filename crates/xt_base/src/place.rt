@@ -21,7 +21,8 @@ impl Place {
     {
         match (&self.module, &other.module) {
             (None, None) => self.path.same(&other.path),
-            (Some(module), Some(other_module)) => module.same(other_module) && self.path.same(&other.path),
+            (Some(module), Some(other_module)) => module.same(other_module)
+                && self.path.same(&other.path),
             _ => false,
         }
     }
