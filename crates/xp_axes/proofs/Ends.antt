@@ -1,25 +1,24 @@
 -- What an axis takes at the node that the way leads to, or at the element whose attribute or namespace node it ends at.
-use Rattle.std.proofs.Common.{◌≡◌, ◌≤◌, ◌<◌, ℕ, ◌+◌, ◌-◌, ◌==◌, Bool, true, false, cond, zero, suc, List, [], ◌∷◌, ◌++◌, Option, None, Some, refl, sym, ap, ◌∙◌, subst, arith, eq-eqb, length, append_assoc, append-nil}
-use Rattle.std.specs.Prelude.{map, ◌&&◌, IsTrue}
-use Rattle.std.specs.List.{range_with_len}
+use Rattle.std.proofs.Common.{◌≡◌, ◌≤◌, ◌<◌, ℕ, ◌+◌, ◌-◌, ◌==◌, Bool, true, false, cond, zero, suc, List, [], ◌∷◌}
+use Rattle.std.proofs.Common.{◌++◌, None, Some, refl, sym, ap, ◌∙◌, subst, arith, eq-eqb, append-nil}
+use Rattle.std.specs.Prelude.{◌&&◌, IsTrue}
 use Rattle.std.proofs.lemmas.Bool.{eqb-true}
-use Rattle.std.specs.Ordering.{nat_cmp, is_eq, ordering_reverse}
-use Rattle.std.specs.Cmp.Lexicographic.{slice_cmp}
+use Rattle.std.specs.Ordering.{is_eq}
 use Rattle.std.specs.declared.cmp.Ordering.{Ordering}
 use Rattle.std.specs.declared.cmp.Ordering.TheVariants.{Less, Equal, Greater}
 use Rattle.spec_document.specs.declared.axis.Axis.{Axis}
 use Rattle.spec_document.specs.declared.axis.Axis.TheVariants as axis
-use Rattle.spec_document.specs.Forest.{Written, Content, Forest, Empty, Node}
+use Rattle.spec_document.specs.Forest.{Written}
 use Rattle.spec_document.specs.Place.{Found, at_number, attributes_of, namespaces_of}
-use Rattle.spec_document.specs.Order.{Way, ToNamespace, ToAttribute, ToChild, way_cmp, Entry, namespace_entries, attribute_entries, own_entries, entries_in}
+use Rattle.spec_document.specs.Order.{Way, ToNamespace, ToAttribute, ToChild, way_cmp, namespace_entries, attribute_entries, own_entries, entries_in}
 use Rattle.spec_document.specs.Axis.{is_in_tree, is_on, is_later_child}
-use Rattle.spec_document.proofs.Ways.{way_total, way_same}
+use Rattle.spec_document.proofs.Ways.{way_same}
 use Rattle.spec_document.proofs.Listed.{way_self, Namespaces, rises, below, less, first_of, second_of, namespaces-rise}
 use Rattle.xt_tree.specs.View.{itself}
 use Rattle.xt_tree.specs.declared.node_ref.NodeRef.{NodeRef}
 use Rattle.xt_tree.specs.declared.node_ref.Part.TheVariants as part
 use Rattle.xp_axes.specs.Along.{if_taken, taken, below as below_axis, beside, is_above, is_itself}
-use Rattle.xp_axes.proofs.Picked.{both, within, listing, picked, picked_append, passed_over, own_is, own_only, taken_all, children_none}
+use Rattle.xp_axes.proofs.Picked.{both, within, listing, picked, picked_append, passed_over, own_is, taken_all}
 
 -- ---- A node of the tree
 
@@ -99,7 +98,8 @@ own_same x w own = go x
     go axis.FollowingSibling = own.later
     go axis.PrecedingSibling = own.sooner
 
-own_apart : (x : Axis) (v w : Way) → AreOwn v w → is_eq (way_cmp v w) ≡ false → is_eq (way_cmp w v) ≡ false → is_on x (v ∷ []) (w ∷ []) ≡ false
+own_apart : (x : Axis) (v w : Way) → AreOwn v w → is_eq (way_cmp v w) ≡ false → is_eq (way_cmp w v) ≡ false
+    → is_on x (v ∷ []) (w ∷ []) ≡ false
 own_apart x v w own s r = go x
   where
     go : (x : Axis) → is_on x (v ∷ []) (w ∷ []) ≡ false
@@ -126,12 +126,14 @@ not_equal v w h = go (way_cmp v w) refl
     go Equal e = absurd (h (way_same v w e))
 
 -- the attribute of a number, which alone passes
-found_attribute : (p : List Way → Bool) (b : Bool) (j : ℕ) → p (ToAttribute j ∷ []) ≡ b → ((i : ℕ) → (i ≡ j → ⊥) → p (ToAttribute i ∷ []) ≡ false)
+found_attribute : (p : List Way → Bool) (b : Bool) (j : ℕ) → p (ToAttribute j ∷ []) ≡ b
+    → ((i : ℕ) → (i ≡ j → ⊥) → p (ToAttribute i ∷ []) ≡ false)
     → (node : Found ℕ) (s t : ℕ) (xs : List Written) (a : Written) → j ≡ s + t → at_number (t + 1) xs ≡ Some a
     → picked p (attribute_entries [] node s xs) ≡ if_taken b (record { node = record { number = node.label }; part = part.Attribute j })
 found_attribute p b j at other node s t [] a is h = absurd (cc)
 found_attribute p b j at other node s t (x ∷ xs) a is h =
-    elim (t == 0) as (λ r. (t == 0) ≡ r → picked p (attribute_entries [] node s (x ∷ xs)) ≡ if_taken b (record { node = record { number = node.label }; part = part.Attribute j })) [
+    elim (t == 0) as (λ r. (t == 0) ≡ r
+    → picked p (attribute_entries [] node s (x ∷ xs)) ≡ if_taken b (record { node = record { number = node.label }; part = part.Attribute j })) [
       | true ↦ λ e.
           let none : t ≡ 0 = eqb-true t 0 e in
           let same : s ≡ j = omega arith in
@@ -150,7 +152,8 @@ found_attribute p b j at other node s t (x ∷ xs) a is h =
     not_zero (suc n) h = omega arith
 
     not_one : (n : ℕ) → 1 < n → (n == 1) ≡ false
-    not_one n h = elim (n == 1) as (λ r. (n == 1) ≡ r → r ≡ false) [ true ↦ λ e. absurd (let is : n ≡ 1 = eqb-true n 1 e in omega arith) | false ↦ λ e. refl ] refl
+    not_one n h = elim (n == 1) as (λ r. (n == 1) ≡ r → r ≡ false)
+        [ true ↦ λ e. absurd (let is : n ≡ 1 = eqb-true n 1 e in omega arith) | false ↦ λ e. refl ] refl
 
     rest : (k : ℕ) (ys : List Written) → j < k → picked p (attribute_entries [] node k ys) ≡ []
     rest k [] lt = refl
@@ -162,11 +165,13 @@ found_attribute p b j at other node s t (x ∷ xs) a is h =
     first b n same d {us} e = λ i. cond (d i) (record { node = record { number = node.label }; part = part.Attribute (same i) } ∷ e i) (e i)
 
 -- the same of namespace nodes, by their prefixes
-less_at : (y : List ℕ) (t : ℕ) (ns : Namespaces) (n : List ℕ × List ℕ) → IsTrue (below y ns) → at_number t ns ≡ Some n → way_cmp (ToNamespace y) (ToNamespace n.0) ≡ Less
+less_at : (y : List ℕ) (t : ℕ) (ns : Namespaces) (n : List ℕ × List ℕ) → IsTrue (below y ns) → at_number t ns ≡ Some n
+    → way_cmp (ToNamespace y) (ToNamespace n.0) ≡ Less
 less_at y t [] n h e = absurd (cc)
 less_at y t (m ∷ ns) n h e =
     elim (t == 1) as (λ r. cond r (Some m) (at_number (t - 1) ns) ≡ Some n → way_cmp (ToNamespace y) (ToNamespace n.0) ≡ Less) [
-      | true ↦ λ e. let same = some_same m n e in ap (λ (k : List ℕ × List ℕ). way_cmp (ToNamespace y) (ToNamespace k.0)) (sym same) ∙ less _ (first_of _ (below y ns) h)
+      | true ↦ λ e. let same = some_same m n e in
+          ap (λ (k : List ℕ × List ℕ). way_cmp (ToNamespace y) (ToNamespace k.0)) (sym same) ∙ less _ (first_of _ (below y ns) h)
       | false ↦ λ e. less_at y (t - 1) ns n (second_of _ (below y ns) h) e
     ] e
   where
@@ -189,7 +194,8 @@ found_namespace : (p : List Way → Bool) (b : Bool) (n : List ℕ × List ℕ) 
     → picked p (namespace_entries [] node s ns) ≡ if_taken b (record { node = record { number = node.label }; part = part.Namespace j })
 found_namespace p b n at other node j s t [] is h up = absurd (cc)
 found_namespace p b n at other node j s t (m ∷ ns) is h up =
-    elim (t == 0) as (λ r. (t == 0) ≡ r → picked p (namespace_entries [] node s (m ∷ ns)) ≡ if_taken b (record { node = record { number = node.label }; part = part.Namespace j })) [
+    elim (t == 0) as (λ r. (t == 0) ≡ r
+    → picked p (namespace_entries [] node s (m ∷ ns)) ≡ if_taken b (record { node = record { number = node.label }; part = part.Namespace j })) [
       | true ↦ λ e.
           let none : t ≡ 0 = eqb-true t 0 e in
           let same : s ≡ j = omega arith in
@@ -215,7 +221,8 @@ found_namespace p b n at other node j s t (m ∷ ns) is h up =
     not_zero (suc n) h = omega arith
 
     not_one : (n : ℕ) → 1 < n → (n == 1) ≡ false
-    not_one n h = elim (n == 1) as (λ r. (n == 1) ≡ r → r ≡ false) [ true ↦ λ e. absurd (let is : n ≡ 1 = eqb-true n 1 e in omega arith) | false ↦ λ e. refl ] refl
+    not_one n h = elim (n == 1) as (λ r. (n == 1) ≡ r → r ≡ false)
+        [ true ↦ λ e. absurd (let is : n ≡ 1 = eqb-true n 1 e in omega arith) | false ↦ λ e. refl ] refl
 
     first : (b : Bool) (k : ℕ) → k ≡ j → (x : List ℕ) → p (ToNamespace x ∷ []) ≡ b → {us : List NodeRef} → us ≡ []
         → cond (p (ToNamespace x ∷ [])) (record { node = record { number = node.label }; part = part.Namespace k } ∷ us) us
@@ -289,13 +296,16 @@ namespace_beside j axis.PrecedingSibling n [] = refl
 namespace_beside j axis.PrecedingSibling n (d ∷ q) = refl
 
 -- the element, the node if its own, and the children
-at_part : (x : Axis) (w : Way) → IsPart w → (node : Found ℕ) (self : NodeRef) (xs ys : List NodeRef) → picked (is_on x (w ∷ [])) (namespace_entries [] node 1 (namespaces_of node)) ≡ xs
+at_part : (x : Axis) (w : Way) → IsPart w → (node : Found ℕ) (self : NodeRef) (xs ys : List NodeRef)
+    → picked (is_on x (w ∷ [])) (namespace_entries [] node 1 (namespaces_of node)) ≡ xs
     → picked (is_on x (w ∷ [])) (attribute_entries [] node 1 (attributes_of node)) ≡ ys → xs ++ ys ≡ if_taken (is_itself x) self
-    → picked (is_on x (w ∷ [])) (listing node) ≡ (if_taken (is_above x true) (itself node.label) ++ if_taken (is_itself x) self) ++ taken (beside x) node.children
+    → picked (is_on x (w ∷ [])) (listing node)
+    ≡ (if_taken (is_above x true) (itself node.label) ++ if_taken (is_itself x) self) ++ taken (beside x) node.children
 at_part x w is node self xs ys d e g =
     picked_append (is_on x (w ∷ [])) (own_entries [] node) (entries_in node.above [] 1 node.children)
     ∙ both _ (if_taken (is_above x true) (itself node.label) ++ if_taken (is_itself x) self) _ (taken (beside x) node.children)
-    (own_is (is_on x (w ∷ [])) node xs ys d e ∙ both _ (if_taken (is_above x true) (itself node.label)) _ (if_taken (is_itself x) self) (ap (λ b. if_taken b (itself node.label)) (is.above x)) g)
+    (own_is (is_on x (w ∷ [])) node xs ys d e
+    ∙ both _ (if_taken (is_above x true) (itself node.label)) _ (if_taken (is_itself x) self) (ap (λ b. if_taken b (itself node.label)) (is.above x)) g)
     (taken_all (is_on x (w ∷ [])) (beside x) node.above 1 node.children (λ n q h. is.beside x n q))
 
 attribute_way : (i j : ℕ) → (i ≡ j → ⊥) → ToAttribute i ≡ ToAttribute j → ⊥
@@ -303,7 +313,8 @@ attribute_way i j h e = h (cc)
 
 pub at_attribute : (x : Axis) (node : Found ℕ) (j : ℕ) (a : Written) → at_number j (attributes_of node) ≡ Some a → 1 ≤ j
     → picked (is_on x (ToAttribute j ∷ [])) (listing node)
-    ≡ (if_taken (is_above x true) (itself node.label) ++ if_taken (is_itself x) (record { node = record { number = node.label }; part = part.Attribute j })) ++ taken (beside x) node.children
+    ≡ (if_taken (is_above x true) (itself node.label)
+    ++ if_taken (is_itself x) (record { node = record { number = node.label }; part = part.Attribute j })) ++ taken (beside x) node.children
 at_attribute x node j a h lt =
     let self : NodeRef = record { node = record { number = node.label }; part = part.Attribute j } in
     let p = is_on x (ToAttribute j ∷ []) in
@@ -319,11 +330,13 @@ at_attribute x node j a h lt =
     others : (ns : Namespaces) (s : ℕ) → picked (is_on x (ToAttribute j ∷ [])) (namespace_entries [] node s ns) ≡ []
     others [] s = refl
     others (n ∷ ns) s =
-        passed_over _ _ _ _ (own_apart x (ToAttribute j) (ToNamespace n.0) (record { tree = refl; later = refl; sooner = refl }) refl refl) (others ns (s + 1))
+        passed_over _ _ _ _ (own_apart x (ToAttribute j) (ToNamespace n.0) (record { tree = refl; later = refl; sooner = refl }) refl refl)
+        (others ns (s + 1))
 
 pub at_namespace : (x : Axis) (node : Found ℕ) (j : ℕ) (n : List ℕ × List ℕ) → at_number j (namespaces_of node) ≡ Some n → 1 ≤ j
     → picked (is_on x (ToNamespace n.0 ∷ [])) (listing node)
-    ≡ (if_taken (is_above x true) (itself node.label) ++ if_taken (is_itself x) (record { node = record { number = node.label }; part = part.Namespace j })) ++ taken (beside x) node.children
+    ≡ (if_taken (is_above x true) (itself node.label)
+    ++ if_taken (is_itself x) (record { node = record { number = node.label }; part = part.Namespace j })) ++ taken (beside x) node.children
 at_namespace x node j n h lt =
     let self : NodeRef = record { node = record { number = node.label }; part = part.Namespace j } in
     let p = is_on x (ToNamespace n.0 ∷ []) in
@@ -339,4 +352,5 @@ at_namespace x node j n h lt =
     others : (xs : List Written) (s : ℕ) → picked (is_on x (ToNamespace n.0 ∷ [])) (attribute_entries [] node s xs) ≡ []
     others [] s = refl
     others (a ∷ xs) s =
-        passed_over _ _ _ _ (own_apart x (ToNamespace n.0) (ToAttribute s) (record { tree = refl; later = refl; sooner = refl }) refl refl) (others xs (s + 1))
+        passed_over _ _ _ _ (own_apart x (ToNamespace n.0) (ToAttribute s) (record { tree = refl; later = refl; sooner = refl }) refl refl)
+        (others xs (s + 1))

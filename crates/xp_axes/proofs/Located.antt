@@ -1,13 +1,15 @@
 -- An axis of a node by the way to it.
-use Rattle.std.proofs.Common.{◌≡◌, ◌≤◌, ◌<◌, ℕ, ◌+◌, ◌-◌, ◌==◌, Bool, true, false, cond, zero, suc, List, [], ◌∷◌, ◌++◌, Option, None, Some, refl, sym, ap, ◌∙◌, subst, arith, eq-eqb, length, append-nil}
-use Rattle.std.specs.Prelude.{map, ◌&&◌}
+use Rattle.std.proofs.Common.{◌≡◌, ◌≤◌, ◌<◌, ℕ, ◌+◌, ◌-◌, ◌==◌, Bool, true, false, cond, zero, suc, List, [], ◌∷◌}
+use Rattle.std.proofs.Common.{◌++◌, Option, None, Some, refl, sym, ap, ◌∙◌, subst, arith, eq-eqb, length, append-nil}
+use Rattle.std.specs.Prelude.{map}
 use Rattle.std.specs.List.{range_with_len, find}
 use Rattle.std.specs.Option.{option_map, option_and_then}
 use Rattle.std.proofs.lemmas.Bool.{eqb-true, and_parts}
 use Rattle.spec_document.specs.declared.axis.Axis.{Axis}
 use Rattle.spec_document.specs.declared.axis.Axis.TheVariants as axis
 use Rattle.spec_document.specs.Forest.{Document, Written, Content, Forest, Empty, Node}
-use Rattle.spec_document.specs.Place.{Ending, Itself, AtAttribute, AtNamespace, Found, found_in, child_at, node_from, node_at, root_of, at_number, attributes_of, namespaces_of, Item}
+use Rattle.spec_document.specs.Place.{Ending, Itself, AtAttribute, AtNamespace, Found, found_in, child_at, node_from, node_at, root_of}
+use Rattle.spec_document.specs.Place.{attributes_of, namespaces_of, Item}
 use Rattle.spec_document.specs.Order.{Way, ToNamespace, ToAttribute, ToChild, way_to, end_of, Entry, entries_of, namespace_entries, attribute_entries}
 use Rattle.spec_document.specs.Axis.{is_on}
 use Rattle.xt_tree.specs.View.{itself, part_of}
@@ -17,10 +19,10 @@ use Rattle.xt_tree.specs.declared.node_ref.Part.TheVariants as part
 use Rattle.xp_axes.specs.declared.extent.Extent.TheVariants.{Nothing}
 use Rattle.xp_axes.specs.View.{ref_of, number_of, part_at, same_ref, same_part, axis_from, on_axis}
 use Rattle.xp_axes.specs.Along.{if_taken, taken, around, before, after, is_above, is_itself, below, ended, along, is_end, IsWalked}
-use Rattle.xp_axes.proofs.Picked.{listing, picked, picked_is, attributes_none, namespaces_none, passed_over}
+use Rattle.xp_axes.proofs.Picked.{listing, picked, picked_is, attributes_none, namespaces_none}
 use Rattle.xp_axes.proofs.Onward.{led, positive}
 use Rattle.xp_axes.proofs.Ends.{at_itself, at_attribute, at_namespace}
-use Rattle.xp_axes.proofs.Entries.{IsAt, IsEnding, IsFirst, found_first, all_at, is_listed, counted, attribute_there, namespace_there}
+use Rattle.xp_axes.proofs.Entries.{IsAt, IsEnding, found_first, all_at, is_listed, counted, attribute_there, namespace_there}
 
 some_same : {A : Type 0} (x y : A) → Some x ≡ Some y → x ≡ y
 some_same x y e = ap (λ o. elim o [ Some z ↦ z | None ↦ x ]) e
@@ -104,7 +106,8 @@ name_is r root e at same =
     let p : part_at e.place.ending e.number ≡ r.part = sym (same_parts r.part (part_at e.place.ending e.number) parts.1) in
     record { at = at; name = λ i. record { node = record { number = number i }; part = p i } }
 
-answered : (x : Axis) (r : NodeRef) (root : Found ℕ) (e : Entry ℕ) → IsOf r root e → IsWalked x r.part → Answers x r root e.place.positions e.place.ending
+answered : (x : Axis) (r : NodeRef) (root : Found ℕ) (e : Entry ℕ) → IsOf r root e → IsWalked x r.part
+    → Answers x r root e.place.positions e.place.ending
 answered x r root e is walked =
     subst (λ (s : NodeRef). Answers x s root e.place.positions e.place.ending) is.name
     (by_ending x root is.at.element e.place.positions e.item e.place.ending e.number is.at.at
@@ -117,8 +120,10 @@ pub record IsEntryOf (document : Document ℕ) (r : NodeRef) (path : List ℕ) :
   pub is : IsOf r (root_of document) entry
   pub positions : entry.place.positions ≡ path
 
-pub entry_of : (document : Document ℕ) (r : NodeRef) (path : List ℕ) (target : Found ℕ) (item : Item ℕ) → node_at document path ≡ Some target → r.node.number ≡ target.label
-    → part_of r.part target ≡ Some item → ((ps : List ℕ) → option_map (λ n. n.label) (node_at document ps) ≡ Some r.node.number → path ≡ ps) → IsEntryOf document r path
+pub entry_of : (document : Document ℕ) (r : NodeRef) (path : List ℕ) (target : Found ℕ) (item : Item ℕ) → node_at document path ≡ Some target
+    → r.node.number ≡ target.label
+    → part_of r.part target ≡ Some item
+    → ((ps : List ℕ) → option_map (λ n. n.label) (node_at document ps) ≡ Some r.node.number → path ≡ ps) → IsEntryOf document r path
 entry_of document r path target item at number p only =
     let root = root_of document in
     let first = found_first root r (listing root) (all_at root) (is_listed r target item number p path root at) in
@@ -152,7 +157,8 @@ quiet_around inner ns child is above j (Node l c f g) at =
       | true ↦ λ e.
           let zero_j : j ≡ 0 = eqb-true j 0 e in
           let now : (j + 1 == 1) ≡ true = eq-eqb (j + 1) 1 (omega arith) in
-          let same = some_same (found_in above l c f) child (sym (ap (λ t. cond t (Some (found_in above l c f)) (child_at above g (j + 1 - 1))) now) ∙ at) in
+          let same = some_same (found_in above l c f) child
+          (sym (ap (λ t. cond t (Some (found_in above l c f)) (child_at above g (j + 1 - 1))) now) ∙ at) in
           append-nil (inner l f) ∙ ap (λ (y : Found ℕ). inner y.label y.children) same ∙ is
       | false ↦ λ e.
           let one : 1 ≤ j = not_zero j e in
@@ -167,9 +173,12 @@ quiet_around inner ns child is above j (Node l c f g) at =
     not_zero (suc n) h = omega arith
 
     not_one : (n : ℕ) → 1 < n → (n == 1) ≡ false
-    not_one n h = elim (n == 1) as (λ r. (n == 1) ≡ r → r ≡ false) [ true ↦ λ e. absurd (let is : n ≡ 1 = eqb-true n 1 e in omega arith) | false ↦ λ e. refl ] refl
+    not_one n h = elim (n == 1) as (λ r. (n == 1) ≡ r → r ≡ false)
+        [ true ↦ λ e. absurd (let is : n ≡ 1 = eqb-true n 1 e in omega arith) | false ↦ λ e. refl ] refl
 
-quiet_down : (x : Axis) → IsQuiet x → (t : Part) (ns : List NodeRef) (target : Found ℕ) (n : ℕ) (ps : List ℕ) (node : Found ℕ) (o : Option (Found ℕ)) → child_at node.above node.children n ≡ o
+quiet_down : (x : Axis) → IsQuiet x
+    → (t : Part) (ns : List NodeRef) (target : Found ℕ) (n : ℕ) (ps : List ℕ) (node : Found ℕ) (o : Option (Found ℕ))
+    → child_at node.above node.children n ≡ o
     → ((child : Found ℕ) → node_from ps child ≡ Some target → along x t (λ l f. ns) ps child.label child.children ≡ ns)
     → option_and_then (node_from ps) o ≡ Some target → along x t (λ l f. ns) (n ∷ ps) node.label node.children ≡ ns
 quiet_down x q t ns target n ps node None at below h = absurd (cc)
@@ -180,18 +189,22 @@ quiet_down x q t ns target n ps node (Some child) at below h =
     (λ i. if_taken (q.above (is_end t ps) i) (itself node.label) ++ around inner (q.before (is_end t ps) i) (q.after (is_end t ps) i) (n - 1) node.children)
     ∙ quiet_around inner ns child (below child h) node.above (n - 1) node.children (ap (child_at node.above node.children) index ∙ at)
 
-quiet : (x : Axis) → IsQuiet x → (t : Part) (ns : List NodeRef) (target : Found ℕ) (ps : List ℕ) (node : Found ℕ) → node_from ps node ≡ Some target
+quiet : (x : Axis) → IsQuiet x → (t : Part) (ns : List NodeRef) (target : Found ℕ) (ps : List ℕ) (node : Found ℕ)
+    → node_from ps node ≡ Some target
     → along x t (λ l f. ns) ps node.label node.children ≡ ns
 quiet x q t ns target [] node is = refl
-quiet x q t ns target (n ∷ ps) node is = quiet_down x q t ns target n ps node (child_at node.above node.children n) refl (λ child h. quiet x q t ns target ps child h) is
+quiet x q t ns target (n ∷ ps) node is =
+    quiet_down x q t ns target n ps node (child_at node.above node.children n) refl (λ child h. quiet x q t ns target ps child h) is
 
 own_attributes : (l s : ℕ) (node : Found ℕ) (xs : List Written) → node.label ≡ l
-    → picked (is_on axis.Attribute []) (attribute_entries [] node s xs) ≡ map (λ n. record { node = record { number = l }; part = part.Attribute n }) (range_with_len s (length xs))
+    → picked (is_on axis.Attribute []) (attribute_entries [] node s xs)
+    ≡ map (λ n. record { node = record { number = l }; part = part.Attribute n }) (range_with_len s (length xs))
 own_attributes l s node [] e = refl
 own_attributes l s node (a ∷ xs) e = λ i. record { node = record { number = e i }; part = part.Attribute s } ∷ own_attributes l (s + 1) node xs e i
 
 own_namespaces : (l s : ℕ) (node : Found ℕ) (xs : List (List ℕ × List ℕ)) → node.label ≡ l
-    → picked (is_on axis.Namespace []) (namespace_entries [] node s xs) ≡ map (λ n. record { node = record { number = l }; part = part.Namespace n }) (range_with_len s (length xs))
+    → picked (is_on axis.Namespace []) (namespace_entries [] node s xs)
+    ≡ map (λ n. record { node = record { number = l }; part = part.Namespace n }) (range_with_len s (length xs))
 own_namespaces l s node [] e = refl
 own_namespaces l s node (a ∷ xs) e = λ i. record { node = record { number = e i }; part = part.Namespace s } ∷ own_namespaces l (s + 1) node xs e i
 
@@ -200,7 +213,8 @@ is_itself_end Itself n h = refl
 is_itself_end (AtAttribute k) n h = absurd (cc)
 is_itself_end (AtNamespace k) n h = absurd (cc)
 
-quiet_axis : (document : Document ℕ) (x : Axis) → IsQuiet x → (r : NodeRef) (path : List ℕ) (e : IsEntryOf document r path) → r.part ≡ part.Itself → (ns : List NodeRef)
+quiet_axis : (document : Document ℕ) (x : Axis) → IsQuiet x → (r : NodeRef) (path : List ℕ) (e : IsEntryOf document r path)
+    → r.part ≡ part.Itself → (ns : List NodeRef)
     → picked (is_on x []) (listing e.is.at.element) ≡ ns → on_axis document x r ≡ ns
 quiet_axis document x q r path e p ns own =
     let element = e.is.at.element in
@@ -212,7 +226,8 @@ quiet_axis document x q r path e p ns own =
     ∙ quiet x q part.Itself ns element ps (root_of document) e.is.at.at
 
 pub attributes_are : (document : Document ℕ) (r : NodeRef) (path : List ℕ) (e : IsEntryOf document r path) → r.part ≡ part.Itself
-    → on_axis document axis.Attribute r ≡ map (λ n. record { node = r.node; part = part.Attribute n }) (range_with_len 1 (length (attributes_of e.is.at.element)))
+    → on_axis document axis.Attribute r
+    ≡ map (λ n. record { node = r.node; part = part.Attribute n }) (range_with_len 1 (length (attributes_of e.is.at.element)))
 attributes_are document r path e p =
     let element = e.is.at.element in
     let ns = map (λ n. record { node = r.node; part = part.Attribute n }) (range_with_len 1 (length (attributes_of element))) in
@@ -221,7 +236,8 @@ attributes_are document r path e p =
     (own_attributes r.node.number 1 element (attributes_of element) (ap (λ (s : NodeRef). s.node.number) e.is.name)) ∙ append-nil ns)
 
 pub namespaces_are : (document : Document ℕ) (r : NodeRef) (path : List ℕ) (e : IsEntryOf document r path) → r.part ≡ part.Itself
-    → on_axis document axis.Namespace r ≡ map (λ n. record { node = r.node; part = part.Namespace n }) (range_with_len 1 (length (namespaces_of e.is.at.element)))
+    → on_axis document axis.Namespace r
+    ≡ map (λ n. record { node = r.node; part = part.Namespace n }) (range_with_len 1 (length (namespaces_of e.is.at.element)))
 namespaces_are document r path e p =
     let element = e.is.at.element in
     let ns = map (λ n. record { node = r.node; part = part.Namespace n }) (range_with_len 1 (length (namespaces_of element))) in

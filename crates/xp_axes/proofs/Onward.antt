@@ -1,24 +1,22 @@
 -- What an axis takes at each level of the way to its node.
-use Rattle.std.proofs.Common.{◌≡◌, ◌≤◌, ◌<◌, ℕ, ◌+◌, ◌-◌, ◌==◌, Bool, true, false, cond, zero, suc, List, [], ◌∷◌, ◌++◌, Option, None, Some, refl, sym, ap, ◌∙◌, subst, arith, eq-eqb, append_assoc, append-nil}
-use Rattle.std.specs.Prelude.{map, ◌&&◌}
+use Rattle.std.proofs.Common.{◌≡◌, ◌≤◌, ◌<◌, ℕ, ◌+◌, ◌-◌, Bool, true, false, zero, suc, List, [], ◌∷◌}
+use Rattle.std.proofs.Common.{◌++◌, Option, None, Some, refl, sym, ap, ◌∙◌, subst, arith}
+use Rattle.std.specs.Prelude.{map}
 use Rattle.std.specs.Option.{option_and_then}
-use Rattle.std.proofs.lemmas.Bool.{eqb-true}
-use Rattle.std.specs.Ordering.{nat_cmp, ordering_reverse}
-use Rattle.std.specs.declared.cmp.Ordering.{Ordering}
+use Rattle.std.specs.Ordering.{ordering_reverse}
 use Rattle.std.specs.declared.cmp.Ordering.TheVariants.{Less, Equal, Greater}
 use Rattle.spec_document.specs.declared.axis.Axis.{Axis}
 use Rattle.spec_document.specs.declared.axis.Axis.TheVariants as axis
 use Rattle.spec_document.specs.Forest.{Content, Forest, Empty, Node}
-use Rattle.spec_document.specs.Place.{Ending, Itself, AtAttribute, AtNamespace, Found, found_in, child_at, node_from}
-use Rattle.spec_document.specs.Order.{Way, ToNamespace, ToAttribute, ToChild, way_cmp, way_to, end_of, Entry, own_entries, entries_in}
-use Rattle.spec_document.specs.Axis.{is_in_tree, is_on}
+use Rattle.spec_document.specs.Place.{Ending, Found, child_at, node_from}
+use Rattle.spec_document.specs.Order.{Way, ToNamespace, ToAttribute, ToChild, way_cmp, end_of, own_entries, entries_in}
+use Rattle.spec_document.specs.Axis.{is_on}
 use Rattle.spec_document.proofs.Ways.{way_total}
 use Rattle.spec_document.proofs.Listed.{less-number, way_self}
 use Rattle.xt_tree.specs.View.{itself}
 use Rattle.xt_tree.specs.declared.node_ref.NodeRef.{NodeRef}
 use Rattle.xt_tree.specs.declared.node_ref.Part.{Part}
-use Rattle.xt_tree.specs.declared.node_ref.Part.TheVariants as part
-use Rattle.xp_axes.specs.Along.{if_taken, taken, around, before, after, is_above, is_end, is_no_part, along}
+use Rattle.xp_axes.specs.Along.{if_taken, around, before, after, is_above, is_end, is_no_part, along}
 use Rattle.xp_axes.proofs.Picked.{both, within, listing, picked, picked_append, own_only, around_is}
 
 abbrev pub is_nil : List Way → Bool
@@ -212,7 +210,8 @@ stepped x e t at_end nil n ns node child at below =
     let index : n ≡ 1 + (n - 1) = omega arith in
     let again : n - 1 + 1 ≡ n = omega arith in
     picked_append p (own_entries [] node) (entries_in node.above [] 1 node.children)
-    ∙ both _ (if_taken (is_above x (is_end t ns)) (itself node.label)) _ (around (along x t at_end ns) (before x (is_end t ns)) (after x (is_end t ns)) (n - 1) node.children)
+    ∙ both _ (if_taken (is_above x (is_end t ns)) (itself node.label)) _
+    (around (along x t at_end ns) (before x (is_end t ns)) (after x (is_end t ns)) (n - 1) node.children)
     (own_only p node (no_namespace x n w) (no_attribute x n w) ∙ ap (λ b. if_taken b (itself node.label)) (above_is x n w ∙ ap (is_above x) last))
     (around_is p (is_on x w) (before x (is_end t ns)) (after x (is_end t ns)) n (along x t at_end ns) child
     (λ m q h. before_is x n m w q h ∙ ap (λ b. within (before x b) q) last)
@@ -222,7 +221,8 @@ stepped x e t at_end nil n ns node child at below =
 
 onward : (x : Axis) (e : Ending) (t : Part) (at_end : ℕ → Forest ℕ → List NodeRef) → is_nil (end_of e) ≡ is_no_part t
     → (target : Found ℕ) (n : ℕ) (ns : List ℕ) (node : Found ℕ) (o : Option (Found ℕ)) → child_at node.above node.children n ≡ o
-    → ((child : Found ℕ) → node_from ns child ≡ Some target → picked (is_on x (map ToChild ns ++ end_of e)) (listing child) ≡ along x t at_end ns child.label child.children)
+    → ((child : Found ℕ) → node_from ns child ≡ Some target
+    → picked (is_on x (map ToChild ns ++ end_of e)) (listing child) ≡ along x t at_end ns child.label child.children)
     → option_and_then (node_from ns) o ≡ Some target
     → picked (is_on x (map ToChild (n ∷ ns) ++ end_of e)) (listing node) ≡ along x t at_end (n ∷ ns) node.label node.children
 onward x e t at_end nil target n ns node None at below h = absurd (cc)

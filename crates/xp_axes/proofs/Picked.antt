@@ -1,5 +1,6 @@
 -- The listing of a document's nodes, level by level, and what of it passes a test of ways.
-use Rattle.std.proofs.Common.{◌≡◌, ◌≤◌, ◌<◌, ℕ, ◌+◌, ◌-◌, ◌==◌, Bool, true, false, cond, zero, suc, List, [], ◌∷◌, ◌++◌, Option, None, Some, refl, sym, ap, ◌∙◌, subst, arith, append_assoc, append-nil, eq-eqb}
+use Rattle.std.proofs.Common.{◌≡◌, ◌≤◌, ◌<◌, ℕ, ◌+◌, ◌-◌, ◌==◌, Bool, true, false, cond, zero, suc, List, [], ◌∷◌}
+use Rattle.std.proofs.Common.{◌++◌, None, Some, refl, sym, ap, ◌∙◌, arith, append-nil, eq-eqb}
 use Rattle.std.specs.Prelude.{map, filter}
 use Rattle.std.proofs.lemmas.Bool.{eqb-true}
 use Rattle.spec_document.specs.Forest.{Written, Content, Forest, Empty, Node, labels}
@@ -11,7 +12,7 @@ use Rattle.xt_tree.specs.declared.node_ref.NodeRef.{NodeRef}
 use Rattle.xp_axes.specs.declared.extent.Extent.{Extent}
 use Rattle.xp_axes.specs.declared.extent.Extent.TheVariants.{Nothing, Themselves, WithAllBelow}
 use Rattle.xp_axes.specs.View.{ref_of}
-use Rattle.xp_axes.specs.Along.{themselves, taken, taken_one, if_taken, around}
+use Rattle.xp_axes.specs.Along.{taken, taken_one, if_taken, around}
 
 kept : {A : Type 0} (x : A) (xs ys : List A) → xs ≡ ys → x ∷ xs ≡ x ∷ ys
 kept x xs ys e = λ i. x ∷ e i
@@ -46,7 +47,8 @@ own_under : (n : ℕ) (ps : List ℕ) (node : Found ℕ) → own_entries (n ∷ 
 own_under n ps node =
     let ns = namespace_entries ps node 1 (namespaces_of node) in
     let xs = attribute_entries ps node 1 (attributes_of node) in
-    kept _ _ _ (both _ (map (under n) ns) _ (map (under n) xs) (namespaces_under n ps node 1 (namespaces_of node)) (attributes_under n ps node 1 (attributes_of node))
+    kept _ _ _ (both _ (map (under n) ns) _ (map (under n) xs) (namespaces_under n ps node 1 (namespaces_of node))
+    (attributes_under n ps node 1 (attributes_of node))
     ∙ sym (map_append (under n) ns xs))
 
 three : (n : ℕ) (us vs ws xs ys zs : List (Entry ℕ)) → us ≡ map (under n) xs → vs ≡ map (under n) ys → ws ≡ map (under n) zs
@@ -55,11 +57,14 @@ three n us vs ws xs ys zs d e f =
     both _ (map (under n) (xs ++ ys)) _ (map (under n) zs) (both _ (map (under n) xs) _ (map (under n) ys) d e ∙ sym (map_append (under n) xs ys)) f
     ∙ sym (map_append (under n) (xs ++ ys) zs)
 
-entries_under : (n : ℕ) (above : List Content) (parent : List ℕ) (k : ℕ) (f : Forest ℕ) → entries_in above (n ∷ parent) k f ≡ map (under n) (entries_in above parent k f)
+entries_under : (n : ℕ) (above : List Content) (parent : List ℕ) (k : ℕ) (f : Forest ℕ)
+    → entries_in above (n ∷ parent) k f ≡ map (under n) (entries_in above parent k f)
 entries_under n above parent k Empty = refl
 entries_under n above parent k (Node l c f g) =
-    three n _ _ _ (own_entries (parent ++ k ∷ []) (found_in above l c f)) (entries_in (c ∷ above) (parent ++ k ∷ []) 1 f) (entries_in above parent (k + 1) g)
-    (own_under n (parent ++ k ∷ []) (found_in above l c f)) (entries_under n (c ∷ above) (parent ++ k ∷ []) 1 f) (entries_under n above parent (k + 1) g)
+    three n _ _ _ (own_entries (parent ++ k ∷ []) (found_in above l c f)) (entries_in (c ∷ above) (parent ++ k ∷ []) 1 f)
+    (entries_in above parent (k + 1) g)
+    (own_under n (parent ++ k ∷ []) (found_in above l c f)) (entries_under n (c ∷ above) (parent ++ k ∷ []) 1 f)
+    (entries_under n above parent (k + 1) g)
 
 pub listed_node : (above : List Content) (k l : ℕ) (c : Content) (f g : Forest ℕ)
     → entries_in above [] k (Node l c f g) ≡ map (under k) (listing (found_in above l c f)) ++ entries_in above [] (k + 1) g
@@ -67,7 +72,8 @@ listed_node above k l c f g =
     let own = own_entries [] (found_in above l c f) in
     let inner = entries_in (c ∷ above) [] 1 f in
     both _ (map (under k) (own ++ inner)) _ (entries_in above [] (k + 1) g)
-    (both _ (map (under k) own) _ (map (under k) inner) (own_under k [] (found_in above l c f)) (entries_under k (c ∷ above) [] 1 f) ∙ sym (map_append (under k) own inner)) refl
+    (both _ (map (under k) own) _ (map (under k) inner) (own_under k [] (found_in above l c f)) (entries_under k (c ∷ above) [] 1 f)
+    ∙ sym (map_append (under k) own inner)) refl
 
 -- ---- What passes a test of ways
 
@@ -78,7 +84,8 @@ picked p (e ∷ es) = cond (p (way_to e.place)) (ref_of e ∷ picked p es) (pick
 pub picked_is : (p : List Way → Bool) (es : List (Entry ℕ)) → map ref_of (filter (λ e. p (way_to e.place)) es) ≡ picked p es
 picked_is p [] = refl
 picked_is p (e ∷ es) =
-    elim (p (way_to e.place)) as (λ b. map ref_of (cond b (e ∷ filter (λ e. p (way_to e.place)) es) (filter (λ e. p (way_to e.place)) es)) ≡ cond b (ref_of e ∷ picked p es) (picked p es)) [
+    elim (p (way_to e.place)) as (λ b. map ref_of (cond b (e ∷ filter (λ e. p (way_to e.place)) es) (filter (λ e. p (way_to e.place)) es))
+    ≡ cond b (ref_of e ∷ picked p es) (picked p es)) [
       | true ↦ kept (ref_of e) _ _ (picked_is p es)
       | false ↦ picked_is p es
     ]
@@ -119,19 +126,22 @@ picked_node p above k l c f g xs ys d e =
 
 -- ---- Own entries
 
-pub attributes_none : (p : List Way → Bool) → ((n : ℕ) → p (ToAttribute n ∷ []) ≡ false) → (node : Found ℕ) (number : ℕ) (xs : List Written)
+pub attributes_none : (p : List Way → Bool) → ((n : ℕ) → p (ToAttribute n ∷ []) ≡ false)
+    → (node : Found ℕ) (number : ℕ) (xs : List Written)
     → picked p (attribute_entries [] node number xs) ≡ []
 attributes_none p h node number [] = refl
 attributes_none p h node number (x ∷ xs) = passed_over _ _ _ _ (h number) (attributes_none p h node (number + 1) xs)
 
-pub namespaces_none : (p : List Way → Bool) → ((x : List ℕ) → p (ToNamespace x ∷ []) ≡ false) → (node : Found ℕ) (number : ℕ) (xs : List (List ℕ × List ℕ))
+pub namespaces_none : (p : List Way → Bool) → ((x : List ℕ) → p (ToNamespace x ∷ []) ≡ false)
+    → (node : Found ℕ) (number : ℕ) (xs : List (List ℕ × List ℕ))
     → picked p (namespace_entries [] node number xs) ≡ []
 namespaces_none p h node number [] = refl
 namespaces_none p h node number (x ∷ xs) = passed_over _ _ _ _ (h x.0) (namespaces_none p h node (number + 1) xs)
 
 -- the node itself, its namespace nodes and its attributes
 pub own_is : (p : List Way → Bool) (node : Found ℕ) (xs ys : List NodeRef) → picked p (namespace_entries [] node 1 (namespaces_of node)) ≡ xs
-    → picked p (attribute_entries [] node 1 (attributes_of node)) ≡ ys → picked p (own_entries [] node) ≡ if_taken (p []) (itself node.label) ++ (xs ++ ys)
+    → picked p (attribute_entries [] node 1 (attributes_of node)) ≡ ys
+    → picked p (own_entries [] node) ≡ if_taken (p []) (itself node.label) ++ (xs ++ ys)
 own_is p node xs ys d e =
     let ns = namespace_entries [] node 1 (namespaces_of node) in
     let more = picked_append p ns (attribute_entries [] node 1 (attributes_of node)) ∙ both _ xs _ ys d e in
@@ -141,10 +151,12 @@ own_is p node xs ys d e =
     own true us vs h = kept _ _ _ h
     own false us vs h = h
 
-pub own_only : (p : List Way → Bool) (node : Found ℕ) → ((x : List ℕ) → p (ToNamespace x ∷ []) ≡ false) → ((n : ℕ) → p (ToAttribute n ∷ []) ≡ false)
+pub own_only : (p : List Way → Bool) (node : Found ℕ) → ((x : List ℕ) → p (ToNamespace x ∷ []) ≡ false)
+    → ((n : ℕ) → p (ToAttribute n ∷ []) ≡ false)
     → picked p (own_entries [] node) ≡ if_taken (p []) (itself node.label)
 own_only p node h g =
-    own_is p node [] [] (namespaces_none p h node 1 (namespaces_of node)) (attributes_none p g node 1 (attributes_of node)) ∙ append-nil (if_taken (p []) (itself node.label))
+    own_is p node [] [] (namespaces_none p h node 1 (namespaces_of node)) (attributes_none p g node 1 (attributes_of node))
+    ∙ append-nil (if_taken (p []) (itself node.label))
 
 -- ---- Siblings to an extent
 
@@ -159,11 +171,13 @@ children_all above k Empty = refl
 children_all above k (Node l c f g) =
     picked_node is_in_tree above k l c f g (itself l ∷ map itself (labels f)) (map itself (labels g))
     (picked_append is_in_tree (own_entries [] (found_in above l c f)) (entries_in (c ∷ above) [] 1 f)
-    ∙ both _ (itself l ∷ []) _ (map itself (labels f)) (own_only is_in_tree (found_in above l c f) (λ x. refl) (λ n. refl)) (children_all (c ∷ above) 1 f))
+    ∙ both _ (itself l ∷ []) _ (map itself (labels f)) (own_only is_in_tree (found_in above l c f) (λ x. refl) (λ n. refl))
+    (children_all (c ∷ above) 1 f))
     (children_all above (k + 1) g)
     ∙ kept (itself l) _ _ (sym (map_append itself (labels f) (labels g)))
 
-pub children_none : (p : List Way → Bool) → ((n : ℕ) (q : List Way) → p (ToChild n ∷ q) ≡ false) → (above : List Content) (k : ℕ) (f : Forest ℕ)
+pub children_none : (p : List Way → Bool) → ((n : ℕ) (q : List Way) → p (ToChild n ∷ q) ≡ false)
+    → (above : List Content) (k : ℕ) (f : Forest ℕ)
     → picked p (entries_in above [] k f) ≡ []
 children_none p h above k Empty = refl
 children_none p h above k (Node l c f g) =
@@ -173,17 +187,20 @@ one : (x : Extent) (above : List Content) (l : ℕ) (c : Content) (f : Forest �
 one Nothing above l c f = picked_none (within Nothing) (λ q. refl) (listing (found_in above l c f))
 one Themselves above l c f =
     picked_append (within Themselves) (own_entries [] (found_in above l c f)) (entries_in (c ∷ above) [] 1 f)
-    ∙ both _ (itself l ∷ []) _ [] (own_only (within Themselves) (found_in above l c f) (λ x. refl) (λ n. refl)) (children_none (within Themselves) (λ n q. refl) (c ∷ above) 1 f)
+    ∙ both _ (itself l ∷ []) _ [] (own_only (within Themselves) (found_in above l c f) (λ x. refl) (λ n. refl))
+    (children_none (within Themselves) (λ n q. refl) (c ∷ above) 1 f)
 one WithAllBelow above l c f =
     picked_append is_in_tree (own_entries [] (found_in above l c f)) (entries_in (c ∷ above) [] 1 f)
-    ∙ both _ (itself l ∷ []) _ (map itself (labels f)) (own_only is_in_tree (found_in above l c f) (λ x. refl) (λ n. refl)) (children_all (c ∷ above) 1 f)
+    ∙ both _ (itself l ∷ []) _ (map itself (labels f)) (own_only is_in_tree (found_in above l c f) (λ x. refl) (λ n. refl))
+    (children_all (c ∷ above) 1 f)
 
 pub one_more : (x : Extent) (l : ℕ) (c : Content) (f g : Forest ℕ) → taken_one x l f ++ taken x g ≡ taken x (Node l c f g)
 one_more Nothing l c f g = refl
 one_more Themselves l c f g = refl
 one_more WithAllBelow l c f g = kept (itself l) _ _ (sym (map_append itself (labels f) (labels g)))
 
-pub taken_all : (p : List Way → Bool) (x : Extent) (above : List Content) (k : ℕ) (f : Forest ℕ) → ((n : ℕ) (q : List Way) → k ≤ n → p (ToChild n ∷ q) ≡ within x q)
+pub taken_all : (p : List Way → Bool) (x : Extent) (above : List Content) (k : ℕ) (f : Forest ℕ)
+    → ((n : ℕ) (q : List Way) → k ≤ n → p (ToChild n ∷ q) ≡ within x q)
     → picked p (entries_in above [] k f) ≡ taken x f
 taken_all p x above k Empty h = none x
   where
@@ -214,7 +231,8 @@ around_is p r b a m inner x before here after own above k j Empty is at = absurd
 around_is p r b a m inner x before here after own above k j (Node l c f g) is at =
     let own_at : (j + 1 == 1) ≡ true → found_in above l c f ≡ x
     = λ e. some_same (found_in above l c f) x (sym (ap (λ t. cond t (Some (found_in above l c f)) (child_at above g (j + 1 - 1))) e) ∙ at) in
-    elim (j == 0) as (λ t. (j == 0) ≡ t → picked p (entries_in above [] k (Node l c f g)) ≡ cond t (inner l f ++ taken a g) (taken_one b l f ++ around inner b a (j - 1) g)) [
+    elim (j == 0) as (λ t. (j == 0) ≡ t
+    → picked p (entries_in above [] k (Node l c f g)) ≡ cond t (inner l f ++ taken a g) (taken_one b l f ++ around inner b a (j - 1) g)) [
       | true ↦ λ e.
           let zero_j : j ≡ 0 = eqb-true j 0 e in
           let same : m ≡ k = omega arith in
@@ -227,11 +245,13 @@ around_is p r b a m inner x before here after own above k j (Node l c f g) is at
           let positive : 1 ≤ j = not_zero j e in
           let later : (j + 1 == 1) ≡ false = other (j + 1) (omega arith) in
           let back : j + 1 - 1 ≡ j - 1 + 1 = omega arith in
-          let behind = ap (child_at above g) (sym back) ∙ sym (ap (λ t. cond t (Some (found_in above l c f)) (child_at above g (j + 1 - 1))) later) ∙ at in
+          let behind = ap (child_at above g) (sym back) ∙ sym (ap (λ t. cond t (Some (found_in above l c f)) (child_at above g (j + 1 - 1))) later)
+          ∙ at in
           picked_node p above k l c f g (taken_one b l f) (around inner b a (j - 1) g)
           (picked_same (λ q. p (ToChild k ∷ q)) (within b) (λ q. before k q (omega arith)) (listing (found_in above l c f)) ∙ one b above l c f)
           (around_is p r b a m inner x before here after own above (k + 1) (j - 1) g (omega arith) behind)
     ] refl
   where
     other : (n : ℕ) → 1 < n → (n == 1) ≡ false
-    other n h = elim (n == 1) as (λ t. (n == 1) ≡ t → t ≡ false) [ true ↦ λ e. absurd (let is : n ≡ 1 = eqb-true n 1 e in omega arith) | false ↦ λ e. refl ] refl
+    other n h = elim (n == 1) as (λ t. (n == 1) ≡ t → t ≡ false)
+        [ true ↦ λ e. absurd (let is : n ≡ 1 = eqb-true n 1 e in omega arith) | false ↦ λ e. refl ] refl

@@ -1,6 +1,6 @@
-//! Steps and document order over documents (XPath 1.0, sections 2.1 to 2.3 and 5). Contracts say which
-//! nodes, in which order, by `stepped` and `ordered` of `spec_meaning` over the listing of the document's
-//! nodes, where `ref_of` names an entry of the listing (`specs/View.antt`).
+//! Steps along the axes of a document (XPath 1.0, sections 2.1 to 2.3). The contract says which nodes, in
+//! which order, by `stepped` of `spec_meaning` over the listing of the document's nodes, where `ref_of`
+//! names an entry of the listing (`specs/View.antt`).
 //!
 //! ```text
 //! let children = step(alloc, &doc, &node, Axis::Child, &Test::AnyName)?;   // child::*

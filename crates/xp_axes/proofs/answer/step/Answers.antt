@@ -1,4 +1,4 @@
-use Rattle.std.proofs.Common.{◌≡◌, ◌∙◌, sym, ap, subst}
+use Rattle.std.proofs.Common.{◌∙◌, sym, ap, subst}
 use Rattle.std.specs.Prelude.{filter}
 use Rattle.spec_document.specs.Axis.{in_axis_order}
 use Rattle.xp_syntax.specs.View.{test_of}
@@ -8,7 +8,8 @@ use Rattle.xp_axes.proofs.answer.step.Goals as goal
 
 pub passing-requires : goal.passing-requires
 passing-requires c =
-    subst (AreNodes c.args.document.now) (sym (c.as_slice.ensures.value ∙ c.in_ok-nodes.ensures)) (are_nodes c.args.document.now c.distinct_numbers.ensures c.args.axis c.args.node.now)
+    subst (AreNodes c.args.document.now) (sym (c.as_slice.ensures.value ∙ c.in_ok-nodes.ensures))
+    (are_nodes c.args.document.now c.distinct_numbers.ensures c.args.axis c.args.node.now)
 
 pub returns : goal.returns
 returns c =

@@ -13,7 +13,8 @@ returns c =
     let name : ℕ → NodeRef = λ n. record { node = c.args.id; part = part.Attribute n } in
     more_known _ _ c.numbered_attributes.result
     (λ nodes known x e.
-    let count : length c.in_ok-list.list.items ≡ length (attributes_of x) = sym (length_map (λ a. written_of a.now) c.in_ok-list.list.items) ∙ ap length (c.in_ok-list.ensures x e) in
+    let count : length c.in_ok-list.list.items ≡ length (attributes_of x) =
+    sym (length_map (λ a. written_of a.now) c.in_ok-list.list.items) ∙ ap length (c.in_ok-list.ensures x e) in
     let same : c.len.result ≡ length (attributes_of x) = grind (arith, count) in
     known ∙ ap (λ n. map name (range_with_len 1 n)) same)
     c.numbered_attributes.ensures

@@ -13,7 +13,8 @@ returns c =
     let name : ℕ → NodeRef = λ n. record { node = c.args.id; part = part.Namespace n } in
     more_known _ _ c.numbered_namespaces.result
     (λ nodes known x e.
-    let count : length c.in_ok-list.list.items ≡ length (namespaces_of x) = sym (length_map (λ n. entry_of n.value) c.in_ok-list.list.items) ∙ ap length (c.in_ok-list.ensures x e) in
+    let count : length c.in_ok-list.list.items ≡ length (namespaces_of x) =
+    sym (length_map (λ n. entry_of n.value) c.in_ok-list.list.items) ∙ ap length (c.in_ok-list.ensures x e) in
     let same : c.len.result ≡ length (namespaces_of x) = grind (arith, count) in
     known ∙ ap (λ n. map name (range_with_len 1 n)) same)
     c.numbered_namespaces.ensures

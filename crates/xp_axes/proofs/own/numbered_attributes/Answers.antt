@@ -1,5 +1,4 @@
-use Rattle.std.proofs.Common.{◌≡◌, ℕ, ◌+◌, ◌++◌, ◌∷◌, [], ◌∙◌, sym, ap}
-use Rattle.std.specs.Prelude.{map}
+use Rattle.std.proofs.Common.{ℕ, ◌+◌, ◌++◌, ◌∷◌, [], ◌∙◌, sym, ap}
 use Rattle.xt_tree.specs.declared.node_ref.NodeRef.{NodeRef}
 use Rattle.xt_tree.specs.declared.node_ref.Part.TheVariants as part
 use Rattle.xp_axes.proofs.Sliced.{mapped_range}

@@ -6,4 +6,5 @@ use Rattle.xp_axes.proofs.passing.passing.Given as goal
 
 abbrev pub invariant-loop-node : goal.invariant-loop-node
 invariant-loop-node l =
-    l.kept.items ++ filter (is_passing l.document l.axis (test_of l.test)) (drop l.node-index l.nodes) ≡ filter (is_passing l.document l.axis (test_of l.test)) l.nodes
+    l.kept.items ++ filter (is_passing l.document l.axis (test_of l.test)) (drop l.node-index l.nodes)
+    ≡ filter (is_passing l.document l.axis (test_of l.test)) l.nodes
