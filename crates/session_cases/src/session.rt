@@ -88,12 +88,13 @@ fn answer(alloc: Global, out: &mut String, head: &str, input: &[u8]) -> Result<(
     out.push_str("== ")?;
     out.push_str(head)?;
     out.push('\n')?;
-    let (_, options) = head.split_once(" | ").unwrap_or((head, ""));
-    match Setting::read(alloc, options)? {
-        None => out.push_str("?\n")?,
-        Some(setting) => play(alloc, out, &setting, input)?,
+    match head.split_once(" | ") {
+        None => play(alloc, out, &Setting::new(alloc), input),
+        Some((_, options)) => match Setting::read(alloc, options)? {
+            None => Ok(out.push_str("?\n")?),
+            Some(setting) => play(alloc, out, &setting, input),
+        },
     }
-    Ok(())
 }
 
 fn play(alloc: Global, out: &mut String, setting: &Setting, input: &[u8]) -> Result<(), Memory> {

@@ -21,40 +21,84 @@ pub struct Setting {
     pub words: Option<Vec<String>>,
 }
 
+// What a word behind it sets.
+#[derive(Clone, Copy, PartialEq, Eq)]
+enum Key {
+    Limit,
+    Pieces,
+    Reads,
+    Writes,
+    Room,
+    // and all words behind that one
+    Words,
+}
+
+fn key_of(word: &str) -> Option<Key> {
+    match word {
+        "limit" => Some(Key::Limit),
+        "pieces" => Some(Key::Pieces),
+        "reads" => Some(Key::Reads),
+        "writes" => Some(Key::Writes),
+        "room" => Some(Key::Room),
+        "words" => Some(Key::Words),
+        _ => None,
+    }
+}
+
 impl Setting {
     /// What these words say; none where they say nothing.
     pub fn read(alloc: Global, options: &str) -> Result<Option<Setting>, Memory> {
-        let mut setting = Setting {
+        let mut setting = Setting::new(alloc);
+        let mut open = None;
+        for word in options.split(' ') {
+            match open {
+                None => match key_of(word) {
+                    None => return Ok(None),
+                    Some(key) => {
+                        setting.begin(alloc, key)?;
+                        open = Some(key);
+                    }
+                },
+                Some(key) => {
+                    if !setting.set(alloc, key, word)? {
+                        return Ok(None);
+                    }
+                    open = behind(key);
+                }
+            }
+        }
+        Ok(Some(setting))
+    }
+
+    /// The setting where nothing is said: `serve` is called.
+    pub fn new(alloc: Global) -> Setting {
+        Setting {
             limit: LIMIT,
             pieces: 0,
             reads: Vec::new(alloc),
             writes: Vec::new(alloc),
             room: ROOM,
             words: None,
-        };
-        let mut key = "";
-        for word in options.split(' ') {
-            if key.is_empty() {
-                key = word;
-                if word == "words" {
-                    setting.words = Some(first_words(alloc)?);
-                }
-            } else if setting.set(alloc, key, word)? {
-                key = next_key(key);
-            } else {
-                return Ok(None);
-            }
         }
-        Ok(Some(setting))
     }
 
-    // Sets what the key names; false where it names nothing, or the value is none.
-    fn set(&mut self, alloc: Global, key: &str, value: &str) -> Result<bool, Memory> {
+    // With `words` the program's name is there, though no word may follow.
+    fn begin(&mut self, alloc: Global, key: Key) -> Result<(), Memory> {
+        if key == Key::Words {
+            let mut words = Vec::new(alloc);
+            words.push(String::from_str(alloc, "xt")?)?;
+            self.words = Some(words);
+        }
+        Ok(())
+    }
+
+    // Sets what the key names; false where the word is no value of it.
+    fn set(&mut self, alloc: Global, key: Key, word: &str) -> Result<bool, Memory> {
         match key {
-            "words" => self.add_word(alloc, value),
-            "reads" => push_numbers(&mut self.reads, value),
-            "writes" => push_numbers(&mut self.writes, value),
-            _ => Ok(self.set_number(key, value)),
+            Key::Words => self.add_word(alloc, word),
+            Key::Reads => push_numbers(&mut self.reads, word),
+            Key::Writes => push_numbers(&mut self.writes, word),
+            Key::Limit | Key::Pieces | Key::Room => Ok(self.set_number(key, word)),
         }
     }
 
@@ -68,30 +112,26 @@ impl Setting {
         }
     }
 
-    fn set_number(&mut self, key: &str, value: &str) -> bool {
-        let Ok(number) = value.parse::<u64>() else {
+    fn set_number(&mut self, key: Key, word: &str) -> bool {
+        let Ok(number) = word.parse::<u64>() else {
             return false;
         };
         match key {
-            "limit" => self.limit = number,
-            "pieces" => self.pieces = number as usize,
-            "room" => self.room = number as usize,
-            _ => return false,
+            Key::Limit => self.limit = number,
+            Key::Pieces => self.pieces = number as usize,
+            Key::Room => self.room = number as usize,
+            Key::Reads | Key::Writes | Key::Words => return false,
         }
         true
     }
 }
 
-// The name of the program.
-fn first_words(alloc: Global) -> Result<Vec<String>, Memory> {
-    let mut words = Vec::new(alloc);
-    words.push(String::from_str(alloc, "xt")?)?;
-    Ok(words)
-}
-
-// All that follows `words` are words.
-fn next_key(key: &str) -> &str {
-    if key == "words" { key } else { "" }
+// What the word behind a value is for: another key, or one more word.
+fn behind(key: Key) -> Option<Key> {
+    match key {
+        Key::Words => Some(key),
+        _ => None,
+    }
 }
 
 // Adds the numbers that commas part; false where a word is none.
