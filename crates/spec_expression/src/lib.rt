@@ -14,6 +14,10 @@ ghost use Rattle.spec_expression.specs.Syntax.{Expr};
 ghost use Rattle.spec_expression.specs.Grammar.{IsExpression, Parses};
 ghost use Rattle.spec_expression.specs.declared.Refusal.{Refusal};
 
+mod code;
+
+pub use code::{DynCode, StaticCode};
+
 /// The node types of XPath 1.0, production 38.
 #[derive(Clone, Copy, PartialEq, Eq)]
 pub enum NodeType {

@@ -2,8 +2,8 @@
 use Rattle.std.specs.Prelude.{Option, Some, None}
 use Rattle.spec_expression.specs.declared.Refusal.{Refusal}
 use Rattle.spec_expression.specs.declared.Refusal.TheVariants as refusals
-use Rattle.xt_base.specs.declared.codes.StaticCode.{StaticCode}
-use Rattle.xt_base.specs.declared.codes.StaticCode.TheVariants as fixed
+use Rattle.spec_expression.specs.declared.code.StaticCode.{StaticCode}
+use Rattle.spec_expression.specs.declared.code.StaticCode.TheVariants as fixed
 use Rattle.xp_parse.specs.declared.fault.ParseFault.{ParseFault}
 use Rattle.xp_parse.specs.declared.fault.ParseFault.TheVariants.{Memory, Refused}
 

@@ -13,7 +13,8 @@ mod place;
 mod reading;
 mod steps;
 
-pub use codes::{DynCode, EditCode, StaticCode};
+pub use codes::EditCode;
 pub use num::{Num, NumFault};
 pub use place::Place;
+pub use spec_expression::{DynCode, StaticCode};
 pub use steps::Steps;

@@ -16,7 +16,7 @@ ghost use Rattle.spec_session.specs.Machine as machine;
 ghost use Rattle.spec_session.specs.Reply as written;
 ghost use Rattle.xt_tree.specs.View.{content_of, forest_of, tree_of, written_of};
 ghost use Rattle.xt_wire.specs.View.{refusal_of, reply_of};
-ghost use Rattle.xt_base.specs.Code.{static_number};
+ghost use Rattle.spec_expression.specs.Code.{static_number};
 ghost use Rattle.xt_session.specs.Documents.{plain_in, plain_of};
 ghost use Rattle.xt_session.specs.Taken.{element_by, is_counted, is_element, is_selected, outcome_in, stylesheet_in, tree_in};
 

@@ -5,7 +5,8 @@ use Rattle.std.specs.Str.{chars}
 use Rattle.spec_session.specs.Request as spec
 use Rattle.spec_session.specs.Request.{Request, or_number}
 use Rattle.spec_session.specs.Reply as written
-use Rattle.xt_base.specs.Code.{edit_number, static_number, dynamic_number}
+use Rattle.spec_expression.specs.Code.{static_number, dynamic_number}
+use Rattle.xt_base.specs.Code.{edit_number}
 use Rattle.xt_base.specs.declared.codes.EditCode.{EditCode}
 use Rattle.xt_base.specs.declared.codes.EditCode.TheVariants as edit
 use Rattle.xt_base.specs.declared.place.Place.{Place}
