@@ -1,0 +1,60 @@
+// Questions to a world, and what is needed of a run.
+use spec_document::Axis;
+use xp_syntax::Test;
+use xt_names::Expanded;
+use xt_text::Text;
+use xt_tree::{NodeRef, Value};
+
+/// Which template rules are candidates for a node (XSLT 1.0, sections 5.5 and 5.6).
+#[derive(Clone, Copy, Debug, PartialEq, Eq)]
+pub enum Candidates {
+    /// All of the mode.
+    AllRules,
+    /// Those whose import precedence is in this range: what the stylesheet that holds a rule imports.
+    Imported { first: u64, last: u64 },
+}
+
+/// What is asked of a world.
+#[derive(Drop)]
+pub enum Question {
+    /// The nodes of an axis that pass a node test, in the order of the axis.
+    Step(NodeRef, Axis, Test),
+    /// The string-value of a node.
+    Text(NodeRef),
+    /// The kind and the names of a node.
+    Name(NodeRef),
+    /// The text that tells a node's place.
+    Place(NodeRef),
+    /// These nodes in document order, each once.
+    Order(Vec<NodeRef>),
+    /// The nodes that have this value in the keys of this name.
+    Key(Expanded, Text),
+    /// The template rule of a node, in a mode.
+    Choice(NodeRef, Option<Expanded>, Candidates),
+    /// A copy of a node with what is below it.
+    Copy(NodeRef),
+    /// The unit of an element of the stylesheet.
+    Unit(NodeRef),
+    /// A parameter that is given from outside.
+    External(Text),
+}
+
+/// What is needed of the run of an instantiation, and not of the world.
+#[derive(Drop)]
+pub enum Wanted {
+    /// The position of the instantiation's node.
+    Position,
+    /// The size of the list that it stands in.
+    Size,
+    /// The value of a global variable or parameter.
+    Global(Expanded),
+}
+
+/// What is given for it.
+#[derive(Drop)]
+pub enum Given {
+    /// A position or size.
+    Counted(u64),
+    /// The value of a global.
+    Valued(Value),
+}
