@@ -7,9 +7,9 @@
 //! ```
 #![tactic(auto)]
 
-mod apply;
-mod find;
+mod call;
+mod table;
 
-pub use apply::apply;
-pub use find::find;
+pub use call::apply;
 pub use spec_meaning::Function;
+pub use table::find;

@@ -7,10 +7,10 @@
 //! ```
 #![tactic(auto)]
 
-mod compare;
+mod comparison;
 mod convert;
 mod operation;
 
-pub use compare::compare;
+pub use comparison::compare;
 pub use convert::{count, given, to_boolean, to_nodes, to_number, to_text};
 pub use operation::{combine, compute, is_decided};

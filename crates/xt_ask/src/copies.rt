@@ -40,8 +40,6 @@ pub fn copy_value(alloc: Global, value: &Value) -> Result<Value, Memory>
         Value::Text(text) => Ok(Value::Text(text.copy(alloc)?)),
         Value::Boolean(boolean) => Ok(Value::Boolean(*boolean)),
         Value::Nodes(nodes) => Ok(Value::Nodes(Vec::from_slice(alloc, nodes.as_slice())?)),
-        Value::Fragment(fragment) => Ok(Value::Fragment(Fragment::new(
-            fragment.items().clone()?,
-        ))),
+        Value::Fragment(fragment) => Ok(Value::Fragment(Fragment::new(fragment.items().clone()?))),
     }
 }
