@@ -1,7 +1,7 @@
 // Conversions of values (XPath 1.0, section 4).
 ghost use Rattle.std.specs.Prelude.{◌≡◌, ℕ, pos, IfOk};
 ghost use Rattle.spec_expression.specs.Number as plain;
-ghost use Rattle.xt_base.specs.Fault.{Gives, fault_of};
+ghost use Rattle.xt_base.specs.Fault.{Gives};
 ghost use Rattle.xp_values.specs.View.{result_of};
 ghost use Rattle.spec_meaning.specs.Program.{State, Supply};
 ghost use Rattle.spec_meaning.specs.Convert as convert;
@@ -16,12 +16,9 @@ use crate::stream_text::text_of;
 use spec_expression::DynCode;
 use std::alloc::Global;
 use xt_ask::{EvalFault, Refusal, World, ask_text};
-use xt_base::{Num, NumFault};
+use xt_base::{GREATEST, Num, NumFault};
 use xt_text::{Memory, Text};
 use xt_tree::{NodeRef, Value};
-
-/// The greatest whole number.
-const GREATEST: u64 = 9_007_199_254_740_991;
 
 /// The number, or the refusal that stands in its place: D01, D02 or D03.
 pub fn given(number: Result<Num, NumFault>) -> Result<Num, EvalFault>
@@ -29,17 +26,7 @@ pub fn given(number: Result<Num, NumFault>) -> Result<Num, EvalFault>
 {
     match number {
         Ok(number) => Ok(number),
-        Err(fault) => Err(EvalFault::Refused(Refusal::Here(code_of(fault)))),
-    }
-}
-
-fn code_of(fault: NumFault) -> DynCode
-    ensures { result ≡ convert.code_of (fault_of fault) }
-{
-    match fault {
-        NumFault::Fraction => DynCode::Fraction,
-        NumFault::Infinite => DynCode::Infinite,
-        NumFault::Wide => DynCode::Wide,
+        Err(fault) => Err(EvalFault::Refused(Refusal::Here(fault.code()))),
     }
 }
 
@@ -85,11 +72,7 @@ fn text_of_boolean(alloc: Global, boolean: bool) -> Result<Text, Memory>
 }
 
 // The string-value of the first node, and the empty text without one.
-fn first_text<W: World>(
-    alloc: Global,
-    nodes: &[NodeRef],
-    world: &mut W,
-) -> Result<Text, EvalFault>
+fn first_text<W: World>(alloc: Global, nodes: &[NodeRef], world: &mut W) -> Result<Text, EvalFault>
     ensures runs { (supply : Supply NodeRef) → (depth : ℕ) → Runs itself supply depth (convert.first_text nodes.now) (W.state world.old) (W.state world.new) result }
     ensures name { W.name world.new ≡ W.name world.old }
 {
