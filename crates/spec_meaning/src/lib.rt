@@ -15,4 +15,4 @@ mod laws;
 pub use function::{
     ContextFunction, Function, NodesFunction, TextFunction, TextsFunction, ValueFunction,
 };
-pub use laws::steps_give_each_node_once;
+pub use laws::{agreement, steps_give_each_node_once, told};
