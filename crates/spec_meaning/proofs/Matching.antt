@@ -402,7 +402,7 @@ each_reverse_aux : {A B : Type 0} {R : A → B → Type 0} {xs : List A} {ys : L
 each_reverse_aux none g = g
 each_reverse_aux (more h hs) g = each_reverse_aux hs (more h g)
 
-in_axis_order_match : {A B : Type 0} {R : A → B → Type 0} (axis : Axis) {xs : List A} {ys : List B} → Each R xs ys → Each R (in_axis_order axis xs) (in_axis_order axis ys)
+pub in_axis_order_match : {A B : Type 0} {R : A → B → Type 0} (axis : Axis) {xs : List A} {ys : List B} → Each R xs ys → Each R (in_axis_order axis xs) (in_axis_order axis ys)
 in_axis_order_match axis h = either_each (is_reverse axis) (each_reverse_aux h none) h
 
 arranged_match : {N M : Type 0} {R : N → M → Type 0} {ns : List N} {ms : List M} (axis : Axis) {xs : List N} {ys : List M} → Each R ns ms → Each R xs ys

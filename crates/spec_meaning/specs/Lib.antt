@@ -12,3 +12,4 @@ pub mod Call
 pub mod Meaning
 pub mod Truth
 pub mod Related
+pub mod Naming
