@@ -2,11 +2,17 @@
 use Rattle.std.proofs.Common.{◌≡◌, ℕ, ◌+◌, List, [], ◌∷◌, ◌++◌, map, filter, Bool, true, false, cond, Option, Some, refl, sym, ap, subst, ◌∙◌}
 use Rattle.std.specs.Prelude.{◌&&◌, ◌||◌, codes}
 use Rattle.std.specs.List.{list_any, find}
+use Rattle.std.specs.Ordering.{is_eq, ordering_reverse}
+use Rattle.std.specs.declared.cmp.Ordering.TheVariants.{Less, Greater}
+use Rattle.std.specs.Cmp.{tied_itself}
 use Rattle.spec_document.specs.declared.axis.Axis.{Axis}
 use Rattle.spec_document.specs.declared.kind.Kind.{Kind}
 use Rattle.spec_document.specs.Name.{Expanded, same_expanded}
 use Rattle.spec_document.specs.Forest.{Written, Content, Element, Text, Comment, Instruction, Forest, Empty, Node, Document, plain, texts_in, text_of}
 use Rattle.spec_document.specs.Place.{Itself, Found, found_in, Item, TreeNode, attributes_of, namespaces_of, kind_of, expanded_name}
+use Rattle.spec_document.specs.Order.{document_cmp, is_same_place, ways_of, ComesBeforeAll, AreInOrder}
+use Rattle.spec_document.proofs.Ways.{document_total}
+use Rattle.spec_document.proofs.Listed.{in_order, less}
 use Rattle.spec_document.specs.Order.{Entry, way_to, namespace_entries, attribute_entries, own_entries, entries_in, entries_of}
 use Rattle.spec_document.specs.Axis.{is_on}
 use Rattle.spec_expression.specs.declared.NodeType.TheVariants as type
@@ -182,3 +188,21 @@ pub documents_alike : {L : Type 0} (document : Document L) → Each Alike (entri
 documents_alike document =
     more (record { place = refl; number = refl; kind = refl; name = refl; written = refl; text = plain_texts document.nodes })
     (forests_alike [] [] 1 document.nodes)
+
+-- ---- places
+differs_before : {L : Type 0} (e : Entry L) (es : List (Entry L)) → ComesBeforeAll (way_to e.place) (ways_of es)
+    → AllDiffer (λ (d : Entry L). d.place) is_same_place e es
+differs_before e [] h = tt
+differs_before e (d ∷ es) h =
+    let before : document_cmp (way_to e.place) (way_to d.place) ≡ Less = less _ h.0 in
+    let after : document_cmp (way_to d.place) (way_to e.place) ≡ Greater =
+    document_total.antisymm (way_to d.place) (way_to e.place) ∙ ap ordering_reverse before in
+    (ap is_eq before, ap is_eq after, differs_before e es h.1)
+
+apart_in_order : {L : Type 0} (es : List (Entry L)) → AreInOrder (ways_of es) → AreApart (λ (e : Entry L). e.place) is_same_place es
+apart_in_order [] h = tt
+apart_in_order (e ∷ es) h = (ap is_eq (tied_itself document_total (way_to e.place)), differs_before e es h.0, apart_in_order es h.1)
+
+-- no two nodes stand at one place
+pub places_apart : {L : Type 0} (document : Document L) → AreApart (λ (e : Entry L). e.place) is_same_place (entries_of document)
+places_apart document = apart_in_order (entries_of document) (in_order document)
