@@ -5,3 +5,4 @@ pub mod Entries
 pub mod Located
 pub mod Sliced
 pub mod Reached
+pub mod Told

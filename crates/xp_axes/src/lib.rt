@@ -10,8 +10,10 @@
 mod along;
 mod answer;
 mod extent;
+mod laws;
 mod own;
 mod passing;
 
 pub use answer::step;
+pub use laws::same_meaning;
 pub use xp_syntax::{Axis, Test};
