@@ -617,7 +617,7 @@ mutual
   -- an expression means the same, whatever names the nodes
   pub meaning_match : {N M : Type 0} {R : N → M → Type 0} (e : Expr) {c : Context N} {d : Context M} → Contexts R c d
       → Match R (Values R) (meaning e c) (meaning e d)
-  meaning_match (tree.number n) h = gives number
+  meaning_match (tree.number n) h = counted_match n
   meaning_match (tree.literal t) h = gives text
   meaning_match (tree.variable name) (context h g bs) = bound_or_global_match name (binding_match name bs)
   meaning_match (tree.call name arguments) h = then_match (values_of_match arguments h none) (λ vs ws k. called_alike (ap (function_of name) (each_length k)) k h)

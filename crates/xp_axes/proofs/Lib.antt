@@ -6,3 +6,5 @@ pub mod Located
 pub mod Sliced
 pub mod Reached
 pub mod Told
+pub mod Placing
+pub mod Kept
