@@ -42,7 +42,7 @@ use Rattle.spec_meaning.specs.Operation.{computed, arithmetic, in_order, united,
 use Rattle.spec_meaning.specs.Function.{function_of}
 use Rattle.spec_meaning.specs.Call.{value_or_node, argument, all_texts, arranged, known_or_needed, of_context, summed, of_first, of_nodes, of_texts, language_at, language_of, name_meant, xslt, system_property, of_text, of_value, length_argument, substring_of, nodes_or_refused, nodes_of_key, nodes_of_keys, keyed, key_of, applied, called}
 use Rattle.spec_meaning.specs.Meaning.{bound_or_global, last_of, keeps, kept, stepped, meaning, values_of, chained, kept_by, along}
-use Rattle.spec_meaning.specs.Related.{Each, none, more, Both, neither, both, Questions, steps, texts, names, places, orders, keys, Answers, gone, refused, some_nodes, some_text, named, chosen, copied, some_unit, passed, Values, number, text, boolean, nodes, fragment, Givens, counted, valued, Bindings, bound, Contexts, context, Match, gives, refuses, asks, needs, Outcomes, both_give, both_refuse, both_lack, ReadsAlike, asked_alike, saw_alike, Worlds, Supplies}
+use Rattle.spec_meaning.specs.Related.{Each, none, more, Both, neither, both, Questions, steps, texts, names, places, orders, keys, Answers, gone, refused, some_nodes, some_text, named, chosen, copied, some_unit, passed, Values, number, text, boolean, nodes, fragment, Givens, counted, valued, Bindings, bound, Contexts, context, Match, gives, refuses, asks, needs, Outcomes, both_give, both_refuse, both_lack, ReadsAlike, asked_alike, saw_alike, Worlds, SuppliesAlike}
 
 -- ---- programs
 pub then_match : {N M A B C D : Type 0} {R : N → M → Type 0} {S : A → B → Type 0} {T : C → D → Type 0} {p : Program N A} {q : Program M B}
@@ -66,7 +66,7 @@ needs_met R S w depth says tells reads also later _ _ (both h) = let rest = late
 
 -- where related questions are answered alike, programs that match end alike and read alike
 pub matching : {N M A B : Type 0} (R : N → M → Type 0) (S : A → B → Type 0) (ask : Question N → Answer N) (other : Question M → Answer M)
-    (supply : Supply N) (others : Supply M) (depth : ℕ) → Worlds R ask other → Supplies R supply others
+    (supply : Supply N) (others : Supply M) (depth : ℕ) → Worlds R ask other → SuppliesAlike R supply others
     → (p : Program N A) (q : Program M B) → Match R S p q
     → Outcomes S (outcome_of ask supply p) (outcome_of other others q) × Each (ReadsAlike R) (reads_of ask supply depth p) (reads_of other others depth q)
 matching R S ask other supply others depth w s _ _ (gives h) = (both_give h, none)

@@ -109,5 +109,5 @@ pub data ReadsAlike {N M : Type 0} (R : N → M → Type 0) : Read N → Read M 
 abbrev pub Worlds : {N M : Type 0} → (N → M → Type 0) → (Question N → Answer N) → (Question M → Answer M) → Type 0
 Worlds {N = N} {M = M} R ask other = (q : Question N) (r : Question M) → Questions R q r → Answers R (ask q) (other r)
 
-abbrev pub Supplies : {N M : Type 0} → (N → M → Type 0) → Supply N → Supply M → Type 0
-Supplies R supply others = (w : Wanted) → Both (Givens R) (supply w) (others w)
+abbrev pub SuppliesAlike : {N M : Type 0} → (N → M → Type 0) → Supply N → Supply M → Type 0
+SuppliesAlike R supply others = (w : Wanted) → Both (Givens R) (supply w) (others w)

@@ -7,8 +7,8 @@ use Rattle.xp_axes.proofs.Told.{all_told}
 use Rattle.xp_axes.proofs.laws.same_meaning.Goals as goal
 
 pub returns : goal.returns
-returns c = λ document expr context named supply others numbered at supplied.
-    (matching _ _ _ _ supply others 0
-        (worlds (λ e. e.place) is_same_place ref_of same_ref (entries_of (unlabelled document)) (entries_of document) (documents_alike document)
-            (places_apart (unlabelled document)) (all_told document numbered))
-        supplied _ _ (meaning_match expr at)).0
+returns c = λ document expr context named supply others depth numbered at supplied.
+    matching _ _ _ _ supply others depth
+    (worlds (λ e. e.place) is_same_place ref_of same_ref (entries_of (unlabelled document)) (entries_of document) (documents_alike document)
+    (places_apart (unlabelled document)) (all_told document numbered))
+    supplied _ _ (meaning_match expr at)
