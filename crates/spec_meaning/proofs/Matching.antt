@@ -1,6 +1,7 @@
 -- A meaning never looks at the name of a node: related contexts have related meanings, and where related questions are answered alike
 -- they end alike.
-use Rattle.std.proofs.Common.{◌≡◌, ℕ, suc, ◌+◌, ◌-◌, ◌==◌, List, [], ◌∷◌, ◌++◌, map, length, Bool, true, false, cond, not, Option, None, Some, Result, Ok, Err, refl, ap, subst}
+use Rattle.std.proofs.Common.{◌≡◌, ℕ, suc, ◌+◌, ◌-◌, ◌==◌, List, [], ◌∷◌, ◌++◌, map, length, Bool, true, false, cond, not, Option, None, Some, Result}
+use Rattle.std.proofs.Common.{Ok, Err, refl, ap, subst}
 use Rattle.std.specs.Prelude.{◌&&◌, ◌||◌, pos, codes}
 use mathlib.Core.List.{reverse_aux}
 use Rattle.std.specs.List.{list_any}
@@ -33,16 +34,24 @@ use Rattle.spec_meaning.specs.Value as value
 use Rattle.spec_meaning.specs.Value.{Value}
 use Rattle.spec_meaning.specs.Question as question
 use Rattle.spec_meaning.specs.Question.{Question, Answer, nodes_in, text_in, local_in, uri_in, written_in}
-use Rattle.spec_meaning.specs.Program.{Program, Give, Refuse, Wanted, Position, Size, Given, Supply, Read, Said, Lacks, Saw, then, if_given, outcome_of, reads_of, count_in, value_in}
+use Rattle.spec_meaning.specs.Program.{Program, Give, Refuse, Wanted, Position, Size, Given, Supply, Read, Said, Lacks, Saw, then, if_given}
+use Rattle.spec_meaning.specs.Program.{outcome_of, reads_of, count_in, value_in}
 use Rattle.spec_meaning.specs.Context.{Context, Bound, binding_of}
 use Rattle.spec_meaning.specs.Convert as convert
 use Rattle.spec_meaning.specs.Convert.{given, text_at, first_text, to_text, to_number, to_boolean, to_nodes, is_some_node}
-use Rattle.spec_meaning.specs.Compare.{is_equality, Operand, OfNode, OfText, OfNumber, number_in, text_in_operand, operands, is_boolean, is_number, set_as_boolean, searched, any_left, after_first, some_pair, goes_by_texts, operands_compared, compared, texts_satisfy, numbers_satisfy}
+use Rattle.spec_meaning.specs.Compare.{is_equality, Operand, OfNode, OfText, OfNumber, number_in, text_in_operand, operands, is_boolean, is_number}
+use Rattle.spec_meaning.specs.Compare.{set_as_boolean, searched, any_left, after_first, some_pair, goes_by_texts, operands_compared, compared}
+use Rattle.spec_meaning.specs.Compare.{texts_satisfy, numbers_satisfy}
 use Rattle.spec_meaning.specs.Operation.{computed, arithmetic, in_order, united, comparison, combined, is_decided, linked}
 use Rattle.spec_meaning.specs.Function.{function_of}
-use Rattle.spec_meaning.specs.Call.{value_or_node, argument, all_texts, arranged, known_or_needed, of_context, summed, of_first, of_nodes, of_texts, language_at, language_of, name_meant, xslt, system_property, of_text, of_value, length_argument, substring_of, nodes_or_refused, nodes_of_key, nodes_of_keys, keyed, key_of, applied, called}
+use Rattle.spec_meaning.specs.Call.{value_or_node, argument, all_texts, arranged, known_or_needed, of_context, summed, of_first, of_nodes, of_texts}
+use Rattle.spec_meaning.specs.Call.{language_at, language_of, name_meant, xslt, system_property, of_text, of_value, length_argument, substring_of}
+use Rattle.spec_meaning.specs.Call.{nodes_or_refused, nodes_of_key, nodes_of_keys, keyed, key_of, applied, called}
 use Rattle.spec_meaning.specs.Meaning.{bound_or_global, last_of, keeps, kept, stepped, meaning, values_of, chained, kept_by, along}
-use Rattle.spec_meaning.specs.Related.{Each, none, more, Both, neither, both, Questions, steps, texts, names, places, orders, keys, Answers, gone, refused, some_nodes, some_text, named, chosen, copied, some_unit, passed, Values, number, text, boolean, nodes, fragment, Givens, counted, valued, Bindings, bound, Contexts, context, Match, gives, refuses, asks, needs, Outcomes, both_give, both_refuse, both_lack, ReadsAlike, asked_alike, saw_alike, Worlds, SuppliesAlike}
+use Rattle.spec_meaning.specs.Related.{Each, none, more, Both, neither, both, Questions, steps, texts, names, places, orders, keys, Answers, gone}
+use Rattle.spec_meaning.specs.Related.{refused, some_nodes, some_text, named, chosen, copied, some_unit, passed, Values, number, text, boolean, nodes}
+use Rattle.spec_meaning.specs.Related.{fragment, Givens, counted, valued, Bindings, bound, Contexts, context, Match, gives, refuses, asks, needs}
+use Rattle.spec_meaning.specs.Related.{Outcomes, both_give, both_refuse, both_lack, ReadsAlike, asked_alike, saw_alike, Worlds, SuppliesAlike}
 
 -- ---- programs
 pub then_match : {N M A B C D : Type 0} {R : N → M → Type 0} {S : A → B → Type 0} {T : C → D → Type 0} {p : Program N A} {q : Program M B}
@@ -103,7 +112,8 @@ either_value : {N M : Type 0} {R : N → M → Type 0} (b : Bool) {p q : Value N
 either_value true h g = h
 either_value false h g = g
 
-pub each_append : {A B : Type 0} {R : A → B → Type 0} {xs : List A} {ys : List B} {zs : List A} {ws : List B} → Each R xs ys → Each R zs ws → Each R (xs ++ zs) (ys ++ ws)
+pub each_append : {A B : Type 0} {R : A → B → Type 0} {xs : List A} {ys : List B} {zs : List A} {ws : List B} → Each R xs ys → Each R zs ws
+    → Each R (xs ++ zs) (ys ++ ws)
 each_append none g = g
 each_append (more h hs) g = more h (each_append hs g)
 
@@ -276,7 +286,8 @@ set_as_boolean_match boolean = boolean
 set_as_boolean_match (nodes h) = boolean_alike (to_boolean_match (nodes h))
 set_as_boolean_match fragment = boolean
 
-besides : {N M : Type 0} {R : N → M → Type 0} (b : Bool) {v : Value N} {w : Value M} → Values R v w → Values R (cond b (set_as_boolean v) v) (cond b (set_as_boolean w) w)
+besides : {N M : Type 0} {R : N → M → Type 0} (b : Bool) {v : Value N} {w : Value M} → Values R v w
+    → Values R (cond b (set_as_boolean v) v) (cond b (set_as_boolean w) w)
 besides b h = either_value b (set_as_boolean_match h) h
 
 -- how operands are read in two worlds
@@ -336,7 +347,8 @@ in_order_match h = asks (orders h) (λ x y e. gives (nodes_match e))
 united_match : {N M : Type 0} {R : N → M → Type 0} {v x : Value N} {w y : Value M} → Values R v w → Values R x y
     → Match R (Values R) (united v x) (united w y)
 united_match h g =
-    then_match (to_nodes_match h) (λ ns ms s. then_match (to_nodes_match g) (λ os ps t. then_match (in_order_match (each_append s t)) (λ all same k. gives (nodes k))))
+    then_match (to_nodes_match h) (λ ns ms s. then_match (to_nodes_match g) (λ os ps t.
+    then_match (in_order_match (each_append s t)) (λ all same k. gives (nodes k))))
 
 comparison_match : {N M : Type 0} {R : N → M → Type 0} (operator : Operator) {v x : Value N} {w y : Value M} → Values R v w → Values R x y
     → Match R (Values R) (comparison operator v x) (comparison operator w y)
@@ -359,7 +371,8 @@ combined_match op.Multiply h g = arithmetic_match op.Multiply h g
 combined_match op.Divide h g = arithmetic_match op.Divide h g
 combined_match op.Modulo h g = arithmetic_match op.Modulo h g
 
-is_decided_match : {N M : Type 0} {R : N → M → Type 0} (operator : Operator) {v : Value N} {w : Value M} → Values R v w → is_decided operator v ≡ is_decided operator w
+is_decided_match : {N M : Type 0} {R : N → M → Type 0} (operator : Operator) {v : Value N} {w : Value M} → Values R v w
+    → is_decided operator v ≡ is_decided operator w
 is_decided_match op.Or h = to_boolean_match h
 is_decided_match op.And h = ap (λ b. cond b false true) (to_boolean_match h)
 is_decided_match op.Union h = refl
@@ -402,7 +415,8 @@ each_reverse_aux : {A B : Type 0} {R : A → B → Type 0} {xs : List A} {ys : L
 each_reverse_aux none g = g
 each_reverse_aux (more h hs) g = each_reverse_aux hs (more h g)
 
-pub in_axis_order_match : {A B : Type 0} {R : A → B → Type 0} (axis : Axis) {xs : List A} {ys : List B} → Each R xs ys → Each R (in_axis_order axis xs) (in_axis_order axis ys)
+pub in_axis_order_match : {A B : Type 0} {R : A → B → Type 0} (axis : Axis) {xs : List A} {ys : List B} → Each R xs ys
+    → Each R (in_axis_order axis xs) (in_axis_order axis ys)
 in_axis_order_match axis h = either_each (is_reverse axis) (each_reverse_aux h none) h
 
 arranged_match : {N M : Type 0} {R : N → M → Type 0} {ns : List N} {ms : List M} (axis : Axis) {xs : List N} {ys : List M} → Each R ns ms → Each R xs ys
@@ -463,21 +477,22 @@ language_of_match : {N M : Type 0} {R : N → M → Type 0} (wanted : List ℕ) 
 language_of_match wanted none = gives boolean
 language_of_match wanted (more h hs) = asks (steps h) (λ x y e. language_at_match wanted (language_of_match wanted hs) (nodes_match e))
 
-by_expanded : {N M : Type 0} {R : N → M → Type 0} (name : Option Expanded)
-    → Match R Same (elim name [ None ↦ Refuse (question.Here code.BadName) | Some expanded ↦ Give expanded ])
-    (elim name [ None ↦ Refuse (question.Here code.BadName) | Some expanded ↦ Give expanded ])
-by_expanded None = refuses
-by_expanded (Some expanded) = gives refl
+abbrev by_expanded : {N : Type 0} → Option Expanded → Program N Expanded
+by_expanded name = elim name [ None ↦ Refuse (question.Here code.BadName) | Some expanded ↦ Give expanded ]
+
+abbrev by_qname : {N : Type 0} → Scope → Option QName → Program N Expanded
+by_qname scope written = elim written [ None ↦ Refuse (question.Here code.BadName) | Some name ↦ by_expanded (attribute_name scope name) ]
+
+by_expanded_match : {N M : Type 0} {R : N → M → Type 0} (name : Option Expanded) → Match R Same (by_expanded name) (by_expanded name)
+by_expanded_match None = refuses
+by_expanded_match (Some expanded) = gives refl
+
+by_qname_match : {N M : Type 0} {R : N → M → Type 0} (scope : Scope) (written : Option QName) → Match R Same (by_qname scope written) (by_qname scope written)
+by_qname_match scope None = refuses
+by_qname_match scope (Some name) = by_expanded_match (attribute_name scope name)
 
 name_meant_match : {N M : Type 0} {R : N → M → Type 0} (scope : Scope) (t : List ℕ) → Match R Same (name_meant scope t) (name_meant scope t)
-name_meant_match {N} {M} {R} scope t = by_qname (qname_of t)
-  where
-    by_qname : (written : Option QName)
-        → Match {N = N} {M = M} R Same
-        (elim written [ None ↦ Refuse (question.Here code.BadName) | Some name ↦ elim (attribute_name scope name) [ None ↦ Refuse (question.Here code.BadName) | Some expanded ↦ Give expanded ] ])
-        (elim written [ None ↦ Refuse (question.Here code.BadName) | Some name ↦ elim (attribute_name scope name) [ None ↦ Refuse (question.Here code.BadName) | Some expanded ↦ Give expanded ] ])
-    by_qname None = refuses
-    by_qname (Some name) = by_expanded (attribute_name scope name)
+name_meant_match scope t = by_qname_match scope (qname_of t)
 
 system_property_match : {N M : Type 0} {R : N → M → Type 0} (name : Expanded) → Values R (system_property name) (system_property name)
 system_property_match name =
@@ -620,15 +635,18 @@ mutual
   meaning_match (tree.number n) h = counted_match n
   meaning_match (tree.literal t) h = gives text
   meaning_match (tree.variable name) (context h g bs) = bound_or_global_match name (binding_match name bs)
-  meaning_match (tree.call name arguments) h = then_match (values_of_match arguments h none) (λ vs ws k. called_alike (ap (function_of name) (each_length k)) k h)
+  meaning_match (tree.call name arguments) h =
+      then_match (values_of_match arguments h none) (λ vs ws k. called_alike (ap (function_of name) (each_length k)) k h)
   meaning_match (tree.chain e links) h = then_match (meaning_match e h) (λ v w k. chained_match links h k)
   meaning_match (tree.negation signs e) h = then_match (meaning_match e h) (λ v w k. then_same (to_number_match k) (λ n. gives number))
   meaning_match (tree.filter e predicates) h =
-      then_match (meaning_match e h) (λ v w k. then_match (to_nodes_match k) (λ ns ms g. then_match (kept_by_match predicates h g) (λ xs ys s. gives (nodes s))))
+      then_match (meaning_match e h) (λ v w k. then_match (to_nodes_match k) (λ ns ms g.
+      then_match (kept_by_match predicates h g) (λ xs ys s. gives (nodes s))))
   meaning_match tree.root (context h g bs) = asks (steps h) (λ x y e. gives (nodes (last_of_match (nodes_match e))))
   meaning_match tree.here (context h g bs) = gives (nodes (more h none))
   meaning_match (tree.path e ss) h =
-      then_match (meaning_match e h) (λ v w k. then_match (to_nodes_match k) (λ ns ms g. then_match (along_match ss h g) (λ xs ys s. gives (nodes s))))
+      then_match (meaning_match e h) (λ v w k. then_match (to_nodes_match k) (λ ns ms g.
+      then_match (along_match ss h g) (λ xs ys s. gives (nodes s))))
 
   values_of_match : {N M : Type 0} {R : N → M → Type 0} (es : Exprs) {c : Context N} {d : Context M} → Contexts R c d
       → {done : List (Value N)} {also : List (Value M)} → Each (Values R) done also

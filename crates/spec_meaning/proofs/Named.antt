@@ -22,17 +22,20 @@ use Rattle.spec_meaning.specs.Question as question
 use Rattle.spec_meaning.specs.Question.{Answer}
 use Rattle.spec_meaning.specs.Step.{is_principal, is_in_namespace, is_of_type, has_local, passes}
 use Rattle.spec_meaning.specs.Truth.{answer_by, positions_text, ending_text}
-use Rattle.spec_meaning.specs.Related.{Each, none, more, steps, texts, names, places, orders, keys, choices, copies, units, externals, Answers, gone, some_nodes, some_text, named, Worlds}
+use Rattle.spec_meaning.specs.Related.{Each, none, more, steps, texts, names, places, orders, keys, choices, copies, units, externals, Answers, gone}
+use Rattle.spec_meaning.specs.Related.{some_nodes, some_text, named, Worlds}
 use Rattle.spec_meaning.specs.Naming.{Beside, first, later, Names, Alike, AllDiffer, AreApart, unlabelled}
 use Rattle.spec_meaning.proofs.Matching.{in_axis_order_match, each_append}
 
 -- ---- entries told by their keys
-left_differs : {A B K : Type 0} (key : A → K) (same : K → K → Bool) (x : A) {xs : List A} {ys : List B} {d : A} {g : B} → AllDiffer key same x xs → Beside xs ys d g
+left_differs : {A B K : Type 0} (key : A → K) (same : K → K → Bool) (x : A) {xs : List A} {ys : List B} {d : A} {g : B}
+    → AllDiffer key same x xs → Beside xs ys d g
     → (same (key x) (key d) ≡ false) × (same (key d) (key x) ≡ false)
 left_differs key same x h first = (h.0, h.1)
 left_differs key same x h (later b) = left_differs key same x h.2 b
 
-right_differs : {A B K : Type 0} (key : B → K) (same : K → K → Bool) (y : B) {xs : List A} {ys : List B} {d : A} {g : B} → AllDiffer key same y ys → Beside xs ys d g
+right_differs : {A B K : Type 0} (key : B → K) (same : K → K → Bool) (y : B) {xs : List A} {ys : List B} {d : A} {g : B}
+    → AllDiffer key same y ys → Beside xs ys d g
     → (same (key y) (key g) ≡ false) × (same (key g) (key y) ≡ false)
 right_differs key same y h first = (h.0, h.1)
 right_differs key same y h (later b) = right_differs key same y h.2 b
@@ -98,7 +101,8 @@ same_name : {N M : Type 0} {R : N → M → Type 0} {k l : Kind} {n m : Option E
     → Answers R (question.Named k n s) (question.Named l m t)
 same_name {R = R} {k = k} {n = n} {m = m} {s = s} {t = t} kind name written =
     subst (λ l. Answers R (question.Named k n s) (question.Named l m t)) kind
-    (subst (λ x. Answers R (question.Named k n s) (question.Named k x t)) name (subst (λ x. Answers R (question.Named k n s) (question.Named k n x)) written named))
+    (subst (λ x. Answers R (question.Named k n s) (question.Named k x t)) name
+    (subst (λ x. Answers R (question.Named k n s) (question.Named k n x)) written named))
 
 same_any : {L M K J : Type 0} (key : Entry L → K) (same : K → K → Bool) (also : Entry M → J) (like : J → J → Bool) (es : List (Entry L)) (fs : List (Entry M))
     → AreApart key same es → AreApart also like fs → {ns : List K} {ms : List J} → Each (Names key also es fs) ns ms
@@ -114,7 +118,8 @@ same_any key same also like es fs h k (more {x = x} {y = y} {xs = xs} {ys = ys} 
 pub worlds : {L M K J : Type 0} (key : Entry L → K) (same : K → K → Bool) (also : Entry M → J) (like : J → J → Bool) (es : List (Entry L)) (fs : List (Entry M))
     → Each Alike es fs → AreApart key same es → AreApart also like fs → Worlds (Names key also es fs) (answer_by key same es) (answer_by also like fs)
 worlds key same also like es fs alike h k _ _ (steps {axis = axis} {test = test} n) =
-    at_names key also (λ x y. Answers (Names key also es fs) (answer_by key same es (question.Step x axis test)) (answer_by also like fs (question.Step y axis test)))
+    at_names key also
+    (λ x y. Answers (Names key also es fs) (answer_by key same es (question.Step x axis test)) (answer_by also like fs (question.Step y axis test)))
     (λ e f b. let a = alike_at alike b in
     rw (left_found key same h b, right_found also like k b)
     (some_nodes (in_axis_order_match axis (each_picked key also es fs _ _ alike (λ d g c. c) (λ d g c. let o = alike_at alike c in
@@ -159,7 +164,8 @@ namespaces_alike : {L M : Type 0} (positions : List ℕ) (element : Found L) (ot
     → Each Alike (namespace_entries positions element number ns) (namespace_entries positions other number ns)
 namespaces_alike positions element other number [] = none
 namespaces_alike positions element other number (n ∷ ns) =
-    more (record { place = refl; number = refl; kind = refl; name = refl; written = refl; text = refl }) (namespaces_alike positions element other (number + 1) ns)
+    more (record { place = refl; number = refl; kind = refl; name = refl; written = refl; text = refl })
+    (namespaces_alike positions element other (number + 1) ns)
 
 attributes_alike : {L M : Type 0} (positions : List ℕ) (content : Option Content) (above : List Content) (l : L) (m : M) (f : Forest L) (g : Forest M)
     (number : ℕ) (xs : List Written)
@@ -167,7 +173,8 @@ attributes_alike : {L M : Type 0} (positions : List ℕ) (content : Option Conte
     (attribute_entries positions (record { label = m; content = content; children = g; above = above }) number xs)
 attributes_alike positions content above l m f g number [] = none
 attributes_alike positions content above l m f g number (x ∷ xs) =
-    more (record { place = refl; number = refl; kind = refl; name = refl; written = refl; text = refl }) (attributes_alike positions content above l m f g (number + 1) xs)
+    more (record { place = refl; number = refl; kind = refl; name = refl; written = refl; text = refl })
+    (attributes_alike positions content above l m f g (number + 1) xs)
 
 own_alike : {L : Type 0} (positions : List ℕ) (above : List Content) (label : L) (content : Content) (children : Forest L)
     → Each Alike (own_entries positions (found_in above tt content (plain children))) (own_entries positions (found_in above label content children))

@@ -2,7 +2,8 @@
 use Rattle.std.proofs.Common.{◌≡◌, ℕ, List, [], ◌∷◌, Option, None, Some, refl, sym, ap, ◌∙◌, append_assoc}
 use Rattle.std.proofs.lemmas.List.{append-nil}
 use Rattle.spec_meaning.specs.Question.{Question, Answer}
-use Rattle.spec_meaning.specs.Program.{Wanted, Given, Program, Give, Refuse, Ask, Need, Read, Asked, Saw, State, Said, Gives, Refuses, Lacks, IsEnded, Ending, Supply, with_read, with_reads, noted, asked, if_given, run, outcome_of, reads_of, Hold}
+use Rattle.spec_meaning.specs.Program.{Wanted, Given, Program, Give, Refuse, Ask, Need, Read, Asked, Saw, State, Said, Gives, Refuses, Lacks, IsEnded}
+use Rattle.spec_meaning.specs.Program.{Ending, Supply, with_read, with_reads, noted, asked, if_given, run, outcome_of, reads_of, Hold}
 
 -- a program ends alike and reads the same
 abbrev pub Agree : {N A : Type 0} → (ask other : Question N → Answer N) → (supply others : Supply N) → (depth : ℕ) → Program N A → Type 0
@@ -11,7 +12,8 @@ Agree ask other supply others depth p =
 
 -- the same of a need, where this is given
 need_agrees : {N A : Type 0} (ask other : Question N → Answer N) (supply others : Supply N) (depth : ℕ) (w : Wanted) (next : Given N → Program N A)
-    → ((g : Given N) → Hold other others (reads_of ask supply depth (next g)) → IsEnded (outcome_of ask supply (next g)) → Agree ask other supply others depth (next g))
+    → ((g : Given N) → Hold other others (reads_of ask supply depth (next g)) → IsEnded (outcome_of ask supply (next g))
+    → Agree ask other supply others depth (next g))
     → (given : Option (Given N))
     → Hold other others (if_given (λ g. Saw w depth g ∷ reads_of ask supply depth (next g)) [] given)
     → IsEnded (if_given (λ g. outcome_of ask supply (next g)) (Lacks w) given)
@@ -56,7 +58,8 @@ need_ends : {N A : Type 0} (supply : Supply N) (depth : ℕ) (w : Wanted) (next 
     → ((g : Given N) (t : State N) → run supply depth (next g) t ≡ ended (outcome_of t.truth supply (next g)) (reads_of t.truth supply depth (next g)) t)
     → (given : Option (Given N))
     → if_given (λ g. run supply depth (next g) (noted (Saw w depth g) s)) (record { said = Lacks w; state = s }) given
-    ≡ ended (if_given (λ g. outcome_of s.truth supply (next g)) (Lacks w) given) (if_given (λ g. Saw w depth g ∷ reads_of s.truth supply depth (next g)) [] given) s
+    ≡ ended (if_given (λ g. outcome_of s.truth supply (next g)) (Lacks w) given)
+    (if_given (λ g. Saw w depth g ∷ reads_of s.truth supply depth (next g)) [] given) s
 need_ends supply depth w next s later None = ends_at_once (Lacks w) s
 need_ends supply depth w next s later (Some g) =
     later g (noted (Saw w depth g) s) ∙ ends_later (outcome_of s.truth supply (next g)) (Saw w depth g) (reads_of s.truth supply depth (next g)) s

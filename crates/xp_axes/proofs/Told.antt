@@ -6,7 +6,8 @@ use Rattle.std.proofs.lemmas.Bool.{and_parts}
 use Rattle.std.proofs.lemmas.Bool.Decides.{Decides-eqb}
 use Rattle.std.proofs.lemmas.List.Folds.{list_any-append}
 use Rattle.spec_document.specs.Forest.{Written, Content, Forest, Empty, Node, Document, labels}
-use Rattle.spec_document.specs.Place.{Itself, AtAttribute, AtNamespace, Found, root_of, found_in, TreeNode, AttributeNode, NamespaceNode, attributes_of, namespaces_of}
+use Rattle.spec_document.specs.Place.{Itself, AtAttribute, AtNamespace, Found, root_of, found_in, TreeNode, AttributeNode, NamespaceNode}
+use Rattle.spec_document.specs.Place.{attributes_of, namespaces_of}
 use Rattle.spec_document.specs.Order.{Entry, namespace_entries, attribute_entries, own_entries, entries_in, entries_of}
 use Rattle.spec_meaning.specs.Naming.{AllDiffer, AreApart}
 use Rattle.xt_tree.specs.Numbers.{are_distinct, IsNumbered}
@@ -242,14 +243,16 @@ not_behind xs ys n h k = by (is_among n ys) refl
     by true e = absurd (apart (is_among n xs) k (not_before xs ys n h e))
     by false e = refl
 
-siblings_told : (above : List Content) (parent : List ℕ) (position : ℕ) (f : Forest ℕ) → are_distinct (labels f) ≡ true → Told (entries_in above parent position f)
+siblings_told : (above : List Content) (parent : List ℕ) (position : ℕ) (f : Forest ℕ) → are_distinct (labels f) ≡ true
+    → Told (entries_in above parent position f)
 siblings_told above parent position Empty h = tt
 siblings_told above parent position (Node l c f g) h =
     let node = found_in above l c f in
     let here = parent ++ position ∷ [] in
     let parts = and_parts (not (is_among l (labels f ++ labels g))) (are_distinct (labels f ++ labels g)) h in
     let both = distinct_parts (labels f) (labels g) parts.1 in
-    let front : (n : ℕ) → is_among n (l ∷ []) ≡ true → is_among n (labels f ++ labels g) ≡ false = λ n k. front_alone l n (labels f ++ labels g) (not_false _ parts.0) k in
+    let front : (n : ℕ) → is_among n (l ∷ []) ≡ true → is_among n (labels f ++ labels g) ≡ false =
+    λ n k. front_alone l n (labels f ++ labels g) (not_false _ parts.0) k in
     let inner = siblings_among (c ∷ above) here 1 f in
     let rest = siblings_among above parent (position + 1) g in
     let first : (n : ℕ) → is_among n (l ∷ labels f) ≡ true → is_among n (labels g) ≡ false = λ n k. not_behind (l ∷ labels f) (labels g) n h k in
@@ -259,7 +262,8 @@ siblings_told above parent position (Node l c f g) h =
     (among_append (l ∷ labels f) (own_entries here node) (entries_in (c ∷ above) here 1 f)
     (among_left (l ∷ []) (labels f) (own_entries here node) (own_among here node)) (among_right (l ∷ []) (labels f) (entries_in (c ∷ above) here 1 f) inner))
     rest
-    (told_append (l ∷ []) (labels f) children (own_entries here node) _ (own_among here node) inner (own_told here node) (siblings_told (c ∷ above) here 1 f both.0))
+    (told_append (l ∷ []) (labels f) children (own_entries here node) _ (own_among here node) inner (own_told here node)
+    (siblings_told (c ∷ above) here 1 f both.0))
     (siblings_told above parent (position + 1) g both.1)
 
 pub all_told : (document : Document ℕ) → IsNumbered document → Told (entries_of document)
