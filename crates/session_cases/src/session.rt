@@ -1,10 +1,11 @@
 // Sessions, one after another.
 
 use crate::line::push_line;
+use crate::one_byte::{Giver, Taker};
 use crate::setting::Setting;
 use crate::show::push_bytes;
 use std::alloc::Global;
-use xt_io::{MemSink, MemSource};
+use xt_io::{MemSink, MemSource, Sink, Source, StdSink, StdSource};
 use xt_session::{run, serve};
 use xt_text::Memory;
 
@@ -98,17 +99,55 @@ fn answer(alloc: Global, out: &mut String, head: &str, input: &[u8]) -> Result<(
 }
 
 fn play(alloc: Global, out: &mut String, setting: &Setting, input: &[u8]) -> Result<(), Memory> {
+    if setting.is_over_std {
+        play_over_std(alloc, out, setting, input)
+    } else {
+        play_over_memory(alloc, out, setting, input)
+    }
+}
+
+fn play_over_memory(
+    alloc: Global,
+    out: &mut String,
+    setting: &Setting,
+    input: &[u8],
+) -> Result<(), Memory> {
     let mut from = MemSource::new(alloc, input, setting.reads.as_slice())?;
     if setting.pieces > 0 {
         from = from.in_pieces(setting.pieces);
     }
     let mut to = MemSink::new(alloc, setting.room, setting.writes.as_slice())?;
-    let status = match &setting.words {
-        None => serve(alloc, &mut from, &mut to, setting.limit),
-        Some(words) => run(alloc, words.as_slice(), &mut from, &mut to),
-    };
+    let status = served(alloc, setting, &mut from, &mut to);
+    push_status(out, status)?;
+    push_bytes(alloc, out, to.written())
+}
+
+fn play_over_std(
+    alloc: Global,
+    out: &mut String,
+    setting: &Setting,
+    input: &[u8],
+) -> Result<(), Memory> {
+    let mut written = Vec::new(alloc);
+    let mut from = StdSource::new(Giver { rest: input });
+    let mut to = StdSink::new(Taker {
+        taken: &mut written,
+    });
+    let status = served(alloc, setting, &mut from, &mut to);
+    push_status(out, status)?;
+    push_bytes(alloc, out, written.as_slice())
+}
+
+// Serves the session, and gives its status.
+fn served<I: Source, O: Sink>(alloc: Global, setting: &Setting, from: &mut I, to: &mut O) -> u8 {
+    match &setting.words {
+        None => serve(alloc, from, to, setting.limit),
+        Some(words) => run(alloc, words.as_slice(), from, to),
+    }
+}
+
+fn push_status(out: &mut String, status: u8) -> Result<(), Memory> {
     out.push_str("status ")?;
     out.push_str(itoa::Buffer::new().format(status))?;
-    out.push('\n')?;
-    push_bytes(alloc, out, to.written())
+    Ok(out.push('\n')?)
 }

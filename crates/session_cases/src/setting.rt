@@ -18,6 +18,8 @@ pub struct Setting {
     pub reads: Vec<u64>,
     pub writes: Vec<u64>,
     pub room: usize,
+    // over a reader and a writer of std in place of memory
+    pub is_over_std: bool,
     pub words: Option<Vec<String>>,
 }
 
@@ -29,6 +31,7 @@ enum Key {
     Reads,
     Writes,
     Room,
+    Over,
     // and all words behind that one
     Words,
 }
@@ -40,6 +43,7 @@ fn key_of(word: &str) -> Option<Key> {
         "reads" => Some(Key::Reads),
         "writes" => Some(Key::Writes),
         "room" => Some(Key::Room),
+        "over" => Some(Key::Over),
         "words" => Some(Key::Words),
         _ => None,
     }
@@ -78,6 +82,7 @@ impl Setting {
             reads: Vec::new(alloc),
             writes: Vec::new(alloc),
             room: ROOM,
+            is_over_std: false,
             words: None,
         }
     }
@@ -99,6 +104,10 @@ impl Setting {
             Key::Reads => push_numbers(&mut self.reads, word),
             Key::Writes => push_numbers(&mut self.writes, word),
             Key::Limit | Key::Pieces | Key::Room => Ok(self.set_number(key, word)),
+            Key::Over => {
+                self.is_over_std = word == "std";
+                Ok(self.is_over_std)
+            }
         }
     }
 
@@ -120,7 +129,7 @@ impl Setting {
             Key::Limit => self.limit = number,
             Key::Pieces => self.pieces = number as usize,
             Key::Room => self.room = number as usize,
-            Key::Reads | Key::Writes | Key::Words => return false,
+            Key::Reads | Key::Writes | Key::Over | Key::Words => return false,
         }
         true
     }

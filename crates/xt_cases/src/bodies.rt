@@ -7,13 +7,14 @@
 //
 // A document is written as `(root 0 (element 1 a @x="1" (text 2 "hi")))`, each node with its number.
 
-use crate::fault::Fault;
 use crate::scopes::scope;
-use crate::show::{part, push_number, push_part, push_quoted, push_word};
-use crate::words::{Word, behind, halves, number_at, text_at};
+use cases::{
+    Fault, Word, behind, body, document, halves, number_at, part, push_number, push_part,
+    push_quoted, push_word, text_at,
+};
 use std::alloc::Global;
 use std::rc::Rc;
-use xt_build::{BuildFault, Built, Line, Parent, build, build_nodes, lines};
+use xt_build::{BuildFault, Built, Parent, build, build_nodes, lines};
 use xt_names::Scope;
 use xt_text::{Memory, Text};
 use xt_tree::{Content, Doc, Node, NodeId, Written};
@@ -43,28 +44,10 @@ pub fn answer(alloc: Global, out: &mut Text, call: &str, words: &[Word]) -> Resu
     Ok(true)
 }
 
-// The lines that the words are.
-fn body(alloc: Global, words: &[Word]) -> Result<Vec<Line>, Memory> {
-    let mut body = Vec::new(alloc);
-    for word in words {
-        body.push(Line::new(alloc, word.as_slice())?)?;
-    }
-    Ok(body)
-}
-
 fn built(alloc: Global, first: u64, words: &[Word]) -> Result<Result<Built, BuildFault>, Fault> {
     let body = body(alloc, words)?;
     let first = NodeId { number: first };
     Ok(build(alloc, body.as_slice(), &Scope::root(alloc)?, first))
-}
-
-/// The document of these lines.
-pub fn document(alloc: Global, words: &[Word]) -> Result<Doc, Fault> {
-    match built(alloc, 0, words)? {
-        Ok(built) => Ok(built.document),
-        Err(BuildFault::Memory) => Err(Fault::Memory),
-        Err(BuildFault::Refused(_)) => Err(Fault::NoCase),
-    }
 }
 
 fn push_built(alloc: Global, out: &mut Text, first: u64, words: &[Word]) -> Result<(), Fault> {

@@ -1,10 +1,10 @@
 // The numbers of refusals, by what they are: `edit CODE..`, `static CODE..`, `dynamic CODE..`; `steps COUNT N
 // COUNT N ..`, counts of what a change cost; `place MODULE STEP..`; `says ERROR`, the text of an error.
 
-use crate::fault::Fault;
 use crate::parts::{path, push_path};
-use crate::show::{part, push_number, push_part, push_quoted};
-use crate::words::{Word, behind, number_at, text_at, text_of};
+use cases::{
+    Fault, Word, behind, number_at, part, push_number, push_part, push_quoted, text_at, text_of,
+};
 use std::alloc::Global;
 use xt_base::{DynCode, EditCode, NumFault, Place, StaticCode, Steps};
 use xt_io::LineFault;

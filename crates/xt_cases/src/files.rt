@@ -8,9 +8,10 @@
 
 ghost use Rattle.std.specs.Prelude.{◌≤◌};
 
-use crate::fault::Fault;
-use crate::show::{part, push_bytes, push_number, push_part};
-use crate::words::{Word, behind, number_at, number_of, text_at, text_of};
+use cases::{
+    Fault, Word, behind, number_at, number_of, part, push_bytes, push_number, push_part, text_at,
+    text_of,
+};
 use std::alloc::Global;
 use xt_io::{
     LineFault, Lines, MemSink, MemSource, Sink, SkipFault, Source, SureSink, SureSource, write_all,

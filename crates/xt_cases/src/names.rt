@@ -1,9 +1,7 @@
 // Names: `ncname`, `qname`, `use`, `declares` and `reserved`, each of texts; `same-name URI LOCAL URI LOCAL`;
 // `barred PREFIX URI`, whether that may not be declared.
 
-use crate::fault::Fault;
-use crate::show::{part, push_part, push_quoted, push_yes};
-use crate::words::{Word, text_at, text_of};
+use cases::{Fault, Word, part, push_part, push_quoted, push_yes, text_at, text_of};
 use std::alloc::Global;
 use xt_names::{
     AttributeUse, Expanded, QName, is_barred, is_declaration, is_ncname, is_reserved_target, use_of,

@@ -3,11 +3,11 @@
 // the node at each path, `place-of LINE.. : NODE..` the path of each node, `has LINE.. : NODE..` tells whether it
 // is there. A node is written as its number, an attribute as `2@1`, a namespace node as `2#1`.
 
-use crate::bodies::document;
-use crate::fault::Fault;
 use crate::parts::push_path;
-use crate::show::{part, push_name, push_number, push_part, push_quoted, push_yes};
-use crate::words::{Word, halves, number_of, text_of};
+use cases::{
+    Fault, Word, document, halves, node, number_of, part, push_name, push_number, push_part,
+    push_quoted, push_reference, push_yes, text_of,
+};
 use std::alloc::Global;
 use std::rc::Rc;
 use xt_names::Expanded;
@@ -45,24 +45,6 @@ fn path(alloc: Global, text: &str) -> Result<Path, Fault> {
         }
     }
     Ok(path)
-}
-
-// The node that a text like `2`, `2@1` or `2#1` names.
-fn node(text: &str) -> Result<NodeRef, Fault> {
-    if let Some((number, attribute)) = text.split_once('@') {
-        return reference(number, Part::Attribute(number_of(attribute)?));
-    }
-    if let Some((number, namespace)) = text.split_once('#') {
-        return reference(number, Part::Namespace(number_of(namespace)?));
-    }
-    reference(text, Part::Itself)
-}
-
-fn reference(number: &str, part: Part) -> Result<NodeRef, Fault> {
-    let node = NodeId {
-        number: number_of(number)?,
-    };
-    Ok(NodeRef { node, part })
 }
 
 fn push_at(out: &mut Text, document: &Doc, path: &Path) -> Result<(), Memory> {
@@ -149,21 +131,6 @@ fn push_expanded(out: &mut Text, name: &Expanded) -> Result<(), Memory> {
     }
     part(out)?;
     push_name(out, name)
-}
-
-fn push_reference(out: &mut Text, node: &NodeRef) -> Result<(), Memory> {
-    push_number(out, node.node.number)?;
-    match node.part {
-        Part::Itself => Ok(()),
-        Part::Attribute(number) => {
-            out.push('@')?;
-            push_number(out, number)
-        }
-        Part::Namespace(number) => {
-            out.push('#')?;
-            push_number(out, number)
-        }
-    }
 }
 
 fn word_of(kind: Kind) -> &'static str {

@@ -3,9 +3,10 @@
 // STEP..` makes a path, where a number is one step down, `up` one back, which is printed, and `copy` goes on with a copy;
 // `same-path STEP.. : STEP..`.
 
-use crate::fault::Fault;
-use crate::show::{part, push_part, push_quoted, push_yes};
-use crate::words::{Word, behind, halves, number_of, text_at, text_of};
+use cases::{
+    Fault, Word, behind, halves, joined, number_of, part, push_part, push_quoted, push_yes,
+    text_at, text_of,
+};
 use std::alloc::Global;
 use std::cmp::Ordering;
 use xt_text::{Memory, Path, Text, compare, split_first};
@@ -34,15 +35,6 @@ pub fn answer(alloc: Global, out: &mut Text, call: &str, words: &[Word]) -> Resu
         _ => return Ok(false),
     }
     Ok(true)
-}
-
-/// The texts one after another.
-pub fn joined(alloc: Global, words: &[Word]) -> Result<Text, Fault> {
-    let mut whole = Text::new(alloc);
-    for word in words {
-        whole.push_str(text_of(word)?)?;
-    }
-    Ok(whole)
 }
 
 fn spelled(alloc: Global, text: &str) -> Result<Text, Memory> {

@@ -4,9 +4,7 @@
 // bound; `same-scope` compares two scopes. `element-names`, `attribute-names` and `namespaces` take attributes, as `xmlns:p=URI`; so does
 // `doubles`, which tells of each name whether the ones before it are those of an attribute like it.
 
-use crate::fault::Fault;
-use crate::show::{part, push_name, push_part, push_quoted, push_yes};
-use crate::words::{Word, halves, text_of};
+use cases::{Fault, Word, halves, part, push_name, push_part, push_quoted, push_yes, text_of};
 use std::alloc::Global;
 use xt_names::{AttributeNames, Expanded, QName, Scope};
 use xt_text::{Memory, Text};

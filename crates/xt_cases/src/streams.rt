@@ -8,9 +8,7 @@ ghost use Rattle.std.specs.Prelude.{◌≡◌, IfOk};
 ghost use Rattle.spec_meaning.specs.Stream.{holes};
 ghost use Rattle.xt_tree.specs.StreamView.{single_of, stream_of};
 
-use crate::fault::Fault;
-use crate::show::{part, push_part, push_quoted, push_yes};
-use crate::words::{Word, text_at};
+use cases::{Fault, Word, part, push_part, push_quoted, push_yes, text_at};
 use std::alloc::Global;
 use std::rc::Rc;
 use xt_text::{Memory, Text};

@@ -2,10 +2,8 @@
 // PART`, `concat TEXT..`, `substring TEXT START COUNT` (the count may be missing), `length TEXT`, `normalize
 // TEXT`, `translate TEXT FROM TO`, `lang LANGUAGE WANTED`.
 
-use crate::fault::Fault;
 use crate::numbers::{num, push_given};
-use crate::show::{push_quoted, push_yes};
-use crate::words::{Word, text_at, text_of};
+use cases::{Fault, Word, push_quoted, push_yes, text_at, text_of};
 use std::alloc::Global;
 use xp_text::{
     after, before, concat, contains, lang_matches, length, normalize, starts_with, substring,

@@ -3,9 +3,8 @@
 // `message`, `for-each`, `if`, `choose`, `apply-templates`, `call-template`. `instructions-differ WORD..` tells
 // whether each is the same as itself and as no other one. Those that have a content have one text in it.
 
-use crate::fault::Fault;
 use crate::trees::parsed;
-use crate::words::{Word, text_of};
+use cases::{Fault, Word, text_of};
 use std::alloc::Global;
 use xp_syntax::{
     Avt, AvtPart, Binding, Branch, Control, Count, Form, Instr, LiteralTag, MadeName, NumberLevel,

@@ -1,9 +1,7 @@
 // Numbers, which are written as whole numbers of 64 bits or `NaN`: `add`, `sub`, `mul`, `div`, `rem`,
 // `compare` of two, `neg`, `number` and `text` of one; `read TEXT`, the number of a string, is `value`.
 
-use crate::fault::Fault;
-use crate::show::{push_part, push_quoted};
-use crate::words::{Word, text_at};
+use cases::{Fault, Word, push_part, push_quoted, text_at};
 use std::alloc::Global;
 use std::cmp::Ordering;
 use xt_base::{Num, NumFault};

@@ -2,11 +2,9 @@
 // one: they are one stylesheet, with a rule, a template, a global binding, an attribute set, a key, a space
 // rule, an output method and an alias, each changed at one place, `none` without a change.
 
-use crate::fault::Fault;
 use crate::instructions::{binding, content, differ, name, place};
-use crate::show::push_yes;
 use crate::trees::parsed;
-use crate::words::{Word, text_of};
+use cases::{Fault, Word, push_yes, text_of};
 use std::alloc::Global;
 use xp_syntax::{
     Alias, Alternative, AttributeSet, Axis, Declared, GlobalBinding, Key, Method, Pattern,

@@ -7,11 +7,10 @@
 // behind `$`, `(call NAME ARGUMENT..)`, `(chain OPERAND OPERATOR OPERAND ..)` for the operators of one
 // level, `(minus COUNT OPERAND)`, `(filter BASE [PREDICATE]..)`, `root`, `here`, and `(path BASE STEP..)`.
 
-use crate::fault::Fault;
-use crate::parts::joined;
-use crate::show::{push_name, push_number, push_part, push_quoted, push_yes};
 use crate::syntax::{push_axis, push_operator, push_test};
-use crate::words::{Word, text_at, text_of};
+use cases::{
+    Fault, Word, joined, push_name, push_number, push_part, push_quoted, push_yes, text_at, text_of,
+};
 use std::alloc::Global;
 use xp_parse::{ParseFault, parse};
 use xp_syntax::{Expr, Link, Step};

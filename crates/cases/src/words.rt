@@ -3,7 +3,7 @@
 use crate::fault::Fault;
 use percent_encoding::percent_decode;
 use std::alloc::Global;
-use xt_text::Memory;
+use xt_text::{Memory, Text};
 
 /// A word: the bytes that it stands for.
 pub type Word = Vec<u8>;
@@ -27,7 +27,7 @@ struct Cut {
 }
 
 /// The words of a line.
-pub fn words(alloc: Global, line: &str) -> Result<Vec<Word>, Memory> {
+pub fn words_of(alloc: Global, line: &str) -> Result<Vec<Word>, Memory> {
     let mut cut = Cut {
         words: Vec::new(alloc),
         raw: Vec::new(alloc),
@@ -134,6 +134,15 @@ pub fn number_at(words: &[Word], index: usize) -> Result<u64, Fault> {
 /// The number that a text writes.
 pub fn number_of(text: &str) -> Result<u64, Fault> {
     text.parse::<u64>().map_err(|_| Fault::NoCase)
+}
+
+/// The texts of the words, one after another.
+pub fn joined(alloc: Global, words: &[Word]) -> Result<Text, Fault> {
+    let mut whole = Text::new(alloc);
+    for word in words {
+        whole.push_str(text_of(word)?)?;
+    }
+    Ok(whole)
 }
 
 /// The words behind the first so many.
