@@ -4,7 +4,7 @@ use crate::fault::Fault;
 use crate::show::push_number;
 use crate::words::{Word, number_of};
 use std::alloc::Global;
-use xt_build::{BuildFault, Line, build};
+use xt_build::{BuildFault, Built, Line, build};
 use xt_names::Scope;
 use xt_text::{Memory, Text};
 use xt_tree::{Doc, NodeId, NodeRef, Part};
@@ -13,20 +13,21 @@ use xt_tree::{Doc, NodeId, NodeRef, Part};
 pub fn body(alloc: Global, words: &[Word]) -> Result<Vec<Line>, Memory> {
     let mut body = Vec::new(alloc);
     for word in words {
-        body.push(Line::new(alloc, word.as_slice())?)?;
+        let line = Line::new(alloc, word.as_slice())?;
+        body.push(line)?;
     }
     Ok(body)
 }
 
 /// The document of these lines, its nodes numbered from 0.
 pub fn document(alloc: Global, words: &[Word]) -> Result<Doc, Fault> {
+    let scope = Scope::root(alloc)?;
     let body = body(alloc, words)?;
-    match build(
-        alloc,
-        body.as_slice(),
-        &Scope::root(alloc)?,
-        NodeId { number: 0 },
-    ) {
+    document_of(build(alloc, body.as_slice(), &scope, NodeId { number: 0 }))
+}
+
+fn document_of(answer: Result<Built, BuildFault>) -> Result<Doc, Fault> {
+    match answer {
         Ok(built) => Ok(built.document),
         Err(BuildFault::Memory) => Err(Fault::Memory),
         Err(BuildFault::Refused(_)) => Err(Fault::NoCase),

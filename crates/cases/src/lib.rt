@@ -20,4 +20,6 @@ pub use fault::Fault;
 pub use show::{
     part, push_bytes, push_name, push_number, push_part, push_quoted, push_uri, push_word, push_yes,
 };
-pub use words::{Word, behind, halves, joined, number_at, number_of, text_at, text_of, words_of};
+pub use words::{
+    Word, behind, halves, joined, number_at, number_of, one, text_at, text_of, words_of,
+};

@@ -2,6 +2,7 @@
 //! says what calls it answers.
 #![tactic(auto)]
 
+mod axes;
 mod instructions;
 mod numbers;
 mod sheets;
@@ -56,6 +57,7 @@ fn is_answered(alloc: Global, out: &mut Text, call: &str, words: &[Word]) -> Res
         numbers::answer(alloc, out, call, words)?
             || texts::answer(alloc, out, call, words)?
             || trees::answer(alloc, out, call, words)?
-            || sheets::answer(alloc, out, call, words)?,
+            || sheets::answer(alloc, out, call, words)?
+            || axes::answer(alloc, out, call, words)?,
     )
 }

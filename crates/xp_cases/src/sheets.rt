@@ -4,13 +4,14 @@
 
 use crate::instructions::{binding, content, differ, name, place};
 use crate::trees::parsed;
-use cases::{Fault, Word, push_yes, text_of};
+use cases::{Fault, Word, one, push_yes, text_of};
 use std::alloc::Global;
 use xp_syntax::{
     Alias, Alternative, AttributeSet, Axis, Declared, GlobalBinding, Key, Method, Pattern,
     PatternStep, Rule, Rules, Separator, Sheet, SpaceRule, SpaceRules, Start, Step, Template, Test,
     Unit,
 };
+use xt_names::Expanded;
 use xt_text::{Memory, Text};
 
 /// Answers the call, if it is one of these.
@@ -37,12 +38,17 @@ fn sheets_differ(alloc: Global, words: &[Word]) -> Result<bool, Fault> {
 }
 
 fn sheet(alloc: Global, change: &str) -> Result<Sheet, Fault> {
+    let units = units(alloc, change)?;
+    let rules = rules(alloc, change)?;
+    let space_rules = space_rules(alloc, change)?;
+    let method = method(alloc, change)?;
+    let aliases = aliases(alloc, change)?;
     Ok(Sheet {
-        units: units(alloc, change)?,
-        rules: rules(alloc, change)?,
-        space_rules: space_rules(alloc, change)?,
-        method: method(alloc, change)?,
-        aliases: aliases(alloc, change)?,
+        units,
+        rules,
+        space_rules,
+        method,
+        aliases,
     })
 }
 
@@ -56,128 +62,169 @@ fn word<'a>(change: &str, wanted: &str, changed: &'a str, usual: &'a str) -> &'a
 }
 
 fn units(alloc: Global, change: &str) -> Result<Vec<Unit>, Fault> {
-    let mut units = Vec::new(alloc);
-    units.push(unit(alloc, change, Declared::Template(template(alloc, change)?))?)?;
-    units.push(unit(alloc, change, Declared::Global(global(alloc, change)?))?)?;
-    units.push(unit(
+    let template = unit(alloc, change, Declared::Template(template(alloc, change)?))?;
+    let global = unit(alloc, change, Declared::Global(global(alloc, change)?))?;
+    let set = unit(
         alloc,
         change,
         Declared::AttributeSet(attribute_set(alloc, change)?),
-    )?)?;
-    units.push(unit(alloc, change, Declared::Key(key(alloc, change)?))?)?;
+    )?;
+    let key = unit(alloc, change, Declared::Key(key(alloc, change)?))?;
+    let mut units = Vec::new(alloc);
+    units.push(template)?;
+    units.push(global)?;
+    units.push(set)?;
+    units.push(key)?;
     Ok(units)
 }
 
 fn unit(alloc: Global, change: &str, declared: Declared) -> Result<Unit, Memory> {
+    let place = place(alloc)?;
     Ok(Unit {
-        place: place(alloc)?,
+        place,
         precedence: number(change, "unit-precedence"),
         declared,
     })
 }
 
 fn template(alloc: Global, change: &str) -> Result<Template, Fault> {
-    let mut parameters = Vec::new(alloc);
-    parameters.push(binding(alloc, word(change, "parameter", "2", "1"))?)?;
+    let parameter = binding(alloc, word(change, "parameter", "2", "1"))?;
+    let parameters = one(alloc, parameter)?;
+    let name = name(alloc, word(change, "template-name", "u", "t"))?;
+    let content = content(alloc)?;
     Ok(Template {
-        name: Some(name(alloc, word(change, "template-name", "u", "t"))?),
+        name: Some(name),
         parameters,
-        content: content(alloc)?,
+        content,
     })
 }
 
 fn global(alloc: Global, change: &str) -> Result<GlobalBinding, Fault> {
+    let binding = binding(alloc, word(change, "global", "2", "1"))?;
     Ok(GlobalBinding {
         is_parameter: change == "is-parameter",
-        binding: binding(alloc, word(change, "global", "2", "1"))?,
+        binding,
     })
 }
 
 fn attribute_set(alloc: Global, change: &str) -> Result<AttributeSet, Memory> {
-    let mut sets = Vec::new(alloc);
-    sets.push(name(alloc, word(change, "used-set", "y", "x"))?)?;
+    let used = name(alloc, word(change, "used-set", "y", "x"))?;
+    let sets = one(alloc, used)?;
+    let name = name(alloc, word(change, "set-name", "t", "s"))?;
     Ok(AttributeSet {
-        name: name(alloc, word(change, "set-name", "t", "s"))?,
+        name,
         sets,
         attributes: Vec::new(alloc),
     })
 }
 
 fn key(alloc: Global, change: &str) -> Result<Key, Fault> {
+    let value = parsed(alloc, word(change, "key-value", "@j", "@i"))?;
+    let pattern = pattern(alloc, "none")?;
+    let name = name(alloc, word(change, "key-name", "l", "k"))?;
     Ok(Key {
-        name: name(alloc, word(change, "key-name", "l", "k"))?,
-        pattern: pattern(alloc, "none")?,
-        value: parsed(alloc, word(change, "key-value", "@j", "@i"))?,
+        name,
+        pattern,
+        value,
     })
 }
 
 fn pattern(alloc: Global, change: &str) -> Result<Pattern, Memory> {
-    let mut steps = Vec::new(alloc);
-    steps.push(PatternStep {
-        separator: if change == "separator" {
-            Separator::Descendant
-        } else {
-            Separator::Child
-        },
+    let start = start(alloc, change)?;
+    let steps = one(alloc, pattern_step(alloc, change)?)?;
+    let alternatives = one(alloc, Alternative { start, steps })?;
+    Ok(Pattern { alternatives })
+}
+
+fn pattern_step(alloc: Global, change: &str) -> Result<PatternStep, Memory> {
+    let name = name(alloc, word(change, "step", "b", "a"))?;
+    Ok(PatternStep {
+        separator: separator(change),
         step: Step {
             axis: Axis::Child,
-            test: Test::Named(name(alloc, word(change, "step", "b", "a"))?),
+            test: Test::Named(name),
             predicates: Vec::new(alloc),
         },
-    })?;
-    let mut alternatives = Vec::new(alloc);
-    alternatives.push(Alternative {
-        start: start(alloc, change)?,
-        steps,
-    })?;
-    Ok(Pattern { alternatives })
+    })
+}
+
+fn separator(change: &str) -> Separator {
+    if change == "separator" {
+        Separator::Descendant
+    } else {
+        Separator::Child
+    }
 }
 
 fn start(alloc: Global, change: &str) -> Result<Start, Memory> {
     match change {
         "root" => Ok(Start::Root),
         "id" => Ok(Start::Id(Text::from_str(alloc, "i")?)),
-        "key" => Ok(Start::Key(Some(name(alloc, "k")?), Text::from_str(alloc, "i")?)),
+        "key" => {
+            let name = name(alloc, "k")?;
+            let value = Text::from_str(alloc, "i")?;
+            Ok(Start::Key(Some(name), value))
+        }
         "nameless-key" => Ok(Start::Key(None, Text::from_str(alloc, "i")?)),
         _ => Ok(Start::Anywhere),
     }
 }
 
 fn rules(alloc: Global, change: &str) -> Result<Rules, Memory> {
-    let mut rules = Vec::new(alloc);
-    rules.push(Rule {
-        pattern: pattern(alloc, change)?,
-        precedence: number(change, "precedence"),
-        imported: number(change, "imported"),
-        priority: if change == "priority" {
-            -500_000
-        } else {
-            500_000
-        },
-        order: number(change, "order"),
-        mode: if change == "mode" {
-            Some(name(alloc, "m")?)
-        } else {
-            None
-        },
-        unit: number(change, "unit"),
-    })?;
+    let pattern = pattern(alloc, change)?;
+    let mode = mode(alloc, change)?;
+    let rules = one(alloc, rule(change, pattern, mode))?;
     Ok(Rules { rules })
 }
 
+fn rule(change: &str, pattern: Pattern, mode: Option<Expanded>) -> Rule {
+    Rule {
+        pattern,
+        precedence: number(change, "precedence"),
+        imported: number(change, "imported"),
+        priority: priority(change),
+        order: number(change, "order"),
+        mode,
+        unit: number(change, "unit"),
+    }
+}
+
+fn priority(change: &str) -> i64 {
+    if change == "priority" {
+        -500_000
+    } else {
+        500_000
+    }
+}
+
+fn mode(alloc: Global, change: &str) -> Result<Option<Expanded>, Memory> {
+    if change == "mode" {
+        Ok(Some(name(alloc, "m")?))
+    } else {
+        Ok(None)
+    }
+}
+
 fn space_rules(alloc: Global, change: &str) -> Result<SpaceRules, Memory> {
-    let mut rules = Vec::new(alloc);
-    rules.push(SpaceRule {
+    let rules = one(alloc, space_rule(change))?;
+    Ok(SpaceRules { rules })
+}
+
+fn space_rule(change: &str) -> SpaceRule {
+    SpaceRule {
         test: Test::AnyName,
         precedence: number(change, "space-precedence"),
-        priority: if change == "space-priority" {
-            0
-        } else {
-            -500_000
-        },
+        priority: space_priority(change),
         strips: change != "preserves",
-    })?;
-    Ok(SpaceRules { rules })
+    }
+}
+
+fn space_priority(change: &str) -> i64 {
+    if change == "space-priority" {
+        0
+    } else {
+        -500_000
+    }
 }
 
 fn method(alloc: Global, change: &str) -> Result<Option<Method>, Memory> {
@@ -191,11 +238,15 @@ fn method(alloc: Global, change: &str) -> Result<Option<Method>, Memory> {
 }
 
 fn aliases(alloc: Global, change: &str) -> Result<Vec<Alias>, Memory> {
-    let mut aliases = Vec::new(alloc);
-    aliases.push(Alias {
-        stylesheet: Text::from_str(alloc, word(change, "alias-uri", "urn:2", "urn:1"))?,
-        prefix: Text::from_str(alloc, word(change, "alias-prefix", "q", "p"))?,
-        result: Text::from_str(alloc, word(change, "alias-result", "urn:4", "urn:3"))?,
-    })?;
-    Ok(aliases)
+    let stylesheet = Text::from_str(alloc, word(change, "alias-uri", "urn:2", "urn:1"))?;
+    let prefix = Text::from_str(alloc, word(change, "alias-prefix", "q", "p"))?;
+    let result = Text::from_str(alloc, word(change, "alias-result", "urn:4", "urn:3"))?;
+    one(
+        alloc,
+        Alias {
+            stylesheet,
+            prefix,
+            result,
+        },
+    )
 }

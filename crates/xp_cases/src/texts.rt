@@ -43,16 +43,18 @@ fn answer_text(alloc: Global, out: &mut Text, call: &str, words: &[Word]) -> Res
 fn texts(alloc: Global, words: &[Word]) -> Result<Vec<Text>, Fault> {
     let mut texts = Vec::new(alloc);
     for word in words {
-        texts.push(Text::from_str(alloc, text_of(word)?)?)?;
+        let text = Text::from_str(alloc, text_of(word)?)?;
+        texts.push(text)?;
     }
     Ok(texts)
 }
 
 fn cut_out(alloc: Global, words: &[Word]) -> Result<Text, Fault> {
     let start = num(text_at(words, 1)?)?;
-    let count = match words.get(2) {
-        None => None,
-        Some(word) => Some(num(text_of(word)?)?),
+    let count = if words.len() > 2 {
+        Some(num(text_at(words, 2)?)?)
+    } else {
+        None
     };
     Ok(substring(alloc, text_at(words, 0)?, start, count)?)
 }

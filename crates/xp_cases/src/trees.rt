@@ -55,7 +55,8 @@ pub fn parsed(alloc: Global, text: &str) -> Result<Expr, Fault> {
 fn all_parsed(alloc: Global, words: &[Word]) -> Result<Vec<Expr>, Fault> {
     let mut trees = Vec::new(alloc);
     for word in words {
-        trees.push(parsed(alloc, text_of(word)?)?)?;
+        let tree = parsed(alloc, text_of(word)?)?;
+        trees.push(tree)?;
     }
     Ok(trees)
 }

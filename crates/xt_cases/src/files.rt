@@ -41,9 +41,10 @@ pub fn answer(alloc: Global, out: &mut Text, call: &str, words: &[Word]) -> Resu
 }
 
 fn bytes_at(words: &[Word], index: usize) -> Result<&[u8], Fault> {
-    match words.get(index) {
-        None => Err(Fault::NoCase),
-        Some(word) => Ok(word.as_slice()),
+    if index < words.len() {
+        Ok(words[index].as_slice())
+    } else {
+        Err(Fault::NoCase)
     }
 }
 
@@ -54,7 +55,8 @@ fn numbers(alloc: Global, text: &str) -> Result<Vec<u64>, Fault> {
         return Ok(numbers);
     }
     for number in text.split(',') {
-        numbers.push(number_of(number)?)?;
+        let number = number_of(number)?;
+        numbers.push(number)?;
     }
     Ok(numbers)
 }

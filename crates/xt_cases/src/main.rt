@@ -12,6 +12,7 @@ mod parts;
 mod pyx;
 mod scopes;
 mod streams;
+mod wire;
 
 use cases::{Fault, Word, text_of, words_of};
 use std::alloc::Global;
@@ -66,6 +67,7 @@ fn is_answered(alloc: Global, out: &mut Text, call: &str, words: &[Word]) -> Res
             || bodies::answer(alloc, out, call, words)?
             || nodes::answer(alloc, out, call, words)?
             || streams::answer(alloc, out, call, words)?
-            || files::answer(alloc, out, call, words)?,
+            || files::answer(alloc, out, call, words)?
+            || wire::answer(alloc, out, call, words)?,
     )
 }

@@ -1,7 +1,8 @@
 // Nodes of a document, which is built of the lines before `:`. `nodes LINE..` lists all: the number with
 // the part, the place, the kind, the name, and the string-value; `at LINE.. : PATH..` gives the number of
 // the node at each path, `place-of LINE.. : NODE..` the path of each node, `has LINE.. : NODE..` tells whether it
-// is there. A node is written as its number, an attribute as `2@1`, a namespace node as `2#1`.
+// is there. `attributes-of LINE.. : NUMBER..` and `namespaces-of LINE.. : NUMBER..` list those of nodes, as
+// `2: x="1" 3:`. A node is written as its number, an attribute as `2@1`, a namespace node as `2#1`.
 
 use crate::parts::push_path;
 use cases::{
@@ -14,26 +15,123 @@ use xt_names::Expanded;
 use xt_text::{Memory, Path, Text};
 use xt_tree::{Doc, Kind, Node, NodeId, NodeRef, Part};
 
+// What is asked of a document.
+#[derive(Clone, Copy)]
+enum Question {
+    All,
+    At,
+    PlaceOf,
+    Has,
+    Attributes,
+    Namespaces,
+}
+
+fn question_of(call: &str) -> Option<Question> {
+    match call {
+        "nodes" => Some(Question::All),
+        "at" => Some(Question::At),
+        "place-of" => Some(Question::PlaceOf),
+        "has" => Some(Question::Has),
+        "attributes-of" => Some(Question::Attributes),
+        "namespaces-of" => Some(Question::Namespaces),
+        _ => None,
+    }
+}
+
 /// Answers the call, if it is one of these.
 pub fn answer(alloc: Global, out: &mut Text, call: &str, words: &[Word]) -> Result<bool, Fault> {
-    if !matches!(call, "nodes" | "at" | "place-of" | "has") {
-        return Ok(false);
-    }
-    let (body, asked) = halves(words);
-    let document = document(alloc, body)?;
-    if call == "nodes" {
-        push_all(alloc, out, &document)?;
-        return Ok(true);
-    }
-    for word in asked {
-        let text = text_of(word)?;
-        match call {
-            "at" => push_at(out, &document, &path(alloc, text)?)?,
-            "place-of" => push_place(alloc, out, &document, &node(text)?)?,
-            _ => push_yes(out, document.has(alloc, &node(text)?)?)?,
+    match question_of(call) {
+        None => Ok(false),
+        Some(question) => {
+            let (body, asked) = halves(words);
+            let document = document(alloc, body)?;
+            push_answer(alloc, out, &document, question, asked)?;
+            Ok(true)
         }
     }
-    Ok(true)
+}
+
+fn push_answer(
+    alloc: Global,
+    out: &mut Text,
+    document: &Doc,
+    question: Question,
+    asked: &[Word],
+) -> Result<(), Fault> {
+    match question {
+        Question::All => Ok(push_all(alloc, out, document)?),
+        _ => {
+            for word in asked {
+                push_one(alloc, out, document, question, text_of(word)?)?;
+            }
+            Ok(())
+        }
+    }
+}
+
+fn push_one(
+    alloc: Global,
+    out: &mut Text,
+    document: &Doc,
+    question: Question,
+    text: &str,
+) -> Result<(), Fault> {
+    match question {
+        Question::At => push_at(out, document, &path(alloc, text)?)?,
+        Question::PlaceOf => push_place(alloc, out, document, &node(text)?)?,
+        Question::Attributes => push_attributes(alloc, out, document, id(text)?)?,
+        Question::Namespaces => push_namespaces(alloc, out, document, id(text)?)?,
+        Question::Has | Question::All => {
+            let node = node(text)?;
+            push_yes(out, document.has(alloc, &node)?)?;
+        }
+    }
+    Ok(())
+}
+
+fn id(text: &str) -> Result<NodeId, Fault> {
+    let number = number_of(text)?;
+    Ok(NodeId { number })
+}
+
+fn push_attributes(
+    alloc: Global,
+    out: &mut Text,
+    document: &Doc,
+    id: NodeId,
+) -> Result<(), Memory> {
+    let attributes = document.attributes(alloc, id)?;
+    push_owner(out, id)?;
+    for attribute in &attributes {
+        push_pair(out, attribute.name.as_str(), attribute.value.as_str())?;
+    }
+    Ok(())
+}
+
+fn push_namespaces(
+    alloc: Global,
+    out: &mut Text,
+    document: &Doc,
+    id: NodeId,
+) -> Result<(), Memory> {
+    let namespaces = document.namespaces(alloc, id)?;
+    push_owner(out, id)?;
+    for namespace in &namespaces {
+        push_pair(out, namespace.prefix.as_str(), namespace.uri.as_str())?;
+    }
+    Ok(())
+}
+
+fn push_owner(out: &mut Text, id: NodeId) -> Result<(), Memory> {
+    part(out)?;
+    push_number(out, id.number)?;
+    out.push(':')
+}
+
+fn push_pair(out: &mut Text, name: &str, value: &str) -> Result<(), Memory> {
+    push_part(out, name)?;
+    out.push('=')?;
+    push_quoted(out, value)
 }
 
 // The path that a text like `/1/2` writes.
@@ -41,7 +139,8 @@ fn path(alloc: Global, text: &str) -> Result<Path, Fault> {
     let mut path = Path::new(alloc);
     for step in text.split('/') {
         if !step.is_empty() {
-            path.push(number_of(step)?)?;
+            let position = number_of(step)?;
+            path.push(position)?;
         }
     }
     Ok(path)

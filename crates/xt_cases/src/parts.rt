@@ -70,7 +70,8 @@ fn order(first: &str, second: &str) -> &'static str {
 pub fn path(alloc: Global, words: &[Word]) -> Result<Path, Fault> {
     let mut path = Path::new(alloc);
     for word in words {
-        path.push(number_of(text_of(word)?)?)?;
+        let position = number_of(text_of(word)?)?;
+        path.push(position)?;
     }
     Ok(path)
 }
@@ -84,7 +85,10 @@ fn push_steps(alloc: Global, out: &mut Text, words: &[Word]) -> Result<(), Fault
                 Some(position) => push_part(out, itoa::Buffer::new().format(position))?,
             },
             "copy" => path = path.copy(alloc)?,
-            step => path.push(number_of(step)?)?,
+            step => {
+                let position = number_of(step)?;
+                path.push(position)?;
+            }
         }
     }
     part(out)?;

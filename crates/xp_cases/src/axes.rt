@@ -1,0 +1,79 @@
+// Steps along axes: `step STEP LINE.. : NODE..` gives the nodes to which the step, as `child::*`, leads from
+// each of the nodes of the document that the lines are, in the order of the axis, as `(3 4) ()`. A node is
+// written as its number, an attribute as `2@1`, a namespace node as `2#1`. The prefixes of the step are those
+// of expressions.
+
+use crate::trees::parsed;
+use cases::{Fault, Word, behind, document, halves, node, part, push_reference, text_at, text_of};
+use std::alloc::Global;
+use xp_axes::step;
+use xp_syntax::{Expr, Step};
+use xt_text::{Memory, Text};
+use xt_tree::{Doc, NodeRef};
+
+/// Answers the call, if it is one of these.
+pub fn answer(alloc: Global, out: &mut Text, call: &str, words: &[Word]) -> Result<bool, Fault> {
+    if call != "step" {
+        return Ok(false);
+    }
+    let (front, asked) = halves(words);
+    let tree = parsed(alloc, text_at(front, 0)?)?;
+    let document = document(alloc, behind(front, 1))?;
+    push_all(alloc, out, &document, only_step(&tree)?, asked)?;
+    Ok(true)
+}
+
+fn only_step(tree: &Expr) -> Result<&Step, Fault> {
+    match tree {
+        Expr::Path(_, steps) => {
+            if steps.len() == 1 {
+                Ok(&steps[0])
+            } else {
+                Err(Fault::NoCase)
+            }
+        }
+        _ => Err(Fault::NoCase),
+    }
+}
+
+fn push_all(
+    alloc: Global,
+    out: &mut Text,
+    document: &Doc,
+    step: &Step,
+    asked: &[Word],
+) -> Result<(), Fault> {
+    for word in asked {
+        let node = node(text_of(word)?)?;
+        push_found(alloc, out, document, step, &node)?;
+    }
+    Ok(())
+}
+
+fn push_found(
+    alloc: Global,
+    out: &mut Text,
+    document: &Doc,
+    by: &Step,
+    node: &NodeRef,
+) -> Result<(), Fault> {
+    if !document.has(alloc, node)? {
+        return Err(Fault::NoCase);
+    }
+    let found = step(alloc, document, node, by.axis, &by.test)?;
+    push_list(out, found.as_slice())?;
+    Ok(())
+}
+
+// Adds the nodes in brackets.
+fn push_list(out: &mut Text, nodes: &[NodeRef]) -> Result<(), Memory> {
+    part(out)?;
+    out.push('(')?;
+    for (index, node) in nodes.iter().enumerate() {
+        if index > 0 {
+            out.push(' ')?;
+        }
+        push_reference(out, node)?;
+    }
+    out.push(')')
+}
