@@ -36,6 +36,16 @@ enum Key {
     Words,
 }
 
+// What comes next.
+#[derive(Clone, Copy)]
+enum Next {
+    Key,
+    // of this key
+    Value(Key),
+    // nothing, since what came says nothing
+    Wrong,
+}
+
 fn key_of(word: &str) -> Option<Key> {
     match word {
         "limit" => Some(Key::Limit),
@@ -55,23 +65,28 @@ impl Setting {
         let mut setting = Setting::new(alloc);
         let mut open = None;
         for word in options.split(' ') {
-            match open {
-                None => match key_of(word) {
-                    None => return Ok(None),
-                    Some(key) => {
-                        setting.begin(alloc, key)?;
-                        open = Some(key);
-                    }
-                },
-                Some(key) => {
-                    if !setting.set(alloc, key, word)? {
-                        return Ok(None);
-                    }
-                    open = behind(key);
-                }
+            match setting.take(alloc, open, word)? {
+                Next::Wrong => return Ok(None),
+                Next::Key => open = None,
+                Next::Value(key) => open = Some(key),
             }
         }
         Ok(Some(setting))
+    }
+
+    // Takes the next word, a key or a value of the open one.
+    fn take(&mut self, alloc: Global, open: Option<Key>, word: &str) -> Result<Next, Memory> {
+        match (open, key_of(word)) {
+            (Some(key), _) => {
+                let is_value = self.set(alloc, key, word)?;
+                Ok(if is_value { behind(key) } else { Next::Wrong })
+            }
+            (None, Some(key)) => {
+                self.begin(alloc, key)?;
+                Ok(Next::Value(key))
+            }
+            (None, None) => Ok(Next::Wrong),
+        }
     }
 
     /// The setting where nothing is said: `serve` is called.
@@ -90,8 +105,9 @@ impl Setting {
     // With `words` the program's name is there, though no word may follow.
     fn begin(&mut self, alloc: Global, key: Key) -> Result<(), Memory> {
         if key == Key::Words {
+            let name = String::from_str(alloc, "xt")?;
             let mut words = Vec::new(alloc);
-            words.push(String::from_str(alloc, "xt")?)?;
+            words.push(name)?;
             self.words = Some(words);
         }
         Ok(())
@@ -115,7 +131,8 @@ impl Setting {
         match &mut self.words {
             None => Ok(false),
             Some(words) => {
-                words.push(String::from_str(alloc, word)?)?;
+                let word = String::from_str(alloc, word)?;
+                words.push(word)?;
                 Ok(true)
             }
         }
@@ -135,11 +152,11 @@ impl Setting {
     }
 }
 
-// What the word behind a value is for: another key, or one more word.
-fn behind(key: Key) -> Option<Key> {
+// What comes behind a value: another key, or one more word.
+fn behind(key: Key) -> Next {
     match key {
-        Key::Words => Some(key),
-        _ => None,
+        Key::Words => Next::Value(key),
+        _ => Next::Key,
     }
 }
 

@@ -17,9 +17,8 @@ pub fn answer(alloc: Global, out: &mut Text, call: &str, words: &[Word]) -> Resu
         return Ok(false);
     }
     let (front, asked) = halves(words);
-    let tree = parsed(alloc, text_at(front, 0)?)?;
     let document = document(alloc, behind(front, 1))?;
-    push_all(alloc, out, &document, only_step(&tree)?, asked)?;
+    push_all(alloc, out, &document, text_at(front, 0)?, asked)?;
     Ok(true)
 }
 
@@ -40,12 +39,13 @@ fn push_all(
     alloc: Global,
     out: &mut Text,
     document: &Doc,
-    step: &Step,
+    step: &str,
     asked: &[Word],
 ) -> Result<(), Fault> {
+    let tree = parsed(alloc, step)?;
+    let step = only_step(&tree)?;
     for word in asked {
-        let node = node(text_of(word)?)?;
-        push_found(alloc, out, document, step, &node)?;
+        push_found(alloc, out, document, step, text_of(word)?)?;
     }
     Ok(())
 }
@@ -55,18 +55,18 @@ fn push_found(
     out: &mut Text,
     document: &Doc,
     by: &Step,
-    node: &NodeRef,
+    from: &str,
 ) -> Result<(), Fault> {
-    if !document.has(alloc, node)? {
+    let from = node(from)?;
+    if !document.has(alloc, &from)? {
         return Err(Fault::NoCase);
     }
-    let found = step(alloc, document, node, by.axis, &by.test)?;
-    push_list(out, found.as_slice())?;
+    push_list(out, step(alloc, document, &from, by.axis, &by.test)?)?;
     Ok(())
 }
 
 // Adds the nodes in brackets.
-fn push_list(out: &mut Text, nodes: &[NodeRef]) -> Result<(), Memory> {
+fn push_list(out: &mut Text, nodes: Vec<NodeRef>) -> Result<(), Memory> {
     part(out)?;
     out.push('(')?;
     for (index, node) in nodes.iter().enumerate() {

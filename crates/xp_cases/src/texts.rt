@@ -9,7 +9,7 @@ use xp_text::{
     after, before, concat, contains, lang_matches, length, normalize, starts_with, substring,
     translate,
 };
-use xt_text::Text;
+use xt_text::{Memory, Text};
 
 /// Answers the call, if it is one of these.
 pub fn answer(alloc: Global, out: &mut Text, call: &str, words: &[Word]) -> Result<bool, Fault> {
@@ -27,17 +27,28 @@ fn answer_text(alloc: Global, out: &mut Text, call: &str, words: &[Word]) -> Res
     let text = match call {
         "before" => before(alloc, text_at(words, 0)?, text_at(words, 1)?)?,
         "after" => after(alloc, text_at(words, 0)?, text_at(words, 1)?)?,
-        "concat" => concat(alloc, texts(alloc, words)?.as_slice())?,
+        "concat" => concatenated(alloc, words)?,
         "substring" => cut_out(alloc, words)?,
         "normalize" => normalize(alloc, text_at(words, 0)?)?,
-        "translate" => {
-            let (text, from, to) = (text_at(words, 0)?, text_at(words, 1)?, text_at(words, 2)?);
-            translate(alloc, text, from, to)?
-        }
+        "translate" => translated(alloc, words)?,
         _ => return Ok(false),
     };
-    push_quoted(out, text.as_str())?;
+    push_text(out, text)?;
     Ok(true)
+}
+
+fn push_text(out: &mut Text, text: Text) -> Result<(), Memory> {
+    push_quoted(out, text.as_str())
+}
+
+fn concatenated(alloc: Global, words: &[Word]) -> Result<Text, Fault> {
+    let texts = texts(alloc, words)?;
+    Ok(concat(alloc, texts.as_slice())?)
+}
+
+fn translated(alloc: Global, words: &[Word]) -> Result<Text, Fault> {
+    let (text, from, to) = (text_at(words, 0)?, text_at(words, 1)?, text_at(words, 2)?);
+    Ok(translate(alloc, text, from, to)?)
 }
 
 fn texts(alloc: Global, words: &[Word]) -> Result<Vec<Text>, Fault> {

@@ -216,12 +216,20 @@ fn push_node(alloc: Global, out: &mut Text, document: &Doc, node: &NodeRef) -> R
     push_reference(out, node)?;
     push_place(alloc, out, document, node)?;
     push_part(out, word_of(document.kind(node)))?;
-    match document.name(alloc, node)? {
-        None => push_part(out, "-")?,
-        Some(name) => push_expanded(out, &name)?,
-    }
+    push_found(out, document.name(alloc, node)?)?;
     part(out)?;
-    push_quoted(out, document.string_value(alloc, node)?.as_str())
+    push_text(out, document.string_value(alloc, node)?)
+}
+
+fn push_found(out: &mut Text, name: Option<Expanded>) -> Result<(), Memory> {
+    match name {
+        None => push_part(out, "-"),
+        Some(name) => push_expanded(out, &name),
+    }
+}
+
+fn push_text(out: &mut Text, text: Text) -> Result<(), Memory> {
+    push_quoted(out, text.as_str())
 }
 
 fn push_expanded(out: &mut Text, name: &Expanded) -> Result<(), Memory> {
