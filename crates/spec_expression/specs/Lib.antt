@@ -1,3 +1,4 @@
+pub mod Code
 pub mod Number
 pub mod Strings
 pub mod Token

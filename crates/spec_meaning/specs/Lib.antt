@@ -1,3 +1,13 @@
 pub mod Stream
 pub mod Value
 pub mod Step
+pub mod Question
+pub mod Program
+pub mod Context
+pub mod Convert
+pub mod Compare
+pub mod Operation
+pub mod Function
+pub mod Call
+pub mod Meaning
+pub mod Truth

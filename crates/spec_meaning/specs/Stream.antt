@@ -1,5 +1,5 @@
 -- Streams: what instructions write, in its order. Where a stream has holes, others are to stand.
-use Rattle.std.specs.Prelude.{ℕ, ◌+◌, List, [], ◌∷◌, drop}
+use Rattle.std.specs.Prelude.{ℕ, ◌+◌, List, [], ◌∷◌, ◌++◌, drop}
 
 pub data Stream : Type 0 where
   Ended : Stream
@@ -62,3 +62,16 @@ filled (Comment content rest) parts = Comment (filled content parts) (filled res
 filled (Instruction target content rest) parts = Instruction target (filled content parts) (filled rest (drop (holes content) parts))
 filled (Message content rest) parts = Message (filled content parts) (filled rest (drop (holes content) parts))
 filled (Hole rest) parts = followed (first_of parts) (filled rest (drop 1 parts))
+
+-- the string-value of the root of a fragment: the texts in elements and beside them
+abbrev pub texts_of : Stream → List ℕ
+texts_of Ended = []
+texts_of (Element name uri namespaces content rest) = texts_of content ++ texts_of rest
+texts_of (Nameless content rest) = texts_of content ++ texts_of rest
+texts_of (Attribute name uri content rest) = texts_of rest
+texts_of (Namespace prefix uri rest) = texts_of rest
+texts_of (Text text rest) = text ++ texts_of rest
+texts_of (Comment content rest) = texts_of rest
+texts_of (Instruction target content rest) = texts_of rest
+texts_of (Message content rest) = texts_of rest
+texts_of (Hole rest) = texts_of rest

@@ -13,7 +13,9 @@ mod place;
 mod reading;
 mod steps;
 
-pub use codes::{DynCode, EditCode, StaticCode};
-pub use num::{Num, NumFault};
+pub use codes::EditCode;
+pub use num::{GREATEST, Num, NumFault};
 pub use place::Place;
+pub use reading::numeral;
+pub use spec_expression::{Code, DynCode, StaticCode};
 pub use steps::Steps;
