@@ -140,10 +140,14 @@ fn push_steps(out: &mut Text, words: &[Word]) -> Result<(), Fault> {
 
 // Adds the number behind the first word, where that names a count.
 fn add_steps(steps: &mut Steps, kind: &str, words: &[Word]) -> Result<(), Fault> {
-    match kind {
-        "ran" => steps.add_ran(number_at(words, 1)?),
-        "asked" => steps.add_asked(number_at(words, 1)?),
-        _ => {}
+    if !matches!(kind, "ran" | "asked") {
+        return Ok(());
+    }
+    let count = number_at(words, 1)?;
+    if kind == "ran" {
+        steps.add_ran(count);
+    } else {
+        steps.add_asked(count);
     }
     Ok(())
 }

@@ -112,7 +112,10 @@ fn take_step(alloc: Global, out: &mut Text, path: &mut Path, step: &str) -> Resu
     match step {
         "up" => push_position(out, path.pop())?,
         "copy" => *path = path.copy(alloc)?,
-        _ => path.push(number_of(step)?)?,
+        _ => {
+            let position = number_of(step)?;
+            path.push(position)?;
+        }
     }
     Ok(())
 }
