@@ -8,7 +8,7 @@ ghost use Rattle.std.specs.Prelude.{◌≡◌, IfOk};
 ghost use Rattle.spec_meaning.specs.Stream.{holes};
 ghost use Rattle.xt_tree.specs.StreamView.{single_of, stream_of};
 
-use cases::{Fault, Word, one, part, push_part, push_quoted, push_yes, text_at};
+use cases::{Fault, Word, part, push_part, push_quoted, push_yes, text_at};
 use std::alloc::Global;
 use std::rc::Rc;
 use xt_text::{Memory, Text};
@@ -44,7 +44,9 @@ fn text_alone(alloc: Global, text: &str) -> Result<Rc<Items>, Memory> {
 }
 
 fn filled_one(alloc: Global, kind: &str, text: &str) -> Result<Rc<Items>, Memory> {
-    let parts = one(alloc, text_alone(alloc, text)?)?;
+    let text = text_alone(alloc, text)?;
+    let mut parts = Vec::new(alloc);
+    parts.push(text)?;
     stream(alloc, kind)?.fill(alloc, parts.as_slice())
 }
 
