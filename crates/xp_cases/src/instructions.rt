@@ -30,16 +30,21 @@ pub fn differ(alloc: Global, words: &[Word]) -> Result<bool, Fault> {
 /// An instruction by its word.
 pub fn instruction(alloc: Global, word: &str) -> Result<Instr, Fault> {
     let (kind, rest) = word.split_once(':').ok_or(Fault::NoCase)?;
+    let place = place(alloc)?;
     let form = form(alloc, kind, rest)?;
-    Ok(placed(place(alloc)?, form))
+    Ok(Instr { place, form })
 }
 
-fn placed(place: Place, form: Form) -> Instr {
-    Instr { place, form }
+/// The place of what is no node of a stylesheet. It takes no memory.
+pub fn nowhere(alloc: Global) -> Place {
+    Place {
+        module: None,
+        path: Path::new(alloc),
+    }
 }
 
-/// The place `main/1`.
-pub fn place(alloc: Global) -> Result<Place, Memory> {
+// The place `main/1`.
+fn place(alloc: Global) -> Result<Place, Memory> {
     let module = Text::from_str(alloc, "main")?;
     let mut path = Path::new(alloc);
     path.push(1)?;
@@ -75,7 +80,8 @@ fn form(alloc: Global, kind: &str, rest: &str) -> Result<Form, Fault> {
 pub fn content(alloc: Global) -> Result<Vec<Instr>, Memory> {
     let text = Text::from_str(alloc, "x")?;
     let form = Form::WithoutContent(WithoutContent::Text(text));
-    one(alloc, placed(place(alloc)?, form))
+    let place = nowhere(alloc);
+    one(alloc, Instr { place, form })
 }
 
 fn without_content(alloc: Global, kind: &str, rest: &str) -> Result<WithoutContent, Fault> {
@@ -178,15 +184,14 @@ fn control(alloc: Global, kind: &str, rest: &str) -> Result<Control, Fault> {
 
 fn choose(alloc: Global, test: &str) -> Result<Control, Fault> {
     let test = parsed(alloc, test)?;
-    let place = place(alloc)?;
     let content = content(alloc)?;
-    let branch = branch(place, test, content);
+    let branch = branch(alloc, test, content);
     Ok(Control::Choose(one(alloc, branch)?))
 }
 
-fn branch(place: Place, test: Expr, content: Vec<Instr>) -> Branch {
+fn branch(alloc: Global, test: Expr, content: Vec<Instr>) -> Branch {
     Branch {
-        place,
+        place: nowhere(alloc),
         test: Some(test),
         content,
     }
@@ -205,25 +210,24 @@ fn apply_templates(alloc: Global, select: &str) -> Result<Control, Fault> {
 }
 
 fn sort_key(alloc: Global) -> Result<SortKey, Fault> {
-    let select = parsed(alloc, ".")?;
     let data_type = template(alloc, "text")?;
-    let order = template(alloc, "ascending")?;
-    let place = place(alloc)?;
+    let select = parsed(alloc, ".")?;
     Ok(SortKey {
-        place,
+        place: nowhere(alloc),
         select,
         data_type,
-        order,
+        order: Avt {
+            parts: Vec::new(alloc),
+        },
     })
 }
 
 /// A parameter `v` that selects the value of this expression.
 pub fn binding(alloc: Global, select: &str) -> Result<Binding, Fault> {
-    let select = parsed(alloc, select)?;
-    let place = place(alloc)?;
     let name = name(alloc, "v")?;
+    let select = parsed(alloc, select)?;
     Ok(Binding {
-        place,
+        place: nowhere(alloc),
         name,
         select: Some(select),
         content: Vec::new(alloc),

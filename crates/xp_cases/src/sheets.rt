@@ -2,7 +2,7 @@
 // one: they are one stylesheet, with a rule, a template, a global binding, an attribute set, a key, a space
 // rule, an output method and an alias, each changed at one place, `none` without a change.
 
-use crate::instructions::{binding, content, differ, name, place};
+use crate::instructions::{binding, content, differ, name, nowhere};
 use crate::trees::parsed;
 use cases::{Fault, Word, one, push_yes, text_of};
 use std::alloc::Global;
@@ -38,18 +38,27 @@ fn sheets_differ(alloc: Global, words: &[Word]) -> Result<bool, Fault> {
 }
 
 fn sheet(alloc: Global, change: &str) -> Result<Sheet, Fault> {
-    let units = units(alloc, change)?;
-    let rules = rules(alloc, change)?;
-    let space_rules = space_rules(alloc, change)?;
     let method = method(alloc, change)?;
-    let aliases = aliases(alloc, change)?;
-    Ok(Sheet {
-        units,
-        rules,
-        space_rules,
+    let mut sheet = empty(alloc, method);
+    push_units(alloc, &mut sheet.units, change)?;
+    push_rule(alloc, &mut sheet.rules.rules, change)?;
+    sheet.space_rules.rules.push(space_rule(change))?;
+    push_alias(alloc, &mut sheet.aliases, change)?;
+    Ok(sheet)
+}
+
+fn empty(alloc: Global, method: Option<Method>) -> Sheet {
+    Sheet {
+        units: Vec::new(alloc),
+        rules: Rules {
+            rules: Vec::new(alloc),
+        },
+        space_rules: SpaceRules {
+            rules: Vec::new(alloc),
+        },
         method,
-        aliases,
-    })
+        aliases: Vec::new(alloc),
+    }
 }
 
 // The one number where the change is this one, else the other.
@@ -61,30 +70,24 @@ fn word<'a>(change: &str, wanted: &str, changed: &'a str, usual: &'a str) -> &'a
     if change == wanted { changed } else { usual }
 }
 
-fn units(alloc: Global, change: &str) -> Result<Vec<Unit>, Fault> {
-    let template = unit(alloc, change, Declared::Template(template(alloc, change)?))?;
-    let global = unit(alloc, change, Declared::Global(global(alloc, change)?))?;
-    let set = unit(
-        alloc,
-        change,
-        Declared::AttributeSet(attribute_set(alloc, change)?),
-    )?;
-    let key = unit(alloc, change, Declared::Key(key(alloc, change)?))?;
-    let mut units = Vec::new(alloc);
-    units.push(template)?;
-    units.push(global)?;
-    units.push(set)?;
-    units.push(key)?;
-    Ok(units)
+fn push_units(alloc: Global, units: &mut Vec<Unit>, change: &str) -> Result<(), Fault> {
+    let template = template(alloc, change)?;
+    units.push(unit(alloc, change, Declared::Template(template)))?;
+    let global = global(alloc, change)?;
+    units.push(unit(alloc, change, Declared::Global(global)))?;
+    let set = attribute_set(alloc, change)?;
+    units.push(unit(alloc, change, Declared::AttributeSet(set)))?;
+    let key = key(alloc, change)?;
+    units.push(unit(alloc, change, Declared::Key(key)))?;
+    Ok(())
 }
 
-fn unit(alloc: Global, change: &str, declared: Declared) -> Result<Unit, Memory> {
-    let place = place(alloc)?;
-    Ok(Unit {
-        place,
+fn unit(alloc: Global, change: &str, declared: Declared) -> Unit {
+    Unit {
+        place: nowhere(alloc),
         precedence: number(change, "unit-precedence"),
         declared,
-    })
+    }
 }
 
 fn template(alloc: Global, change: &str) -> Result<Template, Fault> {
@@ -170,11 +173,11 @@ fn start(alloc: Global, change: &str) -> Result<Start, Memory> {
     }
 }
 
-fn rules(alloc: Global, change: &str) -> Result<Rules, Memory> {
-    let pattern = pattern(alloc, change)?;
+fn push_rule(alloc: Global, rules: &mut Vec<Rule>, change: &str) -> Result<(), Memory> {
     let mode = mode(alloc, change)?;
-    let rules = one(alloc, rule(change, pattern, mode))?;
-    Ok(Rules { rules })
+    let pattern = pattern(alloc, change)?;
+    rules.push(rule(change, pattern, mode))?;
+    Ok(())
 }
 
 fn rule(change: &str, pattern: Pattern, mode: Option<Expanded>) -> Rule {
@@ -205,11 +208,6 @@ fn mode(alloc: Global, change: &str) -> Result<Option<Expanded>, Memory> {
     }
 }
 
-fn space_rules(alloc: Global, change: &str) -> Result<SpaceRules, Memory> {
-    let rules = one(alloc, space_rule(change))?;
-    Ok(SpaceRules { rules })
-}
-
 fn space_rule(change: &str) -> SpaceRule {
     SpaceRule {
         test: Test::AnyName,
@@ -237,16 +235,14 @@ fn method(alloc: Global, change: &str) -> Result<Option<Method>, Memory> {
     }
 }
 
-fn aliases(alloc: Global, change: &str) -> Result<Vec<Alias>, Memory> {
+fn push_alias(alloc: Global, aliases: &mut Vec<Alias>, change: &str) -> Result<(), Memory> {
     let stylesheet = Text::from_str(alloc, word(change, "alias-uri", "urn:2", "urn:1"))?;
     let prefix = Text::from_str(alloc, word(change, "alias-prefix", "q", "p"))?;
     let result = Text::from_str(alloc, word(change, "alias-result", "urn:4", "urn:3"))?;
-    one(
-        alloc,
-        Alias {
-            stylesheet,
-            prefix,
-            result,
-        },
-    )
+    aliases.push(Alias {
+        stylesheet,
+        prefix,
+        result,
+    })?;
+    Ok(())
 }

@@ -24,17 +24,47 @@ pub fn answer(alloc: Global, out: &mut Text, call: &str, words: &[Word]) -> Resu
 }
 
 fn answer_text(alloc: Global, out: &mut Text, call: &str, words: &[Word]) -> Result<bool, Fault> {
-    let text = match call {
-        "before" => before(alloc, text_at(words, 0)?, text_at(words, 1)?)?,
-        "after" => after(alloc, text_at(words, 0)?, text_at(words, 1)?)?,
-        "concat" => concatenated(alloc, words)?,
-        "substring" => cut_out(alloc, words)?,
-        "normalize" => normalize(alloc, text_at(words, 0)?)?,
-        "translate" => translated(alloc, words)?,
-        _ => return Ok(false),
-    };
-    push_text(out, text)?;
-    Ok(true)
+    match function_of(call) {
+        None => Ok(false),
+        Some(function) => {
+            push_text(out, called(alloc, function, words)?)?;
+            Ok(true)
+        }
+    }
+}
+
+// The functions whose value is a string.
+#[derive(Clone, Copy)]
+enum Function {
+    Before,
+    After,
+    Concat,
+    Substring,
+    Normalize,
+    Translate,
+}
+
+fn function_of(call: &str) -> Option<Function> {
+    match call {
+        "before" => Some(Function::Before),
+        "after" => Some(Function::After),
+        "concat" => Some(Function::Concat),
+        "substring" => Some(Function::Substring),
+        "normalize" => Some(Function::Normalize),
+        "translate" => Some(Function::Translate),
+        _ => None,
+    }
+}
+
+fn called(alloc: Global, function: Function, words: &[Word]) -> Result<Text, Fault> {
+    match function {
+        Function::Before => Ok(before(alloc, text_at(words, 0)?, text_at(words, 1)?)?),
+        Function::After => Ok(after(alloc, text_at(words, 0)?, text_at(words, 1)?)?),
+        Function::Concat => concatenated(alloc, words),
+        Function::Substring => cut_out(alloc, words),
+        Function::Normalize => Ok(normalize(alloc, text_at(words, 0)?)?),
+        Function::Translate => translated(alloc, words),
+    }
 }
 
 fn push_text(out: &mut Text, text: Text) -> Result<(), Memory> {
