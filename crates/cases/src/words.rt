@@ -3,7 +3,7 @@
 use crate::fault::Fault;
 use percent_encoding::percent_decode;
 use std::alloc::Global;
-use xt_text::Memory;
+use xt_text::{Memory, Text};
 
 /// A word: the bytes that it stands for.
 pub type Word = Vec<u8>;
@@ -27,7 +27,7 @@ struct Cut {
 }
 
 /// The words of a line.
-pub fn words(alloc: Global, line: &str) -> Result<Vec<Word>, Memory> {
+pub fn words_of(alloc: Global, line: &str) -> Result<Vec<Word>, Memory> {
     let mut cut = Cut {
         words: Vec::new(alloc),
         raw: Vec::new(alloc),
@@ -115,9 +115,10 @@ fn decoded(alloc: Global, raw: &[u8]) -> Result<Word, Memory> {
 
 /// The text of this word, from 0.
 pub fn text_at(words: &[Word], index: usize) -> Result<&str, Fault> {
-    match words.get(index) {
-        None => Err(Fault::NoCase),
-        Some(word) => text_of(word),
+    if index < words.len() {
+        text_of(&words[index])
+    } else {
+        Err(Fault::NoCase)
     }
 }
 
@@ -136,9 +137,30 @@ pub fn number_of(text: &str) -> Result<u64, Fault> {
     text.parse::<u64>().map_err(|_| Fault::NoCase)
 }
 
+/// The texts of the words, one after another.
+pub fn joined(alloc: Global, words: &[Word]) -> Result<Text, Fault> {
+    let mut whole = Text::new(alloc);
+    for word in words {
+        let text = text_of(word)?;
+        whole.push_str(text)?;
+    }
+    Ok(whole)
+}
+
+/// The list of one item.
+pub fn one<T: Drop>(alloc: Global, item: T) -> Result<Vec<T>, Memory> {
+    let mut list = Vec::new(alloc);
+    list.push(item)?;
+    Ok(list)
+}
+
 /// The words behind the first so many.
 pub fn behind(words: &[Word], count: usize) -> &[Word] {
-    words.get(count..).unwrap_or(&[])
+    if count < words.len() {
+        &words[count..]
+    } else {
+        &[]
+    }
 }
 
 /// The words before the first `:` and those behind it; all and none where there is none.

@@ -3,13 +3,12 @@
 // `message`, `for-each`, `if`, `choose`, `apply-templates`, `call-template`. `instructions-differ WORD..` tells
 // whether each is the same as itself and as no other one. Those that have a content have one text in it.
 
-use crate::fault::Fault;
 use crate::trees::parsed;
-use crate::words::{Word, text_of};
+use cases::{Fault, Word, one, text_of};
 use std::alloc::Global;
 use xp_syntax::{
-    Avt, AvtPart, Binding, Branch, Control, Count, Form, Instr, LiteralTag, MadeName, NumberLevel,
-    NumberSource, Numbering, Place, Selection, SortKey, WithContent, WithoutContent,
+    Avt, AvtPart, Binding, Branch, Control, Count, Expr, Form, Instr, LiteralTag, MadeName,
+    NumberLevel, NumberSource, Numbering, Place, Selection, SortKey, WithContent, WithoutContent,
 };
 use xt_names::Expanded;
 use xt_text::{Memory, Path, Text};
@@ -31,25 +30,34 @@ pub fn differ(alloc: Global, words: &[Word]) -> Result<bool, Fault> {
 /// An instruction by its word.
 pub fn instruction(alloc: Global, word: &str) -> Result<Instr, Fault> {
     let (kind, rest) = word.split_once(':').ok_or(Fault::NoCase)?;
-    Ok(Instr {
-        place: place(alloc)?,
-        form: form(alloc, kind, rest)?,
-    })
+    let place = place(alloc)?;
+    let form = form(alloc, kind, rest)?;
+    Ok(Instr { place, form })
 }
 
-/// The place `main/1`.
-pub fn place(alloc: Global) -> Result<Place, Memory> {
+/// The place of what is no node of a stylesheet. It takes no memory.
+pub fn nowhere(alloc: Global) -> Place {
+    Place {
+        module: None,
+        path: Path::new(alloc),
+    }
+}
+
+// The place `main/1`.
+fn place(alloc: Global) -> Result<Place, Memory> {
+    let module = Text::from_str(alloc, "main")?;
     let mut path = Path::new(alloc);
     path.push(1)?;
     Ok(Place {
-        module: Some(Text::from_str(alloc, "main")?),
+        module: Some(module),
         path,
     })
 }
 
 /// The name in no namespace.
 pub fn name(alloc: Global, local: &str) -> Result<Expanded, Memory> {
-    Ok(Expanded::new(Text::new(alloc), Text::from_str(alloc, local)?))
+    let local = Text::from_str(alloc, local)?;
+    Ok(Expanded::new(Text::new(alloc), local))
 }
 
 fn form(alloc: Global, kind: &str, rest: &str) -> Result<Form, Fault> {
@@ -62,20 +70,18 @@ fn form(alloc: Global, kind: &str, rest: &str) -> Result<Form, Fault> {
         }
         _ => {
             let made = with_content(alloc, kind, rest)?;
-            Ok(Form::WithContent(made, content(alloc)?))
+            let content = content(alloc)?;
+            Ok(Form::WithContent(made, content))
         }
     }
 }
 
 /// A content of one text.
 pub fn content(alloc: Global) -> Result<Vec<Instr>, Memory> {
-    let mut content = Vec::new(alloc);
-    let text = WithoutContent::Text(Text::from_str(alloc, "x")?);
-    content.push(Instr {
-        place: place(alloc)?,
-        form: Form::WithoutContent(text),
-    })?;
-    Ok(content)
+    let text = Text::from_str(alloc, "x")?;
+    let form = Form::WithoutContent(WithoutContent::Text(text));
+    let place = nowhere(alloc);
+    one(alloc, Instr { place, form })
 }
 
 fn without_content(alloc: Global, kind: &str, rest: &str) -> Result<WithoutContent, Fault> {
@@ -92,9 +98,10 @@ fn without_content(alloc: Global, kind: &str, rest: &str) -> Result<WithoutConte
 }
 
 fn numbering(alloc: Global, source: NumberSource) -> Result<WithoutContent, Fault> {
+    let format = template(alloc, "1")?;
     Ok(WithoutContent::Number(Numbering {
         source,
-        format: template(alloc, "1")?,
+        format,
         grouping_separator: None,
         grouping_size: None,
     }))
@@ -116,8 +123,8 @@ fn count(level: &str) -> Result<Count, Fault> {
 
 // A value template of one text.
 fn template(alloc: Global, text: &str) -> Result<Avt, Memory> {
-    let mut parts = Vec::new(alloc);
-    parts.push(AvtPart::Text(Text::from_str(alloc, text)?))?;
+    let text = Text::from_str(alloc, text)?;
+    let parts = one(alloc, AvtPart::Text(text))?;
     Ok(Avt { parts })
 }
 
@@ -128,11 +135,7 @@ fn with_content(alloc: Global, kind: &str, rest: &str) -> Result<WithContent, Fa
         "attribute" => Ok(WithContent::Attribute(made_name(alloc, rest)?)),
         "comment" => Ok(WithContent::Comment),
         "instruction" => Ok(WithContent::ProcessingInstruction(template(alloc, rest)?)),
-        "copy" => {
-            let mut sets = Vec::new(alloc);
-            sets.push(name(alloc, rest)?)?;
-            Ok(WithContent::Copy(sets))
-        }
+        "copy" => Ok(WithContent::Copy(one(alloc, name(alloc, rest)?)?)),
         "variable" => Ok(WithContent::Variable(name(alloc, rest)?, None)),
         "message" => Ok(WithContent::Message(rest == "yes")),
         _ => Err(Fault::NoCase),
@@ -161,14 +164,18 @@ fn control(alloc: Global, kind: &str, rest: &str) -> Result<Control, Fault> {
     match kind {
         "for-each" => {
             let select = parsed(alloc, rest)?;
-            Ok(Control::ForEach(select, Vec::new(alloc), content(alloc)?))
+            let content = content(alloc)?;
+            Ok(Control::ForEach(select, Vec::new(alloc), content))
         }
-        "if" => Ok(Control::If(parsed(alloc, rest)?, content(alloc)?)),
+        "if" => {
+            let test = parsed(alloc, rest)?;
+            let content = content(alloc)?;
+            Ok(Control::If(test, content))
+        }
         "choose" => choose(alloc, rest),
         "apply-templates" => apply_templates(alloc, rest),
         "call-template" => {
-            let mut parameters = Vec::new(alloc);
-            parameters.push(binding(alloc, rest)?)?;
+            let parameters = one(alloc, binding(alloc, rest)?)?;
             Ok(Control::CallTemplate(name(alloc, "t")?, parameters))
         }
         _ => Err(Fault::NoCase),
@@ -176,38 +183,53 @@ fn control(alloc: Global, kind: &str, rest: &str) -> Result<Control, Fault> {
 }
 
 fn choose(alloc: Global, test: &str) -> Result<Control, Fault> {
-    let mut branches = Vec::new(alloc);
-    branches.push(Branch {
-        place: place(alloc)?,
-        test: Some(parsed(alloc, test)?),
-        content: content(alloc)?,
-    })?;
-    Ok(Control::Choose(branches))
+    let test = parsed(alloc, test)?;
+    let content = content(alloc)?;
+    let branch = branch(alloc, test, content);
+    Ok(Control::Choose(one(alloc, branch)?))
+}
+
+fn branch(alloc: Global, test: Expr, content: Vec<Instr>) -> Branch {
+    Branch {
+        place: nowhere(alloc),
+        test: Some(test),
+        content,
+    }
 }
 
 // Sorted by the string-value.
 fn apply_templates(alloc: Global, select: &str) -> Result<Control, Fault> {
-    let mut keys = Vec::new(alloc);
-    keys.push(SortKey {
-        place: place(alloc)?,
-        select: parsed(alloc, ".")?,
-        data_type: template(alloc, "text")?,
-        order: template(alloc, "ascending")?,
-    })?;
+    let select = parsed(alloc, select)?;
+    let keys = one(alloc, sort_key(alloc)?)?;
     let selection = Selection {
-        select: parsed(alloc, select)?,
+        select,
         mode: None,
         keys,
     };
     Ok(Control::ApplyTemplates(selection, Vec::new(alloc)))
 }
 
+fn sort_key(alloc: Global) -> Result<SortKey, Fault> {
+    let data_type = template(alloc, "text")?;
+    let select = parsed(alloc, ".")?;
+    Ok(SortKey {
+        place: nowhere(alloc),
+        select,
+        data_type,
+        order: Avt {
+            parts: Vec::new(alloc),
+        },
+    })
+}
+
 /// A parameter `v` that selects the value of this expression.
 pub fn binding(alloc: Global, select: &str) -> Result<Binding, Fault> {
+    let name = name(alloc, "v")?;
+    let select = parsed(alloc, select)?;
     Ok(Binding {
-        place: place(alloc)?,
-        name: name(alloc, "v")?,
-        select: Some(parsed(alloc, select)?),
+        place: nowhere(alloc),
+        name,
+        select: Some(select),
         content: Vec::new(alloc),
     })
 }

@@ -1,6 +1,6 @@
 // The words of expressions.
 
-use crate::show::{push_name, push_quoted, push_uri};
+use cases::{push_name, push_quoted, push_uri};
 use xp_syntax::{Axis, NodeType, Operator, Test};
 use xt_text::{Memory, Text};
 

@@ -1,9 +1,7 @@
 // Numbers, which are written as whole numbers of 64 bits or `NaN`: `add`, `sub`, `mul`, `div`, `rem`,
 // `compare` of two, `neg`, `number` and `text` of one; `read TEXT`, the number of a string, is `value`.
 
-use crate::fault::Fault;
-use crate::show::{push_part, push_quoted};
-use crate::words::{Word, text_at};
+use cases::{Fault, Word, push_part, push_quoted, text_at};
 use std::alloc::Global;
 use std::cmp::Ordering;
 use xt_base::{Num, NumFault};
@@ -25,20 +23,54 @@ pub fn answer(alloc: Global, out: &mut Text, call: &str, words: &[Word]) -> Resu
 }
 
 fn answer_two(alloc: Global, out: &mut Text, call: &str, words: &[Word]) -> Result<bool, Fault> {
-    if !matches!(call, "add" | "sub" | "mul" | "div" | "rem" | "compare") {
-        return Ok(false);
+    match operation_of(call) {
+        None => Ok(false),
+        Some(operation) => {
+            let first = num(text_at(words, 0)?)?;
+            let second = num(text_at(words, 1)?)?;
+            push_result(alloc, out, operation, first, second)?;
+            Ok(true)
+        }
     }
-    let first = num(text_at(words, 0)?)?;
-    let second = num(text_at(words, 1)?)?;
+}
+
+#[derive(Clone, Copy)]
+enum Operation {
+    Add,
+    Subtract,
+    Multiply,
+    Divide,
+    Remainder,
+    Compare,
+}
+
+fn operation_of(call: &str) -> Option<Operation> {
     match call {
-        "add" => push_given(alloc, out, first.add(second))?,
-        "sub" => push_given(alloc, out, first.sub(second))?,
-        "mul" => push_given(alloc, out, first.mul(second))?,
-        "div" => push_given(alloc, out, first.div(second))?,
-        "rem" => push_num(alloc, out, first.rem(second))?,
-        _ => push_part(out, order(first.compare(second)))?,
+        "add" => Some(Operation::Add),
+        "sub" => Some(Operation::Subtract),
+        "mul" => Some(Operation::Multiply),
+        "div" => Some(Operation::Divide),
+        "rem" => Some(Operation::Remainder),
+        "compare" => Some(Operation::Compare),
+        _ => None,
     }
-    Ok(true)
+}
+
+fn push_result(
+    alloc: Global,
+    out: &mut Text,
+    operation: Operation,
+    first: Num,
+    second: Num,
+) -> Result<(), Memory> {
+    match operation {
+        Operation::Add => push_given(alloc, out, first.add(second)),
+        Operation::Subtract => push_given(alloc, out, first.sub(second)),
+        Operation::Multiply => push_given(alloc, out, first.mul(second)),
+        Operation::Divide => push_given(alloc, out, first.div(second)),
+        Operation::Remainder => push_num(alloc, out, first.rem(second)),
+        Operation::Compare => push_part(out, order(first.compare(second))),
+    }
 }
 
 fn order(order: Option<Ordering>) -> &'static str {

@@ -7,11 +7,10 @@
 // behind `$`, `(call NAME ARGUMENT..)`, `(chain OPERAND OPERATOR OPERAND ..)` for the operators of one
 // level, `(minus COUNT OPERAND)`, `(filter BASE [PREDICATE]..)`, `root`, `here`, and `(path BASE STEP..)`.
 
-use crate::fault::Fault;
-use crate::parts::joined;
-use crate::show::{push_name, push_number, push_part, push_quoted, push_yes};
 use crate::syntax::{push_axis, push_operator, push_test};
-use crate::words::{Word, text_at, text_of};
+use cases::{
+    Fault, Word, joined, push_name, push_number, push_part, push_quoted, push_yes, text_at, text_of,
+};
 use std::alloc::Global;
 use xp_parse::{ParseFault, parse};
 use xp_syntax::{Expr, Link, Step};
@@ -22,14 +21,13 @@ use xt_text::{Memory, Text};
 pub fn answer(alloc: Global, out: &mut Text, call: &str, words: &[Word]) -> Result<bool, Fault> {
     match call {
         "parse" => push_parsed(alloc, out, text_at(words, 0)?)?,
-        "parse-joined" => push_parsed(alloc, out, joined(alloc, words)?.as_str())?,
-        "outcome" => push_outcome(alloc, out, joined(alloc, words)?.as_str())?,
-        "differ" => push_yes(out, do_differ(all_parsed(alloc, words)?.as_slice()))?,
-        "same" => {
-            let tree = parsed(alloc, text_at(words, 0)?)?;
-            let other = parsed(alloc, text_at(words, 1)?)?;
-            push_yes(out, tree.same(&other))?;
-        }
+        "parse-joined" => push_parsed_text(alloc, out, joined(alloc, words)?)?,
+        "outcome" => push_outcome(alloc, out, joined(alloc, words)?)?,
+        "differ" => push_yes(out, do_differ(alloc, words)?)?,
+        "same" => push_yes(
+            out,
+            are_same(alloc, text_at(words, 0)?, text_at(words, 1)?)?,
+        )?,
         _ => return Ok(false),
     }
     Ok(true)
@@ -46,23 +44,36 @@ fn scope(alloc: Global) -> Result<Scope, Memory> {
 
 /// The expression that a text is.
 pub fn parsed(alloc: Global, text: &str) -> Result<Expr, Fault> {
-    match parse(alloc, text, &scope(alloc)?) {
+    let scope = scope(alloc)?;
+    match parse(alloc, text, &scope) {
         Ok(tree) => Ok(tree),
         Err(ParseFault::Memory) => Err(Fault::Memory),
         Err(ParseFault::Refused(_)) => Err(Fault::NoCase),
     }
 }
 
+fn are_same(alloc: Global, text: &str, other: &str) -> Result<bool, Fault> {
+    let tree = parsed(alloc, text)?;
+    let other = parsed(alloc, other)?;
+    Ok(tree.same(&other))
+}
+
 fn all_parsed(alloc: Global, words: &[Word]) -> Result<Vec<Expr>, Fault> {
     let mut trees = Vec::new(alloc);
     for word in words {
-        trees.push(parsed(alloc, text_of(word)?)?)?;
+        let tree = parsed(alloc, text_of(word)?)?;
+        trees.push(tree)?;
     }
     Ok(trees)
 }
 
 // Whether each tree is the same as itself and as no other one.
-fn do_differ(trees: &[Expr]) -> bool {
+fn do_differ(alloc: Global, words: &[Word]) -> Result<bool, Fault> {
+    let trees = all_parsed(alloc, words)?;
+    Ok(differ(trees.as_slice()))
+}
+
+fn differ(trees: &[Expr]) -> bool {
     for (index, tree) in trees.iter().enumerate() {
         for (other_index, other) in trees.iter().enumerate() {
             if tree.same(other) != (index == other_index) {
@@ -73,15 +84,21 @@ fn do_differ(trees: &[Expr]) -> bool {
     true
 }
 
-fn push_outcome(alloc: Global, out: &mut Text, text: &str) -> Result<(), Memory> {
-    match parse(alloc, text, &scope(alloc)?) {
+fn push_outcome(alloc: Global, out: &mut Text, text: Text) -> Result<(), Memory> {
+    let scope = scope(alloc)?;
+    match parse(alloc, text.as_str(), &scope) {
         Ok(_) => push_part(out, "tree"),
         Err(fault) => push_refusal(out, fault),
     }
 }
 
+fn push_parsed_text(alloc: Global, out: &mut Text, text: Text) -> Result<(), Memory> {
+    push_parsed(alloc, out, text.as_str())
+}
+
 fn push_parsed(alloc: Global, out: &mut Text, text: &str) -> Result<(), Memory> {
-    match parse(alloc, text, &scope(alloc)?) {
+    let scope = scope(alloc)?;
+    match parse(alloc, text, &scope) {
         Ok(tree) => push_tree(out, &tree),
         Err(fault) => push_refusal(out, fault),
     }
