@@ -1,5 +1,9 @@
+pub mod Bools
 pub mod Views
 pub mod Ways
 pub mod Distinct
+pub mod Forks
+pub mod Fresh
 pub mod Ordered
+pub mod Site
 pub mod Streams

@@ -15,6 +15,9 @@ mod items;
 mod node;
 mod node_ref;
 mod part;
+mod place;
+mod properties;
+mod table;
 mod value;
 
 pub use doc::{Doc, Nodes};
