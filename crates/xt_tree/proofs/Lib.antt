@@ -1,4 +1,6 @@
 pub mod Bools
+pub mod Apart
+pub mod Given
 pub mod Views
 pub mod Ways
 pub mod Distinct

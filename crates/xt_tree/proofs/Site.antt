@@ -175,7 +175,7 @@ step key n low xs i node h within le lt is =
 numbered_so : (node : Node) (n : ℕ) (b : Bool) → ((out-Node node).id.number == n) ≡ b → ((tree_of node).number == n) ≡ b
 numbered_so node n b e = ap (λ t. t.number == n) (view-Node node) ∙ e
 
-children-is : (node : Node) (xs : Siblings) → xs ≡ (out-Node node).children.items → (tree_of node).children ≡ forest_of xs
+pub children-is : (node : Node) (xs : Siblings) → xs ≡ (out-Node node).children.items → (tree_of node).children ≡ forest_of xs
 children-is node xs e = ap (λ t. t.children) (view-Node node) ∙ ap forest_of (sym e)
 
 pub step_here : (key : ℕ → ℕ) (n : ℕ) (xs : Siblings) (node : Node) (position : ℕ) → IsStep key n xs node position → ((out-Node node).id.number == n) ≡ true

@@ -1,5 +1,5 @@
 -- Keys by which nodes are found: each number leads to one key, and the keys of a document's nodes rise in document order.
-use Rattle.std.specs.Prelude.{ℕ, ◌+◌, ◌*◌, ◌-◌, ◌^◌, ◌<◌, Bool, false, ◌||◌, List, map, Option, None, Some, ◌==◌}
+use Rattle.std.specs.Prelude.{ℕ, ◌≡◌, true, ◌+◌, ◌*◌, ◌-◌, ◌^◌, ◌<◌, Bool, false, ◌||◌, List, map, Option, None, Some, ◌==◌}
 use Rattle.std.specs.declared.rc.Rc.{Rc}
 use Rattle.std.specs.declared.alloc.Global.{Global}
 use Rattle.spec_document.specs.Forest.{Forest, Empty, Node}
@@ -43,6 +43,13 @@ Rises key low (Node label content children siblings) =
 abbrev pub has_number : ℕ → Forest ℕ → Bool
 has_number number Empty = false
 has_number number (Node label content children siblings) = (label == number) || (has_number number children || has_number number siblings)
+
+-- no number stands twice
+abbrev pub AreApart : Forest ℕ → Type 0
+AreApart Empty = Unit {0}
+AreApart (Node label content children siblings) =
+    (has_number label children ≡ false) × (has_number label siblings ≡ false)
+    × ((number : ℕ) → has_number number children ≡ true → has_number number siblings ≡ false) × AreApart children × AreApart siblings
 
 -- the keys of siblings
 abbrev pub keys_of : (ℕ → ℕ) → List (Rc Held Global) → List ℕ

@@ -13,6 +13,7 @@ ghost use Rattle.xt_tree.specs.Numbers.{IsNumbered};
 ghost use Rattle.spec_document.specs.Forest as spec;
 
 use crate::find::{find, sibling_at};
+use crate::keys::{GAP, give_keys};
 use crate::table::Table;
 use crate::{Content, Node, NodeId, NodeRef};
 use std::alloc::Global;
@@ -121,6 +122,22 @@ fn node(id: NodeId, content: Content, children: Nodes) -> Node
 }
 
 impl Doc {
+    /// The document with this root and these nodes below it.
+    pub fn new(alloc: Global, root: NodeId, nodes: Nodes) -> Result<Doc, Memory>
+        requires numbers { IsNumbered (record { root = root.number; nodes = nodes }) }
+        requires depth { height nodes ≤ greatest_depth + 1 }
+        ensures { IfOk result (λ doc. doc ≡ record { root = root.number; nodes = nodes }) }
+    {
+        let mut keys = Table::new();
+        let mut last = 0;
+        give_keys(alloc, &mut keys, nodes.list(), &mut last, GAP)?;
+        Ok(Doc {
+            root,
+            keys,
+            children: nodes.into_list(),
+        })
+    }
+
     /// The document whose nodes are numbered in document order, the root first. Takes no memory.
     pub fn numbered(root: NodeId, nodes: Nodes) -> Doc
         requires order { numbered (root.number + 1) nodes ≡ nodes }
@@ -128,10 +145,12 @@ impl Doc {
         requires depth { height nodes ≤ greatest_depth + 1 }
         ensures { result ≡ record { root = root.number; nodes = nodes } }
     {
+        let keys = Table::new();
+        let children = nodes.into_list();
         Doc {
             root,
-            keys: Table::new(),
-            children: nodes.into_list(),
+            keys,
+            children,
         }
     }
 

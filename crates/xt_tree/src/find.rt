@@ -10,23 +10,11 @@ ghost use Rattle.xt_tree.specs.Keys.{Rises, key_by, keys_of, has_number};
 ghost use Rattle.xt_tree.specs.Step.{IsStep};
 ghost use Rattle.xt_tree.specs.View.{forest_of, tree_of, content_of, first_tree, way_to, tree_at};
 
+use crate::keys::key_of;
 use crate::table::Table;
 use crate::{Content, Node, NodeId};
 use std::rc::Rc;
 use xt_text::{Memory, Path, Text};
-
-// The distance of the keys of two nodes that follow one another in a document as it is read.
-const GAP: u128 = 1 << 63;
-
-// The key of a number.
-fn key_of(keys: &Table, id: NodeId) -> u128
-    ensures { result ≡ key_by keys.now id.number }
-{
-    match keys.get(id.number) {
-        Some(key) => key,
-        None => (id.number as u128 + 1) * GAP,
-    }
-}
 
 // A position among siblings, from 0: where their keys rise, how many have one that is no higher than this.
 fn reached(keys: &Table, siblings: &[Rc<Node>], key: u128) -> usize

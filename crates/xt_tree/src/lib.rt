@@ -12,6 +12,7 @@ mod doc;
 mod filling;
 mod find;
 mod items;
+mod keys;
 mod node;
 mod node_ref;
 mod part;
