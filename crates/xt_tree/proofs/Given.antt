@@ -1,13 +1,11 @@
 -- Nodes that get new keys, one after another.
-use Rattle.std.proofs.Common.{◌≡◌, ℕ, ◌+◌, ◌*◌, ◌<◌, ◌==◌, Bool, true, false, cond, Some, refl, sym, ap, ◌∙◌, arith, eq-eqb, if◌then◌else◌}
-use Rattle.std.specs.Prelude.{◌||◌}
-use Rattle.std.proofs.lemmas.Bool.{eqb-true}
+use Rattle.std.proofs.Common.{◌≡◌, ℕ, ◌+◌, ◌*◌, ◌<◌, ◌==◌, true, false, cond, Some, refl, sym, ap, ◌∙◌, arith, eq-eqb, if◌then◌else◌}
 use Rattle.spec_document.specs.Forest as spec
 use Rattle.spec_document.specs.Forest.{Forest, Content, size}
 use Rattle.xt_tree.specs.declared.table.Table.{Table}
 use Rattle.xt_tree.specs.Lookup.{lookup}
 use Rattle.xt_tree.specs.Keys.{last_key, Rises, AreApart, key_by, entry_or, has_number}
-use Rattle.xt_tree.proofs.Bools.{true_false, not_both, not_true, apart, neither, or_false}
+use Rattle.xt_tree.proofs.Bools.{not_both, apart, or_false}
 use Rattle.xt_tree.proofs.Distinct.{or_left, or_right}
 
 -- ---- Entries
