@@ -5,15 +5,18 @@ use Rattle.spec_document.specs.Forest.{Forest, Content, size, numbered, height}
 use Rattle.spec_document.specs.Numbering.{number_limit}
 use Rattle.spec_document.specs.NodeFaults.{greatest_depth}
 use Rattle.xt_tree.specs.Keys.{last_key, Rises, own_key, key_limit}
+use Rattle.spec_document.specs.Name.{Expanded}
+use Rattle.xt_tree.specs.Kept.{AreNames}
 use Rattle.xt_tree.specs.Numbers.{IsDocument}
+use Rattle.std.proofs.Common.{Option}
 use Rattle.xt_tree.proofs.Ordered.{ordered_numbers}
 
-record Numbered (n l : ℕ) (f g : Forest ℕ) : Type 0 where
-  own : n ≡ l
-  below : numbered (n + 1) f ≡ f
-  behind : numbered (n + 1 + size f) g ≡ g
+pub record Numbered (n l : ℕ) (f g : Forest ℕ) : Type 0 where
+  pub own : n ≡ l
+  pub below : numbered (n + 1) f ≡ f
+  pub behind : numbered (n + 1 + size f) g ≡ g
 
-parts : (n l : ℕ) (c : Content) (f g : Forest ℕ) → numbered n (spec.Node l c f g) ≡ spec.Node l c f g → Numbered n l f g
+pub parts : (n l : ℕ) (c : Content) (f g : Forest ℕ) → numbered n (spec.Node l c f g) ≡ spec.Node l c f g → Numbered n l f g
 parts n l c f g e = record { own = cc; below = cc; behind = cc }
 
 own-rises : (m n : ℕ) → m < n → own_key m < own_key n
@@ -33,9 +36,10 @@ fresh key n low (spec.Node l c f g) same e h =
     ((omega arith, below.0, behind.0), rw whole at behind.1)
 
 -- a document as it is read
-pub fresh_document : (key : ℕ → ℕ) (root : ℕ) (f : Forest ℕ) → ((m : ℕ) → key m ≡ own_key m) → numbered (root + 1) f ≡ f
-    → root + size f < number_limit → height f ≤ greatest_depth + 1 → IsDocument key (record { root = root; nodes = f })
-fresh_document key root f same order limit depth =
+pub fresh_document : (key : ℕ → ℕ) (kept : ℕ → Option (Option Expanded)) (root : ℕ) (f : Forest ℕ) → ((m : ℕ) → key m ≡ own_key m)
+    → numbered (root + 1) f ≡ f → root + size f < number_limit → height f ≤ greatest_depth + 1
+    → AreNames kept (record { root = root; nodes = f }) → IsDocument key kept (record { root = root; nodes = f })
+fresh_document key kept root f same order limit depth names =
     let r = fresh key (root + 1) 0 f same order (omega arith) in
     let most : own_key (root + 1 + size f) < key_limit = omega arith in
     record {
@@ -43,4 +47,5 @@ fresh_document key root f same order limit depth =
       depth = depth;
       rises = r.0;
       limit = omega (arith, r.1);
+      names = names;
     }

@@ -6,6 +6,7 @@ pub mod Ways
 pub mod Distinct
 pub mod Forks
 pub mod Fresh
+pub mod Named
 pub mod Ordered
 pub mod Site
 pub mod Streams

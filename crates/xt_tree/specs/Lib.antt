@@ -1,4 +1,5 @@
 pub mod Code
+pub mod Kept
 pub mod Keys
 pub mod Lookup
 pub mod Numbers

@@ -14,6 +14,7 @@ ghost use Rattle.spec_document.specs.Forest as spec;
 
 use crate::find::{find, sibling_at};
 use crate::keys::{GAP, give_keys};
+use crate::names::Names;
 use crate::table::Table;
 use crate::{Content, Node, NodeId, NodeRef};
 use std::alloc::Global;
@@ -28,6 +29,7 @@ use xt_text::{Memory, Path};
 pub struct Doc {
     pub(crate) root: NodeId,
     pub(crate) keys: Table,
+    pub(crate) names: Rc<Names>,
     pub(crate) children: Vec<Rc<Node>>,
 }
 
@@ -43,10 +45,11 @@ impl Model for Doc {
     ghost use Rattle.xt_tree.specs.View.{forest_of};
     ghost use Rattle.xt_tree.specs.Numbers.{IsDocument};
     ghost use Rattle.xt_tree.specs.Keys.{key_by};
+    ghost use Rattle.xt_tree.specs.Kept.{kept_at};
 
     ghost view = { λ d. record { root = d.root.number; nodes = forest_of d.children.items } };
 
-    ghost invariant = { λ d. IsDocument (key_by d.keys) (record { root = d.root.number; nodes = forest_of d.children.items }) };
+    ghost invariant = { λ d. IsDocument (key_by d.keys) (kept_at d.names.value) (record { root = d.root.number; nodes = forest_of d.children.items }) };
 }
 
 /// Siblings in their order, with what is below them. Contracts see the forest with the numbers as labels.
@@ -131,27 +134,34 @@ impl Doc {
         let mut keys = Table::new();
         let mut last = 0;
         give_keys(alloc, &mut keys, nodes.list(), &mut last, GAP)?;
+        let names = Rc::new(alloc, Names::none(alloc))?;
         Ok(Doc {
             root,
             keys,
+            names,
             children: nodes.into_list(),
         })
     }
 
-    /// The document whose nodes are numbered in document order, the root first. Takes no memory.
-    pub fn numbered(root: NodeId, nodes: Nodes) -> Doc
+    /// The document whose nodes are numbered in document order, the root first. Their expanded names are
+    /// resolved here, once.
+    pub fn numbered(alloc: Global, root: NodeId, nodes: Nodes) -> Result<Doc, Memory>
         requires order { numbered (root.number + 1) nodes ≡ nodes }
         requires limit { root.number + size nodes < number_limit }
         requires depth { height nodes ≤ greatest_depth + 1 }
-        ensures { result ≡ record { root = root.number; nodes = nodes } }
+        ensures { IfOk result (λ doc. doc ≡ record { root = root.number; nodes = nodes }) }
     {
         let keys = Table::new();
+        let first = root.number + 1;
+        let named = Names::of(alloc, first, nodes.list())?;
+        let names = Rc::new(alloc, named)?;
         let children = nodes.into_list();
-        Doc {
+        Ok(Doc {
             root,
             keys,
+            names,
             children,
-        }
+        })
     }
 
     /// The nodes directly below the root, in their order.

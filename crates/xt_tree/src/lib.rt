@@ -13,6 +13,7 @@ mod filling;
 mod find;
 mod items;
 mod keys;
+mod names;
 mod node;
 mod node_ref;
 mod part;

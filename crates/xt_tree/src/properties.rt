@@ -8,6 +8,7 @@ ghost use Rattle.xt_names.specs.View.{entries_of};
 ghost use Rattle.xt_tree.specs.View.{itself, IsPlaceOf, IsWayTo, item_of, numbered_node, written_of, content_of, forest_of, tree_of};
 
 use crate::find::{push_texts, push_value};
+use crate::names::copied;
 use crate::part::{attribute_at, attribute_name, attributes_in, content_name, namespace_at};
 use crate::{Doc, NodeId, NodeRef, Part, Written};
 use spec_document::Kind;
@@ -136,6 +137,16 @@ impl Doc {
     }
 
     fn own_name(&self, alloc: Global, node: &NodeRef) -> Result<Option<Expanded>, Memory>
+        ensures { IfOk result (λ name. ForSome (numbered_node self.now node.now.node.number) (λ found. name ≡ name_by found.content (scope_at found))) }
+    {
+        match self.names.get(node.node) {
+            Some(name) => copied(alloc, name),
+            None => self.resolved_name(alloc, node),
+        }
+    }
+
+    // The same where no name is kept.
+    fn resolved_name(&self, alloc: Global, node: &NodeRef) -> Result<Option<Expanded>, Memory>
         ensures { IfOk result (λ name. ForSome (numbered_node self.now node.now.node.number) (λ found. name ≡ name_by found.content (scope_at found))) }
     {
         match self.content(node.node) {
