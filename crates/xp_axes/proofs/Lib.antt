@@ -5,3 +5,5 @@ pub mod Entries
 pub mod Located
 pub mod Sliced
 pub mod Reached
+pub mod Placing
+pub mod Kept
