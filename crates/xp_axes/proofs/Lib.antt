@@ -7,3 +7,4 @@ pub mod Sliced
 pub mod Reached
 pub mod Placing
 pub mod Kept
+pub mod Named
