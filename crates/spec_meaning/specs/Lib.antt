@@ -11,3 +11,5 @@ pub mod Function
 pub mod Call
 pub mod Meaning
 pub mod Truth
+pub mod Related
+pub mod Naming

@@ -5,3 +5,6 @@ pub mod Entries
 pub mod Located
 pub mod Sliced
 pub mod Reached
+pub mod Told
+pub mod Placing
+pub mod Kept

@@ -87,11 +87,11 @@ item_is document numbers e at =
     ∙ ap (option_and_then (part_of (part_at e.place.ending e.number))) (numbered_at document e.place.positions at.element parts.0 at.at)
     ∙ at.part
 
-abbrev AllItems : Document ℕ → List (Entry ℕ) → Type 0
+abbrev pub AllItems : Document ℕ → List (Entry ℕ) → Type 0
 AllItems document [] = Unit {0}
 AllItems document (e ∷ es) = (item_of document (ref_of e) ≡ Some e.item) × AllItems document es
 
-all_items : (document : Document ℕ) → IsNumbered document → (es : List (Entry ℕ)) → AllAt (root_of document) es → AllItems document es
+pub all_items : (document : Document ℕ) → IsNumbered document → (es : List (Entry ℕ)) → AllAt (root_of document) es → AllItems document es
 all_items document numbers [] h = tt
 all_items document numbers (e ∷ es) h = (item_is document numbers e h.0, all_items document numbers es h.1)
 
