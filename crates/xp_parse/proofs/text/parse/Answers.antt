@@ -1,4 +1,4 @@
-use Rattle.std.proofs.Common.{◌≡◌, List, Option, Some, Vec, Global, map, ap, sym, ◌∙◌}
+use Rattle.std.proofs.Common.{List, Option, Some, Vec, Global, map, ap, sym, ◌∙◌}
 use Rattle.std.specs.Prelude.{option_map}
 use Rattle.std.specs.Str.{chars}
 use Rattle.spec_expression.specs.Token as plain
