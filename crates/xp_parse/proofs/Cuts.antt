@@ -1,5 +1,5 @@
 -- The pieces that a text begins with, by what was read at its front.
-use Rattle.std.proofs.Common.{◌≡◌, ℕ, suc, ◌<◌, ◌≤◌, ◌+◌, Bool, true, false, cond, ◌&&◌, ◌||◌, ◌==◌, not, ◌⊎◌, inl}
+use Rattle.std.proofs.Common.{◌≡◌, ℕ, suc, ◌<◌, ◌+◌, Bool, true, false, cond, ◌&&◌, ◌||◌, ◌==◌, not, ◌⊎◌, inl}
 use Rattle.std.proofs.Common.{inr, List, [], ◌∷◌, length, drop, Option, None, Some, Bor, refl, sym, ap, ◌∙◌, subst, arith}
 use Rattle.std.specs.Prelude.{MatchOption, option_map, nat_lt, if◌then◌else◌}
 use Rattle.std.specs.List.{prefix_len, before_first, after_first, position_or_len, list_any, list_all}
@@ -23,7 +23,7 @@ use Rattle.spec_expression.specs.Token.{Number, Name, AnyOf, Variable, Literal, 
 use Rattle.spec_expression.specs.Token.{number_at, literal_at, name_at, local_at, variable_at, word_at, word, piece_at, sign_of_two, unprefixed, prefixed}
 use Rattle.xp_parse.specs.declared.cut.Piece.{Piece}
 use Rattle.xp_parse.specs.View.{token_of}
-use Rattle.xp_parse.specs.Front.{IsWord, IsLocal, IsPiece, Begins, Cuts, marked}
+use Rattle.xp_parse.specs.Front.{IsWord, IsLocal, Begins, Cuts, marked}
 use Rattle.xp_parse.proofs.Fronts.{no_name, name_at-some}
 
 pub begins_by : (p : Piece) (o : Option plain.Piece) (token : plain.Token) (taken : ℕ) (text : List ℕ) → o ≡ piece token taken → token_of p.token ≡ token

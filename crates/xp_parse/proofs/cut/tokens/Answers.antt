@@ -1,4 +1,4 @@
-use Rattle.std.proofs.Common.{◌≡◌, ℕ, ◌∙◌, List, ◌∷◌, [], ◌++◌, map, Bool, Option, Some, None, ap, sym, subst}
+use Rattle.std.proofs.Common.{◌≡◌, ℕ, ◌∙◌, List, ◌∷◌, [], ◌++◌, map, Bool, Option, Some, ap, sym, subst}
 use Rattle.std.specs.Str.{chars}
 use Rattle.std.proofs.lemmas.List.{map-append, append-nil}
 use Rattle.spec_expression.specs.Token.{Token, ends_operand, piece_at, cut}

@@ -1,6 +1,5 @@
-use Rattle.std.proofs.Common.{refl, ap, ◌+◌, ◌∙◌, length}
+use Rattle.std.proofs.Common.{refl, ◌+◌, length}
 use Rattle.std.specs.Str.{chars}
-use Rattle.std.proofs.lemmas.List.{drop-drop}
 use Rattle.xp_parse.proofs.Cuts.{begins_by, word_any, word_alone, past_star}
 use Rattle.xp_parse.proofs.cut.without_local.Goals as goal
 

@@ -1,6 +1,5 @@
 use Rattle.std.proofs.Common.{refl, sym, ap}
 use Rattle.std.specs.Prelude.{codes}
-use Rattle.std.specs.Str.{chars}
 use Rattle.spec_expression.specs.Grammar.{axis_named}
 use Rattle.xp_parse.proofs.Cuts.{is_word}
 use Rattle.xp_parse.proofs.Names.{no_axis_named}

@@ -1,4 +1,4 @@
-use Rattle.std.proofs.Common.{◌≡◌, List, Option, Some, Vec, Global, map, ap, sym, ◌∙◌}
+use Rattle.std.proofs.Common.{List, Option, Some, Vec, Global, map, ap, sym, ◌∙◌}
 use Rattle.std.specs.Prelude.{option_map}
 use Rattle.std.specs.Str.{chars}
 use Rattle.spec_expression.specs.Token as plain
@@ -15,7 +15,7 @@ returns-in-Some c =
     parsed_some c.args.scope.now (chars c.args.text.now) (map token_of c.as_slice.result.now) c.tree.result
     (sym c.in_ok-tokens.ensures ∙ ap seen c.in-Some.is ∙ ap all (sym c.as_slice.ensures.value)) c.tree.ensures
 
-pub returns : goal.returns
-returns c =
+pub returns-in-None : goal.returns-in-None
+returns-in-None c =
     let seen : Option (Vec Token Global) → Option (List plain.Token) = λ o. option_map (λ v. map token_of v.items) o in
     parsed_none c.args.scope.now (chars c.args.text.now) (sym c.in_ok-tokens.ensures ∙ ap seen c.in-None.is)
