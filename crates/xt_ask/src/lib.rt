@@ -12,7 +12,9 @@ mod ask;
 mod context;
 mod copies;
 mod fault;
+mod logged;
 mod question;
+mod read;
 mod world;
 
 pub use answer::{Answer, NamedSets, NamedTemplate, ResolvedUnit};
@@ -20,5 +22,7 @@ pub use ask::{ask_nodes, ask_order, ask_text};
 pub use context::{Binding, Bindings, Context, Focus, Known, Supplies};
 pub use copies::{copy_name, copy_test, copy_value};
 pub use fault::{EvalFault, Refusal};
+pub use logged::Logged;
 pub use question::{Candidates, Given, Question, Wanted};
+pub use read::Read;
 pub use world::World;
