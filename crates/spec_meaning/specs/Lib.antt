@@ -11,5 +11,6 @@ pub mod Function
 pub mod Call
 pub mod Meaning
 pub mod Truth
+pub mod Supplies
 pub mod Related
 pub mod Naming

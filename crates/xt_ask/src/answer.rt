@@ -1,0 +1,107 @@
+// What a world answers.
+ghost use Rattle.std.specs.Prelude.{◌≡◌};
+ghost use Rattle.spec_meaning.specs.Question.{nodes_in, text_in};
+ghost use Rattle.xt_ask.specs.View.{answer_of};
+
+use crate::copies::{copy_name_if, copy_text_if};
+use crate::Refusal;
+use spec_document::Kind;
+use std::alloc::Global;
+use std::rc::Rc;
+use xp_syntax::Unit;
+use xt_names::Expanded;
+use xt_text::{Memory, Text};
+use xt_tree::{Items, NodeRef};
+
+/// A named template of the stylesheet, by the node of its element.
+#[derive(Drop)]
+pub struct NamedTemplate {
+    pub name: Expanded,
+    pub element: NodeRef,
+}
+
+/// The attribute sets of one name, by the nodes of their elements, in their order.
+#[derive(Drop)]
+pub struct NamedSets {
+    pub name: Expanded,
+    pub elements: Vec<NodeRef>,
+}
+
+/// A unit of the stylesheet, with the templates and attribute sets that it names.
+#[derive(Drop)]
+pub struct ResolvedUnit {
+    pub unit: Unit,
+    pub templates: Vec<NamedTemplate>,
+    pub sets: Vec<NamedSets>,
+    /// Of a global variable or parameter, whether it is the one of its name that counts.
+    pub counts: bool,
+}
+
+/// An answer to a question.
+#[derive(Drop)]
+pub enum Answer {
+    /// The node is not there.
+    Gone,
+    /// An xsl:key is refused.
+    Refused(Refusal),
+    /// To a step, an order or a key.
+    Nodes(Vec<NodeRef>),
+    /// To a text or a place.
+    Text(Text),
+    /// The kind of a node, its expanded name and its name as it is written.
+    Named(Kind, Option<Expanded>, Text),
+    /// The number of a template rule; without one it is a built-in rule.
+    Chosen(Option<u64>),
+    /// The copy of a node.
+    Copied(Rc<Items>),
+    /// A unit of the stylesheet.
+    Resolved(Rc<ResolvedUnit>),
+    /// A parameter from outside, where it is given.
+    Passed(Option<Text>),
+}
+
+impl Answer {
+    ghost use Rattle.std.specs.Prelude.{◌≡◌, IfOk};
+    ghost use Rattle.xt_ask.specs.View.{answer_of};
+    ghost use Rattle.spec_meaning.specs.Question.{nodes_in, text_in};
+
+    /// The same answer. Copied nodes and units are shared, all else is in memory of its own.
+    pub fn copy(&self, alloc: Global) -> Result<Answer, Memory>
+        ensures { IfOk result (λ a. answer_of a ≡ answer_of self.now) }
+    {
+        match self {
+            Answer::Gone => Ok(Answer::Gone),
+            Answer::Refused(refusal) => Ok(Answer::Refused(refusal.copy(alloc)?)),
+            Answer::Nodes(nodes) => Ok(Answer::Nodes(Vec::from_slice(alloc, nodes.as_slice())?)),
+            Answer::Text(text) => Ok(Answer::Text(text.copy(alloc)?)),
+            Answer::Named(kind, name, written) => {
+                let name = copy_name_if(alloc, name)?;
+                Ok(Answer::Named(*kind, name, written.copy(alloc)?))
+            }
+            Answer::Chosen(rule) => Ok(Answer::Chosen(*rule)),
+            Answer::Copied(items) => Ok(Answer::Copied(items.clone()?)),
+            Answer::Resolved(unit) => Ok(Answer::Resolved(unit.clone()?)),
+            Answer::Passed(value) => Ok(Answer::Passed(copy_text_if(alloc, value)?)),
+        }
+    }
+
+    /// The nodes of the answer, and none where it has no nodes. Takes no memory.
+    pub fn into_nodes(self, alloc: Global) -> Vec<NodeRef>
+        ensures { result.items ≡ nodes_in (answer_of self) }
+    {
+        match self {
+            Answer::Nodes(nodes) => nodes,
+            _ => Vec::new(alloc),
+        }
+    }
+
+    /// The text of the answer, and the empty one where it is of another kind. Takes no memory.
+    pub fn into_text(self, alloc: Global) -> Text
+        ensures { result ≡ text_in (answer_of self) }
+    {
+        match self {
+            Answer::Text(text) => text,
+            _ => Text::new(alloc),
+        }
+    }
+}

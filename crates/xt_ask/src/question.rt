@@ -1,0 +1,126 @@
+// Questions to a world, and what is needed of a run.
+use crate::copies::copy_name_if;
+use crate::{copy_name, copy_test, copy_value};
+use spec_document::Axis;
+use std::alloc::Global;
+use xp_syntax::Test;
+use xt_names::Expanded;
+use xt_text::{Memory, Text};
+use xt_tree::{NodeRef, Value};
+
+/// Which template rules are candidates for a node (XSLT 1.0, sections 5.5 and 5.6).
+#[derive(Clone, Copy, Debug, PartialEq, Eq)]
+pub enum Candidates {
+    /// All of the mode.
+    AllRules,
+    /// Those whose import precedence is in this range: what the stylesheet that holds a rule imports.
+    Imported { first: u64, last: u64 },
+}
+
+/// What is asked of a world.
+#[derive(Drop)]
+pub enum Question {
+    /// The nodes of an axis that pass a node test, in the order of the axis.
+    Step(NodeRef, Axis, Test),
+    /// The string-value of a node.
+    Text(NodeRef),
+    /// The kind and the names of a node.
+    Name(NodeRef),
+    /// The text that tells a node's place.
+    Place(NodeRef),
+    /// These nodes in document order, each once.
+    Order(Vec<NodeRef>),
+    /// The nodes that have this value in the keys of this name.
+    Key(Expanded, Text),
+    /// The template rule of a node, in a mode.
+    Choice(NodeRef, Option<Expanded>, Candidates),
+    /// A copy of a node with what is below it.
+    Copy(NodeRef),
+    /// The unit of an element of the stylesheet.
+    Unit(NodeRef),
+    /// A parameter that is given from outside.
+    External(Text),
+}
+
+/// What is needed of the run of an instantiation, and not of the world.
+#[derive(Drop)]
+pub enum Wanted {
+    /// The position of the instantiation's node.
+    Position,
+    /// The size of the list that it stands in.
+    Size,
+    /// The value of a global variable or parameter.
+    Global(Expanded),
+}
+
+/// What is given for it.
+#[derive(Drop)]
+pub enum Given {
+    /// A position or size.
+    Counted(u64),
+    /// The value of a global.
+    Valued(Value),
+}
+
+impl Question {
+    ghost use Rattle.std.specs.Prelude.{◌≡◌, IfOk};
+    ghost use Rattle.xt_ask.specs.View.{question_of};
+
+    /// The same question, in memory of its own.
+    pub fn copy(&self, alloc: Global) -> Result<Question, Memory>
+        ensures { IfOk result (λ q. question_of q ≡ question_of self.now) }
+    {
+        match self {
+            Question::Step(node, axis, test) => {
+                Ok(Question::Step(*node, *axis, copy_test(alloc, test)?))
+            }
+            Question::Text(node) => Ok(Question::Text(*node)),
+            Question::Name(node) => Ok(Question::Name(*node)),
+            Question::Place(node) => Ok(Question::Place(*node)),
+            Question::Order(nodes) => {
+                Ok(Question::Order(Vec::from_slice(alloc, nodes.as_slice())?))
+            }
+            Question::Key(name, value) => {
+                let name = copy_name(alloc, name)?;
+                Ok(Question::Key(name, value.copy(alloc)?))
+            }
+            Question::Choice(node, mode, candidates) => {
+                Ok(Question::Choice(*node, copy_name_if(alloc, mode)?, *candidates))
+            }
+            Question::Copy(node) => Ok(Question::Copy(*node)),
+            Question::Unit(element) => Ok(Question::Unit(*element)),
+            Question::External(name) => Ok(Question::External(name.copy(alloc)?)),
+        }
+    }
+}
+
+impl Wanted {
+    ghost use Rattle.std.specs.Prelude.{◌≡◌, IfOk};
+    ghost use Rattle.xt_ask.specs.View.{wanted_of};
+
+    /// The same, in memory of its own.
+    pub fn copy(&self, alloc: Global) -> Result<Wanted, Memory>
+        ensures { IfOk result (λ w. wanted_of w ≡ wanted_of self.now) }
+    {
+        match self {
+            Wanted::Position => Ok(Wanted::Position),
+            Wanted::Size => Ok(Wanted::Size),
+            Wanted::Global(name) => Ok(Wanted::Global(copy_name(alloc, name)?)),
+        }
+    }
+}
+
+impl Given {
+    ghost use Rattle.std.specs.Prelude.{◌≡◌, IfOk};
+    ghost use Rattle.xt_ask.specs.View.{given_of};
+
+    /// The same. A fragment is shared.
+    pub fn copy(&self, alloc: Global) -> Result<Given, Memory>
+        ensures { IfOk result (λ g. given_of g ≡ given_of self.now) }
+    {
+        match self {
+            Given::Counted(number) => Ok(Given::Counted(*number)),
+            Given::Valued(value) => Ok(Given::Valued(copy_value(alloc, value)?)),
+        }
+    }
+}
