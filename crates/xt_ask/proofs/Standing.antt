@@ -1,5 +1,5 @@
 -- Reads that stand, one after another, and how many are asked.
-use Rattle.std.proofs.Common.{◌≡◌, ℕ, zero, suc, ◌<◌, ◌≤◌, ◌+◌, List, [], ◌∷◌, map, take, drop, length, get_or, refl, sym, ap, subst, ◌∙◌, arith}
+use Rattle.std.proofs.Common.{◌≡◌, ℕ, zero, suc, ◌<◌, ◌≤◌, ◌+◌, List, [], ◌∷◌, map, take, drop, length, get_or, refl, ap, subst, arith}
 use Rattle.spec_meaning.specs.Question.{Question, Answer}
 use Rattle.spec_meaning.specs.Program.{Read, Asked, Saw}
 use Rattle.xt_tree.specs.declared.node_ref.NodeRef.{NodeRef}
