@@ -1,5 +1,11 @@
 // Questions to a world, and what is needed of a run.
+ghost use Rattle.std.specs.Prelude.{◌≡◌};
+ghost use Rattle.spec_meaning.specs.Program.{value_in};
+ghost use Rattle.xt_tree.specs.ValueView.{value_of};
+ghost use Rattle.xt_ask.specs.View.{given_of};
+
 use spec_document::Axis;
+use std::alloc::Global;
 use xp_syntax::Test;
 use xt_names::Expanded;
 use xt_text::Text;
@@ -57,4 +63,16 @@ pub enum Given {
     Counted(u64),
     /// The value of a global.
     Valued(Value),
+}
+
+impl Given {
+    /// The value of a global, and the empty text where a number was given. Takes no memory.
+    pub fn into_value(self, alloc: Global) -> Value
+        ensures { value_of result ≡ value_in (given_of self) }
+    {
+        match self {
+            Given::Valued(value) => value,
+            Given::Counted(_) => Value::Text(Text::new(alloc)),
+        }
+    }
 }
