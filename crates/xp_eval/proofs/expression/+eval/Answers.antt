@@ -4,7 +4,8 @@ use Rattle.spec_expression.specs.Syntax.{exprs, links, steps}
 use Rattle.spec_meaning.specs.Meaning.{meaning, values_of, chained, kept, kept_by, along, stepped}
 use Rattle.xp_syntax.specs.View.{expr_of, link_of, step_of, test_of}
 use Rattle.xt_tree.specs.ValueView.{value_of}
-use Rattle.xt_ask.specs.View.{context_of}
+use Rattle.spec_meaning.specs.Supplies.{at_hand}
+use Rattle.xt_ask.specs.View.{context_of, supplies_of}
 use Rattle.xt_ask.proofs.Steps.{runs_then, runs_stop, runs_gives, runs_memory, runs_from, goes_on, next_turn, exits}
 use Rattle.xp_eval.specs.View.{values_in}
 use Rattle.xp_eval.proofs.Views.{view-Number, view-Variable, view-Call, view-Chain, view-Negation, view-Filter, view-Root, view-Path, view-Link, axis-of, test-of, predicates-of}
@@ -141,11 +142,11 @@ along-returns-in_err-found-clause-runs g t c f =
 
 pub along-returns-in_err-at-clause-runs : goal.along-returns-in_err-at-clause-runs
 along-returns-in_err-at-clause-runs g t c f =
-    exits _ c.from_residual-in_err-at.ensures.1 (runs_from (rw (← c.step-item.is) at (next_turn (λ ss. along (steps (map step_of ss)) (context_of f c.args.context.now) c.loop-step.at.items) c.args.route.now c.loop-step.step-index c.step-item.result (omega arith) (c.loop-step.invariant.same f))) (runs_then _ (rw c.as_slice.ensures.value at (c.in_ok-found.ensures.runs f)) (runs_stop _ (rw (c.as_slice-in-loop-step.ensures.value, axis-of c.step-item.result) at (c.in_err-at.ensures.runs _ _)))))
+    exits _ c.from_residual-in_err-at.ensures.1 (runs_from (rw (← c.step-item.is) at (next_turn (λ ss. along (steps (map step_of ss)) (context_of f c.args.context.now) c.loop-step.at.items) c.args.route.now c.loop-step.step-index c.step-item.result (omega arith) (c.loop-step.invariant.same f))) (runs_then _ (rw c.as_slice.ensures.value at (c.in_ok-found.ensures.runs f)) (runs_stop _ (rw (c.as_slice-in-loop-step.ensures.value, axis-of c.step-item.result) at (c.in_err-at.ensures.runs (at_hand (supplies_of c.args.supplies.now) c.args.context.now.depth) c.args.context.now.depth)))))
 
 pub along-loop-step-preserved : goal.along-loop-step-preserved
 along-loop-step-preserved g t c =
-    record { same = λ f. goes_on _ (goes_on _ (rw (← c.step-item.is) at (next_turn (λ ss. along (steps (map step_of ss)) (context_of f c.args.context.now) c.loop-step.at.items) c.args.route.now c.loop-step.step-index c.step-item.result (omega arith) (c.loop-step.invariant.same f))) (rw c.as_slice.ensures.value at (c.in_ok-found.ensures.runs f))) (rw (c.as_slice-in-loop-step.ensures.value, axis-of c.step-item.result) at (c.in_ok-at.ensures.runs _ _)); name = c.arrange.ensures.name ∙ c.stepped.ensures.name ∙ c.loop-step.invariant.name }
+    record { same = λ f. goes_on _ (goes_on _ (rw (← c.step-item.is) at (next_turn (λ ss. along (steps (map step_of ss)) (context_of f c.args.context.now) c.loop-step.at.items) c.args.route.now c.loop-step.step-index c.step-item.result (omega arith) (c.loop-step.invariant.same f))) (rw c.as_slice.ensures.value at (c.in_ok-found.ensures.runs f))) (rw (c.as_slice-in-loop-step.ensures.value, axis-of c.step-item.result) at (c.in_ok-at.ensures.runs (at_hand (supplies_of c.args.supplies.now) c.args.context.now.depth) c.args.context.now.depth)); name = c.arrange.ensures.name ∙ c.stepped.ensures.name ∙ c.loop-step.invariant.name }
 
 pub stepped-returns-in_err-test-clause-runs : goal.stepped-returns-in_err-test-clause-runs
 stepped-returns-in_err-test-clause-runs g t c f =
@@ -153,16 +154,16 @@ stepped-returns-in_err-test-clause-runs g t c f =
 
 pub stepped-returns-in_err-found-clause-runs : goal.stepped-returns-in_err-found-clause-runs
 stepped-returns-in_err-found-clause-runs g t c f =
-    exits _ c.from_residual-in_err-found.ensures.1 (runs_from (step_turn (kept_by (step_of c.args.step.now).predicates (context_of f c.args.context.now)) (step_of c.args.step.now).axis (step_of c.args.step.now).test c.loop-node.done.items (drop (c.loop-node.node-index + 1) c.args.nodes.now) _ (next_turn (stepped (kept_by (step_of c.args.step.now).predicates (context_of f c.args.context.now)) (step_of c.args.step.now).axis (step_of c.args.step.now).test c.loop-node.done.items) c.args.nodes.now c.loop-node.node-index _ (omega arith) (c.loop-node.invariant.same f))) (runs_stop _ (rw (c.in_ok-test.ensures, axis-of c.args.step.now, test-of c.args.step.now) at (c.in_err-found.ensures.runs _ _))))
+    exits _ c.from_residual-in_err-found.ensures.1 (runs_from (step_turn (kept_by (step_of c.args.step.now).predicates (context_of f c.args.context.now)) (step_of c.args.step.now).axis (step_of c.args.step.now).test c.loop-node.done.items (drop (c.loop-node.node-index + 1) c.args.nodes.now) _ (next_turn (stepped (kept_by (step_of c.args.step.now).predicates (context_of f c.args.context.now)) (step_of c.args.step.now).axis (step_of c.args.step.now).test c.loop-node.done.items) c.args.nodes.now c.loop-node.node-index _ (omega arith) (c.loop-node.invariant.same f))) (runs_stop _ (rw (c.in_ok-test.ensures, axis-of c.args.step.now, test-of c.args.step.now) at (c.in_err-found.ensures.runs (at_hand (supplies_of c.args.supplies.now) c.args.context.now.depth) c.args.context.now.depth))))
 
 pub stepped-returns-in_err-more-clause-runs : goal.stepped-returns-in_err-more-clause-runs
 stepped-returns-in_err-more-clause-runs g t c f =
-    exits _ c.from_residual-in_err-more.ensures.1 (runs_from (step_turn (kept_by (step_of c.args.step.now).predicates (context_of f c.args.context.now)) (step_of c.args.step.now).axis (step_of c.args.step.now).test c.loop-node.done.items (drop (c.loop-node.node-index + 1) c.args.nodes.now) _ (next_turn (stepped (kept_by (step_of c.args.step.now).predicates (context_of f c.args.context.now)) (step_of c.args.step.now).axis (step_of c.args.step.now).test c.loop-node.done.items) c.args.nodes.now c.loop-node.node-index _ (omega arith) (c.loop-node.invariant.same f))) (runs_then _ (rw (c.in_ok-test.ensures, axis-of c.args.step.now, test-of c.args.step.now) at (c.in_ok-found.ensures.runs _ _)) (runs_stop _ (rw (c.as_slice.ensures.value, predicates-of c.args.step.now) at (c.in_err-more.ensures.runs f)))))
+    exits _ c.from_residual-in_err-more.ensures.1 (runs_from (step_turn (kept_by (step_of c.args.step.now).predicates (context_of f c.args.context.now)) (step_of c.args.step.now).axis (step_of c.args.step.now).test c.loop-node.done.items (drop (c.loop-node.node-index + 1) c.args.nodes.now) _ (next_turn (stepped (kept_by (step_of c.args.step.now).predicates (context_of f c.args.context.now)) (step_of c.args.step.now).axis (step_of c.args.step.now).test c.loop-node.done.items) c.args.nodes.now c.loop-node.node-index _ (omega arith) (c.loop-node.invariant.same f))) (runs_then _ (rw (c.in_ok-test.ensures, axis-of c.args.step.now, test-of c.args.step.now) at (c.in_ok-found.ensures.runs (at_hand (supplies_of c.args.supplies.now) c.args.context.now.depth) c.args.context.now.depth)) (runs_stop _ (rw (c.as_slice.ensures.value, predicates-of c.args.step.now) at (c.in_err-more.ensures.runs f)))))
 
 pub stepped-returns-in_err-extend_from_slice-clause-runs : goal.stepped-returns-in_err-extend_from_slice-clause-runs
 stepped-returns-in_err-extend_from_slice-clause-runs g t c f =
-    exits _ c.from_residual-in_err-extend_from_slice.ensures.1 (runs_from (step_turn (kept_by (step_of c.args.step.now).predicates (context_of f c.args.context.now)) (step_of c.args.step.now).axis (step_of c.args.step.now).test c.loop-node.done.items (drop (c.loop-node.node-index + 1) c.args.nodes.now) _ (next_turn (stepped (kept_by (step_of c.args.step.now).predicates (context_of f c.args.context.now)) (step_of c.args.step.now).axis (step_of c.args.step.now).test c.loop-node.done.items) c.args.nodes.now c.loop-node.node-index _ (omega arith) (c.loop-node.invariant.same f))) (runs_then _ (rw (c.in_ok-test.ensures, axis-of c.args.step.now, test-of c.args.step.now) at (c.in_ok-found.ensures.runs _ _)) (runs_then _ (rw (c.as_slice.ensures.value, predicates-of c.args.step.now) at (c.in_ok-more.ensures.runs f)) (runs_memory refl refl))))
+    exits _ c.from_residual-in_err-extend_from_slice.ensures.1 (runs_from (step_turn (kept_by (step_of c.args.step.now).predicates (context_of f c.args.context.now)) (step_of c.args.step.now).axis (step_of c.args.step.now).test c.loop-node.done.items (drop (c.loop-node.node-index + 1) c.args.nodes.now) _ (next_turn (stepped (kept_by (step_of c.args.step.now).predicates (context_of f c.args.context.now)) (step_of c.args.step.now).axis (step_of c.args.step.now).test c.loop-node.done.items) c.args.nodes.now c.loop-node.node-index _ (omega arith) (c.loop-node.invariant.same f))) (runs_then _ (rw (c.in_ok-test.ensures, axis-of c.args.step.now, test-of c.args.step.now) at (c.in_ok-found.ensures.runs (at_hand (supplies_of c.args.supplies.now) c.args.context.now.depth) c.args.context.now.depth)) (runs_then _ (rw (c.as_slice.ensures.value, predicates-of c.args.step.now) at (c.in_ok-more.ensures.runs f)) (runs_memory refl refl))))
 
 pub stepped-loop-node-preserved : goal.stepped-loop-node-preserved
 stepped-loop-node-preserved g t c =
-    record { same = λ f. rw (c.in_ok-extend_from_slice.ensures.items, c.as_slice-in-loop-node.ensures.value) (goes_on _ (goes_on _ (step_turn (kept_by (step_of c.args.step.now).predicates (context_of f c.args.context.now)) (step_of c.args.step.now).axis (step_of c.args.step.now).test c.loop-node.done.items (drop (c.loop-node.node-index + 1) c.args.nodes.now) _ (next_turn (stepped (kept_by (step_of c.args.step.now).predicates (context_of f c.args.context.now)) (step_of c.args.step.now).axis (step_of c.args.step.now).test c.loop-node.done.items) c.args.nodes.now c.loop-node.node-index _ (omega arith) (c.loop-node.invariant.same f))) (rw (c.in_ok-test.ensures, axis-of c.args.step.now, test-of c.args.step.now) at (c.in_ok-found.ensures.runs _ _))) (rw (c.as_slice.ensures.value, predicates-of c.args.step.now) at (c.in_ok-more.ensures.runs f))); name = c.kept_by.ensures.name ∙ c.ask_nodes.ensures.name ∙ c.loop-node.invariant.name }
+    record { same = λ f. rw (c.in_ok-extend_from_slice.ensures.items, c.as_slice-in-loop-node.ensures.value) (goes_on _ (goes_on _ (step_turn (kept_by (step_of c.args.step.now).predicates (context_of f c.args.context.now)) (step_of c.args.step.now).axis (step_of c.args.step.now).test c.loop-node.done.items (drop (c.loop-node.node-index + 1) c.args.nodes.now) _ (next_turn (stepped (kept_by (step_of c.args.step.now).predicates (context_of f c.args.context.now)) (step_of c.args.step.now).axis (step_of c.args.step.now).test c.loop-node.done.items) c.args.nodes.now c.loop-node.node-index _ (omega arith) (c.loop-node.invariant.same f))) (rw (c.in_ok-test.ensures, axis-of c.args.step.now, test-of c.args.step.now) at (c.in_ok-found.ensures.runs (at_hand (supplies_of c.args.supplies.now) c.args.context.now.depth) c.args.context.now.depth))) (rw (c.as_slice.ensures.value, predicates-of c.args.step.now) at (c.in_ok-more.ensures.runs f))); name = c.kept_by.ensures.name ∙ c.ask_nodes.ensures.name ∙ c.loop-node.invariant.name }

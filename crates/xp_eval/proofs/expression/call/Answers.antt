@@ -14,6 +14,6 @@ found_is (Some f) = refl
 
 pub returns-clause-runs : goal.returns-clause-runs
 returns-clause-runs g c =
-    let count : c.len.result ≡ length (values_in c.args.arguments) = omega (arith, c.args.arguments.ok.0, length-map value_of c.args.arguments.items) in
+    let count : c.len.result ≡ length (values_in c.args.arguments) = omega (arith, c.args.arguments.ok.0, length-map c.args.arguments.items value_of) in
     let function = c.ok-function.ensures.value ∙ ap result_ok c.find.ensures ∙ found_is _ ∙ ap (function_of c.args.name.now) count in
     rw function at c.apply.ensures.runs
