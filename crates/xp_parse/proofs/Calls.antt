@@ -4,7 +4,7 @@ use Rattle.spec_expression.specs.Token.{Token}
 use Rattle.xp_parse.specs.Reading.{Read, Nothing, Returns}
 use Rattle.xp_parse.specs.declared.fault.ParseFault.{ParseFault}
 use Rattle.xp_parse.specs.declared.fault.ParseFault.TheVariants.{Memory, Refused}
-use Rattle.spec_expression.specs.declared.Refusal.TheVariants.{Syntax, Depth, Number as BadNumber, Prefix}
+use Rattle.spec_expression.specs.declared.ExpressionRefusal.TheVariants.{Syntax, Depth, Number as BadNumber, Prefix}
 use Rattle.std.specs.Result.{IsErrAnd}
 
 -- what a call answers

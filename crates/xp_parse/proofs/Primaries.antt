@@ -1,13 +1,13 @@
 -- The productions of filters and of primary expressions.
-use Rattle.std.proofs.Common.{Bool, cond, ◌≡◌, ℕ, ◌<◌, true, false, Option, List, ◌∷◌, Some, None, refl, ap, ◌∙◌, sym, subst, arith}
-use Rattle.std.specs.Prelude.{unwrap_or, MatchOption}
+use Rattle.std.proofs.Common.{◌≡◌, ℕ, ◌<◌, Option, List, ◌∷◌, None, refl, ap, ◌∙◌, sym, subst, arith}
+use Rattle.std.specs.Prelude.{unwrap_or}
 use Rattle.spec_document.specs.Name.{QName}
 use Rattle.spec_document.specs.Scope.{Scope}
 use Rattle.spec_expression.specs.declared.Level.TheVariants.{OrExpr}
-use Rattle.spec_expression.specs.Token.{Token, Open, Close, Name, Variable, Literal, Number, is_whole, decimal}
+use Rattle.spec_expression.specs.Token.{Token, Open, Close, Name, Variable, Literal, Number}
 use Rattle.spec_expression.specs.Syntax.{Expr, number, literal, variable, call, exprs, filtered}
 use Rattle.spec_expression.specs.Grammar as g
-use Rattle.spec_expression.specs.Grammar.{type_of, expanded, value_of, Reads, ReadsFilter, ReadsPrimary, ReadsArguments, ReadsPredicates}
+use Rattle.spec_expression.specs.Grammar.{type_of, expanded, Reads, ReadsFilter, ReadsPrimary, ReadsArguments, ReadsPredicates}
 use Rattle.spec_expression.proofs.Rank.{head_rank}
 use Rattle.spec_expression.proofs.Ranks.{predicates_stop}
 use Rattle.xp_parse.specs.Reading.{Read, Nothing, IsNotNext}
@@ -49,10 +49,10 @@ literal_only g.of_literal = (refl, refl)
 pub literal_read : {s : Scope} {ts : List Token} {t : List ℕ} → Read (ReadsPrimary s) 11 (Literal t ∷ ts) (literal t) ts
 literal_read = record { reads = g.of_literal; only = λ y ws p h. literal_only p }
 
-number_only : {s : Scope} {ts ws : List Token} {w f : List ℕ} {y : Expr} → ReadsPrimary s (Number w f ∷ ts) y ws → (number (value_of w f) ≡ y) × (ts ≡ ws)
+number_only : {s : Scope} {ts ws : List Token} {n : Option ℕ} {y : Expr} → ReadsPrimary s (Number n ∷ ts) y ws → (number (unwrap_or n 0) ≡ y) × (ts ≡ ws)
 number_only g.of_number = (refl, refl)
 
-pub number_read : {s : Scope} {ts : List Token} {w f : List ℕ} → Read (ReadsPrimary s) 11 (Number w f ∷ ts) (number (value_of w f)) ts
+pub number_read : {s : Scope} {ts : List Token} {n : Option ℕ} → Read (ReadsPrimary s) 11 (Number n ∷ ts) (number (unwrap_or n 0)) ts
 number_read = record { reads = g.of_number; only = λ y ws p h. number_only p }
 
 group_only : {s : Scope} {ts us ws : List Token} {e y : Expr} → Read (Reads s OrExpr) 1 ts e (Close ∷ us) → ReadsPrimary s (Open ∷ ts) y ws → (e ≡ y) × (us ≡ ws)
@@ -84,7 +84,3 @@ call_none n (g.of_call e p) h = n.none _ _ p h
 
 pub call_fail : {s : Scope} {ts : List Token} {q : QName} → Nothing (ReadsArguments s) 13 ts → Nothing (ReadsPrimary s) 11 (Name q ∷ Open ∷ ts)
 call_fail n = record { none = λ y ws p h. call_none n p (omega arith) }
-
-pub number_value : (o : Option ℕ) (w f : List ℕ) → MatchOption o (is_whole w f ≡ false) (λ n. (is_whole w f ≡ true) × (n ≡ decimal w)) → unwrap_or o 0 ≡ value_of w f
-number_value None w f h = ap (λ (b : Bool). cond b (decimal w) 0) (sym h)
-number_value (Some n) w f h = h.1 ∙ ap (λ (b : Bool). cond b (decimal w) 0) (sym h.0)

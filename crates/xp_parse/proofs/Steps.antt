@@ -13,7 +13,7 @@ use Rattle.spec_expression.proofs.Ranks.{predicates_stop, steps_stop}
 use Rattle.xp_parse.specs.Reading.{Read, Nothing, Returns, Behind, IsNotNext, ReadsAxis, named, attribute, absent, IsNoAxis}
 use Rattle.xp_parse.specs.declared.fault.ParseFault.{ParseFault}
 use Rattle.xp_parse.specs.declared.fault.ParseFault.TheVariants.{Memory, Refused}
-use Rattle.spec_expression.specs.declared.Refusal.TheVariants.{Syntax, Depth, Number as BadNumber, Prefix}
+use Rattle.spec_expression.specs.declared.ExpressionRefusal.TheVariants.{Syntax, Depth, Number as BadNumber, Prefix}
 use Rattle.xp_parse.proofs.Lists.{Continues, more, ended}
 
 -- steps

@@ -2,7 +2,7 @@
 use Rattle.std.specs.Prelude.{◌≡◌, ℕ, ◌+◌, ◌<◌, Bool, true, false, not, is_some, List, ◌∷◌, ◌++◌, length, drop, map, None, Some, Result, Ok, Err}
 use Rattle.spec_expression.specs.declared.Operator.{Operator}
 use Rattle.spec_expression.specs.declared.Level.{Level}
-use Rattle.spec_expression.specs.declared.Refusal.TheVariants.{Syntax, Depth, Number, Prefix}
+use Rattle.spec_expression.specs.declared.ExpressionRefusal.TheVariants.{Syntax, Depth, Number, Prefix}
 use Rattle.spec_document.specs.declared.axis.Axis.{Axis}
 use Rattle.spec_document.specs.declared.axis.Axis.TheVariants.{Attribute, Child}
 use Rattle.spec_expression.specs.declared.NodeType.{NodeType}
@@ -93,7 +93,7 @@ abbrev pub begins_primary : List Token → Bool
 begins_primary (plain.Variable q ∷ ts) = true
 begins_primary (plain.Open ∷ ts) = true
 begins_primary (plain.Literal t ∷ ts) = true
-begins_primary (plain.Number w f ∷ ts) = true
+begins_primary (plain.Number n ∷ ts) = true
 begins_primary (plain.Name q ∷ plain.Open ∷ ts) = not (is_some (type_of q))
 begins_primary _ = false
 
@@ -130,7 +130,7 @@ abbrev pub Begins : Parser → ℕ → Head → Type 0
 Begins p at (heads.Variable name) = IsNext p at (plain.Variable (name_of name))
 Begins p at heads.Group = IsNext p at plain.Open
 Begins p at (heads.Literal content) = IsNext p at (plain.Literal content.now)
-Begins p at (heads.Number whole fraction) = IsNext p at (plain.Number whole.now fraction.now)
+Begins p at (heads.Number value) = IsNext p at (plain.Number value)
 Begins p at (heads.Call name) = IsNext p at (plain.Name (name_of name)) × IsNext p (at + 1) plain.Open × (type_of (name_of name) ≡ None)
 
 -- how a node test begins

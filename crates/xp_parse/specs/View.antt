@@ -28,7 +28,7 @@ token_of (tokens.AnyOf prefix) = plain.AnyOf prefix.now
 token_of (tokens.Name name) = plain.Name (name_of name)
 token_of (tokens.Variable name) = plain.Variable (name_of name)
 token_of (tokens.Literal content) = plain.Literal content.now
-token_of (tokens.Number whole fraction) = plain.Number whole.now fraction.now
+token_of (tokens.Number value) = plain.Number value
 
 abbrev pub piece_of : Piece → plain.Piece
 piece_of p = record { token = token_of p.token; taken = p.taken }

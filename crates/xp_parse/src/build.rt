@@ -1,9 +1,10 @@
 // Trees made of their parts.
-ghost use Rattle.std.specs.Prelude.{◌≡◌, IfOk, MatchOption, true, false, map, [], min, unwrap_or, ◌==◌};
+ghost use Rattle.std.specs.Prelude.{◌≡◌, IfOk, ◌+◌, map, [], min, unwrap_or, ◌==◌};
 ghost use Rattle.std.specs.List.{list_all};
 ghost use Rattle.std.specs.Option.{option_copied};
+ghost use Rattle.std.specs.Result.{result_ok};
 ghost use Rattle.spec_document.specs.Scope as scopes;
-ghost use Rattle.spec_expression.specs.Token as plain;
+ghost use Rattle.spec_expression.specs.Number.{decimal, greatest, numeral};
 ghost use Rattle.spec_expression.specs.Syntax as tree;
 ghost use Rattle.spec_expression.specs.Grammar as grammar;
 ghost use Rattle.xp_syntax.specs.View.{expr_of, link_of, step_of};
@@ -14,11 +15,9 @@ use spec_document::Axis;
 use spec_expression::NodeType;
 use std::alloc::Global;
 use xp_syntax::{Expr, Link, Step, Test};
+use xt_base::GREATEST;
 use xt_names::{Expanded, Scope};
 use xt_text::{Memory, Text};
-
-/// The greatest number that a literal may be.
-const GREATEST: u64 = 9007199254740991;
 
 /// The text of these characters.
 pub fn text_of(alloc: Global, characters: &[char]) -> Result<Text, Memory>
@@ -67,7 +66,7 @@ pub fn expanded(alloc: Global, scope: &Scope, name: Name<'_>) -> Result<Expanded
 
 /// The number that the digits spell, up to the greatest one; else one more than that.
 fn decimal(digits: &[char]) -> u64
-    ensures { result ≡ min (plain.decimal digits.now) 9007199254740992 }
+    ensures { result ≡ min (decimal digits.now) (greatest + 1) }
 {
     let mut number = 0u64;
     for digit in digits {
@@ -86,7 +85,7 @@ fn are_zeros(digits: &[char]) -> bool
 
 /// The number of a literal. None exactly where it is not whole or too great.
 pub fn number_of(whole: &[char], fraction: &[char]) -> Option<u64>
-    ensures { MatchOption result (plain.is_whole whole.now fraction.now ≡ false) (λ n. (plain.is_whole whole.now fraction.now ≡ true) × (n ≡ plain.decimal whole.now)) }
+    ensures { result ≡ result_ok (numeral whole.now fraction.now) }
 {
     let number = decimal(whole);
     if are_zeros(fraction) && number <= GREATEST {

@@ -5,6 +5,7 @@ ghost use Rattle.spec_document.specs.Character.{is_name_part};
 ghost use Rattle.spec_expression.specs.Token as plain;
 ghost use Rattle.xp_parse.specs.View.{token_of, piece_of};
 
+use crate::build::number_of;
 use crate::token::{Name, Token};
 use spec_expression::Operator;
 use std::alloc::Global;
@@ -86,12 +87,12 @@ fn number_at(text: &[char]) -> Piece<'_>
         ['.', decimals @ ..] => {
             let fraction = digits_at(decimals);
             Piece {
-                token: Token::Number(whole, fraction),
+                token: Token::Number(number_of(whole, fraction)),
                 taken: whole.len() + 1 + fraction.len(),
             }
         }
         _ => Piece {
-            token: Token::Number(whole, &[]),
+            token: Token::Number(number_of(whole, &[])),
             taken: whole.len(),
         },
     }

@@ -4,14 +4,12 @@ ghost use Rattle.spec_expression.specs.Grammar as grammar;
 ghost use Rattle.spec_expression.proofs.Rank.{rank};
 ghost use Rattle.xp_syntax.specs.View.{expr_of, link_of, step_of, test_of};
 
-use crate::build::{
-    chained, expanded, filtered, negated, node_on, number_of, stepped, text_of, uri_of,
-};
+use crate::build::{chained, expanded, filtered, negated, node_on, stepped, text_of, uri_of};
 use crate::fault::ParseFault;
 use crate::read::{Head, Parser, TestHead, axis_of, type_of};
 use crate::token::Sign;
 use spec_document::Axis;
-use spec_expression::{Level, NodeType, Refusal};
+use spec_expression::{ExpressionRefusal, Level, NodeType};
 use xp_syntax::{Expr, Link, Step, Test};
 
 impl<'a> Parser<'_, 'a> {
@@ -152,15 +150,15 @@ impl<'a> Parser<'_, 'a> {
                 *at += 1;
                 Ok(Expr::Literal(text))
             }
-            Head::Number(whole, fraction) => {
+            Head::Number(value) => {
                 *at += 1;
-                Ok(Expr::Number(number_of(whole, fraction).unwrap_or(0)))
+                Ok(Expr::Number(value.unwrap_or(0)))
             }
             Head::Group => {
                 *at += 1;
                 let inner = self.expression(Level::OrExpr, at)?;
                 if !self.next_is(*at, Sign::Close) {
-                    return Err(ParseFault::Refused(Refusal::Syntax));
+                    return Err(ParseFault::Refused(ExpressionRefusal::Syntax));
                 }
                 *at += 1;
                 Ok(inner)
@@ -194,7 +192,7 @@ impl<'a> Parser<'_, 'a> {
             arguments.push(argument)?;
         }
         if !self.next_is(*at, Sign::Close) {
-            return Err(ParseFault::Refused(Refusal::Syntax));
+            return Err(ParseFault::Refused(ExpressionRefusal::Syntax));
         }
         *at += 1;
         Ok(arguments)
@@ -213,7 +211,7 @@ impl<'a> Parser<'_, 'a> {
             *at += 1;
             let predicate = self.expression(Level::OrExpr, at)?;
             if !self.next_is(*at, Sign::CloseSquare) {
-                return Err(ParseFault::Refused(Refusal::Syntax));
+                return Err(ParseFault::Refused(ExpressionRefusal::Syntax));
             }
             *at += 1;
             predicates.push(predicate)?;
@@ -287,7 +285,7 @@ impl<'a> Parser<'_, 'a> {
         requires dot { reading.IsNotNext (left self.now at.old) (reading.token_of_sign Sign.Dot) }
         requires dots { reading.IsNotNext (left self.now at.old) (reading.token_of_sign Sign.DotDot) }
         ensures ok { IfOk result (λ axis. ReadsAxis (left self.now at.old) axis (left self.now at.new)) }
-        ensures err { OnErr result ((result ≡ Err (ParseFault.Refused Refusal.Syntax)) × IsNoAxis (left self.now at.old)) }
+        ensures err { OnErr result ((result ≡ Err (ParseFault.Refused ExpressionRefusal.Syntax)) × IsNoAxis (left self.now at.old)) }
         ensures progress { OnOk result (at.old ≤ at.new) }
     {
         if self.next_is(*at, Sign::At) {
@@ -300,7 +298,7 @@ impl<'a> Parser<'_, 'a> {
                     *at += 2;
                     Ok(axis)
                 }
-                None => Err(ParseFault::Refused(Refusal::Syntax)),
+                None => Err(ParseFault::Refused(ExpressionRefusal::Syntax)),
             },
             None => Ok(Axis::Child),
         }
@@ -313,7 +311,7 @@ impl<'a> Parser<'_, 'a> {
         ensures within { OnOk result (at.new ≤ length self.now.tokens.now) }
     {
         match self.test_at(*at) {
-            None => Err(ParseFault::Refused(Refusal::Syntax)),
+            None => Err(ParseFault::Refused(ExpressionRefusal::Syntax)),
             Some(TestHead::Star) => {
                 *at += 1;
                 Ok(Test::AnyName)
@@ -354,9 +352,9 @@ impl<'a> Parser<'_, 'a> {
                     *at += 4;
                     Ok(Test::Instruction(target))
                 }
-                None => Err(ParseFault::Refused(Refusal::Syntax)),
+                None => Err(ParseFault::Refused(ExpressionRefusal::Syntax)),
             },
-            _ => Err(ParseFault::Refused(Refusal::Syntax)),
+            _ => Err(ParseFault::Refused(ExpressionRefusal::Syntax)),
         }
     }
 }

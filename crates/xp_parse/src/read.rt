@@ -92,7 +92,7 @@ impl<'a> Parser<'_, 'a> {
             Some(Token::Variable(name)) => Some(Head::Variable(name)),
             Some(Token::Open) => Some(Head::Group),
             Some(Token::Literal(content)) => Some(Head::Literal(content)),
-            Some(Token::Number(whole, fraction)) => Some(Head::Number(whole, fraction)),
+            Some(Token::Number(value)) => Some(Head::Number(value)),
             Some(Token::Name(name))
                 if type_of(name).is_none() && self.next_is(at + 1, Sign::Open) => {
                 Some(Head::Call(name))
@@ -142,7 +142,8 @@ pub enum Head<'a> {
     /// `(`
     Group,
     Literal(&'a [char]),
-    Number(&'a [char], &'a [char]),
+    /// The value of a number; none where it has a fraction or is too great.
+    Number(Option<u64>),
     /// The name of a function and `(`.
     Call(Name<'a>),
 }

@@ -8,12 +8,12 @@ ghost use Rattle.spec_expression.specs.Grammar as grammar;
 ghost use Rattle.xp_parse.specs.View.{token_of};
 ghost use Rattle.xp_parse.specs.Parsed.{Parsed, Given};
 
-use crate::build::{number_of, resolved};
+use crate::build::resolved;
 use crate::cut;
 use crate::fault::ParseFault;
 use crate::read::Parser;
 use crate::token::Token;
-use spec_expression::{Level, Refusal};
+use spec_expression::{ExpressionRefusal, Level};
 use std::alloc::{AllocError, Global};
 use xp_syntax::Expr;
 use xt_names::Scope;
@@ -53,7 +53,7 @@ fn is_bad_number(token: &Token<'_>) -> bool
     ensures { result ≡ grammar.is_bad_number (token_of token.now) }
 {
     match token {
-        Token::Number(whole, fraction) => number_of(whole, fraction).is_none(),
+        Token::Number(value) => value.is_none(),
         _ => false,
     }
 }
@@ -109,7 +109,7 @@ fn tree(alloc: Global, scope: &Scope, tokens: &[Token<'_>]) -> Result<Expr, Pars
     ensures { Given scope.now (map token_of tokens.now) result }
 {
     if is_deep(tokens) {
-        return Err(ParseFault::Refused(Refusal::Depth));
+        return Err(ParseFault::Refused(ExpressionRefusal::Depth));
     }
     let parser = Parser {
         alloc,
@@ -119,13 +119,13 @@ fn tree(alloc: Global, scope: &Scope, tokens: &[Token<'_>]) -> Result<Expr, Pars
     let mut at = 0;
     let expr = parser.expression(Level::OrExpr, &mut at)?;
     if at < tokens.len() {
-        return Err(ParseFault::Refused(Refusal::Syntax));
+        return Err(ParseFault::Refused(ExpressionRefusal::Syntax));
     }
     if has_bad_number(tokens) {
-        return Err(ParseFault::Refused(Refusal::Number));
+        return Err(ParseFault::Refused(ExpressionRefusal::Number));
     }
     if has_undeclared(alloc, scope, tokens)? {
-        return Err(ParseFault::Refused(Refusal::Prefix));
+        return Err(ParseFault::Refused(ExpressionRefusal::Prefix));
     }
     Ok(expr)
 }
@@ -147,6 +147,6 @@ pub fn parse(alloc: Global, text: &str, scope: &Scope) -> Result<Expr, ParseFaul
     let characters = characters_of(alloc, text)?;
     match cut::tokens(alloc, characters.as_slice())? {
         Some(tokens) => tree(alloc, scope, tokens.as_slice()),
-        None => Err(ParseFault::Refused(Refusal::Syntax)),
+        None => Err(ParseFault::Refused(ExpressionRefusal::Syntax)),
     }
 }

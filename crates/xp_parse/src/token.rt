@@ -37,8 +37,8 @@ pub enum Token<'a> {
     Variable(Name<'a>),
     /// What stands between the quotes.
     Literal(&'a [char]),
-    /// The digits before the point, and those behind it.
-    Number(&'a [char], &'a [char]),
+    /// The value of a number; none where it has a fraction or is too great.
+    Number(Option<u64>),
 }
 
 impl Token<'_> {

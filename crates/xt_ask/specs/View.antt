@@ -24,6 +24,8 @@ use Rattle.xt_ask.specs.declared.answer.NamedSets.{NamedSets}
 use Rattle.xt_ask.specs.declared.answer.ResolvedUnit.{ResolvedUnit}
 use Rattle.xt_ask.specs.declared.answer.Answer.{Answer}
 use Rattle.xt_ask.specs.declared.answer.Answer.TheVariants as answers
+use Rattle.xt_ask.specs.declared.read.Read.{Read}
+use Rattle.xt_ask.specs.declared.read.Read.TheVariants as reads
 use Rattle.xt_ask.specs.declared.fault.Refusal.{Refusal}
 use Rattle.xt_ask.specs.declared.fault.Refusal.TheVariants as refusals
 use Rattle.xt_ask.specs.declared.context.Focus.{Focus}
@@ -81,6 +83,10 @@ wanted_of (wanted.Global name) = program.Global name
 abbrev pub given_of : Given → program.Given NodeRef
 given_of (given.Counted number) = program.Counted number
 given_of (given.Valued value) = program.Valued (value_of value)
+
+abbrev pub read_of : Read → program.Read NodeRef
+read_of (reads.Asked question answer) = program.Asked (question_of question) (answer_of answer)
+read_of (reads.Saw wanted depth given) = program.Saw (wanted_of wanted) depth (given_of given)
 
 -- variables, innermost first
 abbrev pub bindings_step : Bindings-F (List (context.Bound NodeRef)) (List (context.Bound NodeRef)) → List (context.Bound NodeRef)

@@ -3,13 +3,14 @@ ghost use Rattle.std.specs.Prelude.{◌≡◌};
 ghost use Rattle.spec_meaning.specs.Question.{nodes_in, text_in};
 ghost use Rattle.xt_ask.specs.View.{answer_of};
 
+use crate::copies::{copy_name_if, copy_text_if};
 use crate::Refusal;
 use spec_document::Kind;
 use std::alloc::Global;
 use std::rc::Rc;
 use xp_syntax::Unit;
 use xt_names::Expanded;
-use xt_text::Text;
+use xt_text::{Memory, Text};
 use xt_tree::{Items, NodeRef};
 
 /// A named template of the stylesheet, by the node of its element.
@@ -60,6 +61,30 @@ pub enum Answer {
 }
 
 impl Answer {
+    ghost use Rattle.std.specs.Prelude.{◌≡◌, IfOk};
+    ghost use Rattle.xt_ask.specs.View.{answer_of};
+    ghost use Rattle.spec_meaning.specs.Question.{nodes_in, text_in};
+
+    /// The same answer. Copied nodes and units are shared, all else is in memory of its own.
+    pub fn copy(&self, alloc: Global) -> Result<Answer, Memory>
+        ensures { IfOk result (λ a. answer_of a ≡ answer_of self.now) }
+    {
+        match self {
+            Answer::Gone => Ok(Answer::Gone),
+            Answer::Refused(refusal) => Ok(Answer::Refused(refusal.copy(alloc)?)),
+            Answer::Nodes(nodes) => Ok(Answer::Nodes(Vec::from_slice(alloc, nodes.as_slice())?)),
+            Answer::Text(text) => Ok(Answer::Text(text.copy(alloc)?)),
+            Answer::Named(kind, name, written) => {
+                let name = copy_name_if(alloc, name)?;
+                Ok(Answer::Named(*kind, name, written.copy(alloc)?))
+            }
+            Answer::Chosen(rule) => Ok(Answer::Chosen(*rule)),
+            Answer::Copied(items) => Ok(Answer::Copied(items.clone()?)),
+            Answer::Resolved(unit) => Ok(Answer::Resolved(unit.clone()?)),
+            Answer::Passed(value) => Ok(Answer::Passed(copy_text_if(alloc, value)?)),
+        }
+    }
+
     /// The nodes of the answer, and none where it has no nodes. Takes no memory.
     pub fn into_nodes(self, alloc: Global) -> Vec<NodeRef>
         ensures { result.items ≡ nodes_in (answer_of self) }

@@ -13,7 +13,9 @@ mod context;
 mod copies;
 mod evaluate;
 mod fault;
+mod logged;
 mod question;
+mod read;
 mod world;
 
 pub use answer::{Answer, NamedSets, NamedTemplate, ResolvedUnit};
@@ -22,5 +24,7 @@ pub use context::{Binding, Bindings, Context, Focus, Known, Supplies};
 pub use copies::{copy_name, copy_test, copy_value};
 pub use evaluate::Evaluate;
 pub use fault::{EvalFault, Refusal};
+pub use logged::Logged;
 pub use question::{Candidates, Given, Question, Wanted};
+pub use read::Read;
 pub use world::World;

@@ -19,7 +19,7 @@ use Rattle.xp_parse.proofs.Operators.{link_more, link_fail, links_end, chain_rea
 use Rattle.xp_parse.proofs.Places.{at_read, at_nothing, at_continues, to_next, next_two}
 use Rattle.xp_parse.proofs.Begins.{head_begins}
 use Rattle.xp_parse.proofs.Paths.{root_alone, root_read, root_fail, below_root_read, below_root_fail, relative_read, relative_fail, from_filter_read, from_filter_fail, from_filter_fail_later}
-use Rattle.xp_parse.proofs.Primaries.{filter_read, filter_fail, filter_fail_later, variable_read, literal_read, number_read, number_value, group_read, group_fail, group_unclosed, call_read, call_fail}
+use Rattle.xp_parse.proofs.Primaries.{filter_read, filter_fail, filter_fail_later, variable_read, literal_read, number_read, group_read, group_fail, group_unclosed, call_read, call_fail}
 use Rattle.xp_parse.proofs.Bracketed.{no_argument_read, arguments_read, arguments_fail, arguments_fail_later, arguments_end, arguments_unclosed, argument_more, argument_fail, predicate_more, predicate_fail, predicate_unclosed, predicates_end}
 use Rattle.xp_parse.proofs.Steps.{child_more, child_fail, descendant_more, descendant_fail, steps_end, steps_fail, relative_from, dot_read, dots_read, step_read, step_fail, step_fail_later, axis_fail}
 use Rattle.xp_parse.proofs.Calls.{exits, exits_refused, found, refused}
@@ -161,8 +161,8 @@ primary-returns-in_ok-text-in-Literal-clause-answer t c =
 
 pub primary-returns-in-Number-clause-answer : goal.primary-returns-in-Number-clause-answer
 primary-returns-in-Number-clause-answer t c =
-    let n : IsNext c.args.self.now c.args.at.now (Number c.in-Number.whole.now c.in-Number.fraction.now) = subst (λ (h : Head). Begins c.args.self.now c.args.at.now h) c.in-Number.is c.requires in
-    found (view-Number _ ∙ ap tree.number (c.unwrap_or.ensures ∙ number_value c.number_of.result c.in-Number.whole.now c.in-Number.fraction.now c.number_of.ensures)) (at_read n number_read)
+    let n : IsNext c.args.self.now c.args.at.now (Number c.in-Number.value) = subst (λ (h : Head). Begins c.args.self.now c.args.at.now h) c.in-Number.is c.requires in
+    found (view-Number _ ∙ ap tree.number c.unwrap_or.ensures) (at_read n number_read)
 
 pub primary-returns-else-not-next_is-clause-answer : goal.primary-returns-else-not-next_is-clause-answer
 primary-returns-else-not-next_is-clause-answer t c =
