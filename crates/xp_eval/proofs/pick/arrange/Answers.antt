@@ -12,4 +12,6 @@ of_several (n ∷ []) a found h = absurd (omega arith)
 of_several (n ∷ m ∷ more) a found h = refl
 
 pub returns-clause-runs : goal.returns-clause-runs
-returns-clause-runs g c supply depth = rw (of_several c.args.from.now c.args.axis c.args.found.items (omega (arith, is_some c.args.from.now (sym c.is_empty.ensures ∙ c.if-is_empty.false)))) (c.ask_order.ensures.runs supply depth)
+returns-clause-runs g c supply depth =
+    let some = is_some c.args.from.now (sym c.is_empty.ensures ∙ c.if-is_empty.false) in
+    rw (of_several c.args.from.now c.args.axis c.args.found.items (omega (arith, some))) (c.ask_order.ensures.runs supply depth)

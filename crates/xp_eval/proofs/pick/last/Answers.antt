@@ -14,4 +14,6 @@ last_is [] d h = absurd (omega arith)
 last_is (n ∷ ns) d h = let e : length (n ∷ ns) - 1 ≡ length ns = omega arith in ap (λ i. get_or (n ∷ ns) i d ∷ []) e ∙ last_at n ns d
 
 pub returns : goal.returns
-returns c = IfOk-weaker c.only.result _ _ (λ v h. h ∙ last_is c.args.nodes.now _ (is_some c.args.nodes.now (sym c.is_empty.ensures ∙ c.if-is_empty.false))) c.only.ensures
+returns c =
+    let some = is_some c.args.nodes.now (sym c.is_empty.ensures ∙ c.if-is_empty.false) in
+    IfOk-weaker c.only.result _ _ (λ v h. h ∙ last_is c.args.nodes.now _ some) c.only.ensures
