@@ -15,6 +15,7 @@ use xt_text::{Memory, Text};
 use xt_tree::{Doc, NodeRef};
 
 /// A document, of whose tree everything is true and of keys, stylesheets and parameters nothing.
+#[derive(Drop)]
 pub struct PlainWorld<'a> {
     pub alloc: Global,
     pub document: &'a Doc,
