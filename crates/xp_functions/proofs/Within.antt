@@ -1,5 +1,6 @@
 -- Programs one after another.
-use Rattle.std.proofs.Common.{◌≡◌, ℕ, ◌<◌, ◌≤◌, List, [], ◌∷◌, ◌++◌, length, get_or, map, Option, None, Some, Result, Ok, Err, refl, sym, ap, ◌∙◌, arith}
+use Rattle.std.proofs.Common.{◌≡◌, ℕ, ◌<◌, ◌≤◌, ◌==◌, true, false, drop, List, [], ◌∷◌, ◌++◌, length, get_or, map, Option, None, Some, Result, Ok, Err, refl, sym, ap, ◌∙◌, arith}
+use Rattle.std.proofs.lemmas.Bool.{ne_eqb}
 use Rattle.spec_document.specs.declared.axis.Axis.TheVariants as axis
 use Rattle.spec_document.specs.Name.{Expanded}
 use Rattle.spec_expression.specs.Number.{Number, Fault, number_of, sum_of}
@@ -7,10 +8,10 @@ use Rattle.spec_expression.specs.Strings.{is_language}
 use Rattle.spec_expression.specs.Syntax.{Named}
 use Rattle.spec_meaning.specs.Question.{Question, Answer, Step, nodes_in}
 use Rattle.spec_meaning.specs.Value.{Value, Text, Boolean}
-use Rattle.spec_meaning.specs.Program.{Wanted, Given, Supply, Saw, Program, Give, Refuse, Ask, Need, State, noted, Ending, Lacks, if_given, then, run}
+use Rattle.spec_meaning.specs.Program.{Wanted, Given, Supply, Saw, Program, Give, Refuse, Ask, Need, State, asked, noted, Ending, Lacks, if_given, then, run}
 use Rattle.spec_meaning.specs.Convert.{given, text_at, to_number}
 use Rattle.spec_meaning.specs.Operation.{in_order}
-use Rattle.spec_meaning.specs.Call.{arranged, length_argument, of_first, summed, nodes_of_key, nodes_of_keys, language_at, language_of, xml_lang}
+use Rattle.spec_meaning.specs.Call.{argument, arranged, length_argument, of_first, summed, nodes_of_key, nodes_of_keys, language_at, language_of, xml_lang}
 use Rattle.xt_base.specs.declared.num.NumFault.{NumFault}
 use Rattle.xt_base.specs.Fault.{Gives}
 use Rattle.xt_tree.specs.ValueView.{value_of}
@@ -94,3 +95,28 @@ pub no_language : (wanted : List ℕ) (else_where : Program NodeRef (Value NodeR
     → language_at wanted else_where ns ≡ else_where
 no_language wanted else_where [] h = refl
 no_language wanted else_where (n ∷ ns) h = absurd (omega (arith, h))
+
+-- the world gave this answer, and noted it
+pub asks : {A X : Type 0} {v : X → A} {supply : Supply NodeRef} {depth : ℕ} (q : Question NodeRef) (next : Answer NodeRef → Program NodeRef A) {a : Answer NodeRef} {s t u : State NodeRef} {r : Result X EvalFault}
+    → a ≡ s.truth q → t ≡ asked q s → Runs v supply depth (next a) t u r → Runs v supply depth (Ask q next) s u r
+asks {supply = supply} {depth = depth} q next {a = a} {s = s} h e k =
+    runs_from (record { same = ap (λ st. run supply depth (next a) st) e ∙ ap (λ x. run supply depth (next x) (asked q s)) h }) k
+
+pub is_some : (ns : List NodeRef) → (length ns == 0) ≡ false → 0 < length ns
+is_some [] h = absurd (cc)
+is_some (n ∷ ns) h = omega arith
+
+pub is_none : (ns : List NodeRef) → (length ns == 0) ≡ true → length ns ≤ 0
+is_none [] h = omega arith
+is_none (n ∷ ns) h = let e : (length (n ∷ ns) == 0) ≡ false = ne_eqb (length (n ∷ ns)) 0 (λ e. absurd (omega (arith, e))) in absurd (cc)
+
+-- the second argument, and those behind it
+pub second_is : (vs : List code.Value) → argument (map value_of (drop 1 vs)) 0 ≡ argument (map value_of vs) 1
+second_is [] = refl
+second_is (v ∷ vs) = refl
+
+pub third_is : (vs : List code.Value) → length_argument (Text [] ∷ Text [] ∷ map value_of (drop 1 (drop 1 vs))) ≡ length_argument (map value_of vs)
+third_is [] = refl
+third_is (v ∷ []) = refl
+third_is (v ∷ w ∷ []) = refl
+third_is (v ∷ w ∷ x ∷ xs) = refl

@@ -42,21 +42,31 @@ pub fn apply<W: World>(
 {
     match function {
         None => Err(EvalFault::Refused(Refusal::Here(DynCode::BadName))),
-        Some(Function::OfContext(function)) => {
-            of_context(alloc, function, focus, context, supplies, world)
-        }
-        Some(Function::OfNodes(function)) => {
-            call_of_nodes(alloc, function, arguments, focus, context, world)
-        }
-        Some(Function::OfTexts(function)) => call_of_texts(alloc, function, arguments, world),
-        Some(Function::OfText(function)) => {
-            call_of_text(alloc, function, arguments, focus, context, world)
-        }
-        Some(Function::OfValue(function)) => {
-            call_of_value(alloc, function, arguments, focus, context, world)
-        }
-        Some(Function::Substring) => substring_of(alloc, arguments, world),
-        Some(Function::Key) => key_of(alloc, arguments, focus, context, world),
+        Some(function) => applied(alloc, function, arguments, focus, context, supplies, world),
+    }
+}
+
+// What a function makes of its arguments.
+fn applied<W: World>(
+    alloc: Global,
+    function: Function,
+    arguments: Vec<Value>,
+    focus: Focus,
+    context: &Context,
+    supplies: &Supplies,
+    world: &mut W,
+) -> Result<Value, EvalFault>
+    ensures runs { Runs value_of (at_hand (supplies_of supplies.now) context.now.depth) context.now.depth (calls.applied function (map value_of arguments.items) (context_of focus context.now)) (W.state world.old) (W.state world.new) result }
+    ensures name { W.name world.new ≡ W.name world.old }
+{
+    match function {
+        Function::OfContext(kind) => of_context(alloc, kind, focus, context, supplies, world),
+        Function::OfNodes(kind) => call_of_nodes(alloc, kind, arguments, focus, context, world),
+        Function::OfTexts(kind) => call_of_texts(alloc, kind, arguments, world),
+        Function::OfText(kind) => call_of_text(alloc, kind, arguments, focus, context, world),
+        Function::OfValue(kind) => call_of_value(alloc, kind, arguments, focus, context, world),
+        Function::Substring => substring_of(alloc, arguments, world),
+        Function::Key => key_of(alloc, arguments, focus, context, world),
     }
 }
 

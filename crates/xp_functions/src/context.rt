@@ -1,9 +1,11 @@
 // Functions without arguments (XPath 1.0, sections 4.1 and 4.3; XSLT 1.0, section 12.4).
-ghost use Rattle.std.specs.Prelude.{◌≡◌};
+ghost use Rattle.std.specs.Prelude.{◌≡◌, ℕ, [], ◌∷◌};
+ghost use Rattle.spec_meaning.specs.Value as value;
 ghost use Rattle.spec_meaning.specs.Supplies.{at_hand};
-ghost use Rattle.spec_meaning.specs.Program.{Position, Size};
+ghost use Rattle.spec_meaning.specs.Program.{Give, Position, Size, State, Supply};
 ghost use Rattle.spec_meaning.specs.Call.{known_or_needed, of_context};
 ghost use Rattle.xt_tree.specs.ValueView.{value_of};
+ghost use Rattle.xt_tree.specs.declared.node_ref.NodeRef.{NodeRef};
 ghost use Rattle.xt_ask.specs.View.{context_of, supplies_of};
 ghost use Rattle.xt_ask.specs.Runs.{Runs};
 
@@ -12,7 +14,7 @@ use spec_meaning::ContextFunction;
 use std::alloc::Global;
 use xp_values::count;
 use xt_ask::{Context, EvalFault, Focus, Given, Supplies, Wanted, World};
-use xt_tree::Value;
+use xt_tree::{NodeRef, Value};
 
 /// What a function without arguments gives.
 pub(crate) fn of_context<W: World>(
@@ -31,11 +33,16 @@ pub(crate) fn of_context<W: World>(
         ContextFunction::Position => position(focus.position, context.depth, supplies, world),
         ContextFunction::True => Ok(Value::Boolean(true)),
         ContextFunction::False => Ok(Value::Boolean(false)),
-        ContextFunction::Current => {
-            let nodes = only(alloc, context.current)?;
-            Ok(Value::Nodes(nodes))
-        }
+        ContextFunction::Current => current(alloc, context.current),
     }
+}
+
+// The current node alone.
+fn current(alloc: Global, node: NodeRef) -> Result<Value, EvalFault>
+    ensures { (supply : Supply NodeRef) → (depth : ℕ) → (s : State NodeRef) → Runs value_of supply depth (Give (value.Nodes (node ∷ []))) s s result }
+{
+    let nodes = only(alloc, node)?;
+    Ok(Value::Nodes(nodes))
 }
 
 // The position, or that of the instantiation where it is not known.

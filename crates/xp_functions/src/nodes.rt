@@ -148,7 +148,10 @@ fn local_in(alloc: Global, answer: Answer) -> Result<Text, Memory>
     ensures { IfOk result (λ text. text ≡ local_in (answer_of answer)) }
 {
     match answer {
-        Answer::Named(_, Some(name), _) => name.local().copy(alloc),
+        Answer::Named(_, name, _) => match name {
+            Some(name) => name.local().copy(alloc),
+            None => Ok(Text::new(alloc)),
+        },
         _ => Ok(Text::new(alloc)),
     }
 }
@@ -157,7 +160,10 @@ fn uri_in(alloc: Global, answer: Answer) -> Result<Text, Memory>
     ensures { IfOk result (λ text. text ≡ uri_in (answer_of answer)) }
 {
     match answer {
-        Answer::Named(_, Some(name), _) => name.uri().copy(alloc),
+        Answer::Named(_, name, _) => match name {
+            Some(name) => name.uri().copy(alloc),
+            None => Ok(Text::new(alloc)),
+        },
         _ => Ok(Text::new(alloc)),
     }
 }

@@ -1,6 +1,6 @@
 // Functions of one text (XPath 1.0, sections 4.2 and 4.3; XSLT 1.0, sections 12.4 and 15).
 ghost use Rattle.std.specs.Prelude.{◌≡◌, ℕ};
-ghost use Rattle.spec_expression.specs.Strings.{length_of};
+ghost use Rattle.spec_expression.specs.Strings.{length_of, normalized};
 ghost use Rattle.spec_meaning.specs.Value as value;
 ghost use Rattle.spec_meaning.specs.Program.{Give, State, Supply, then};
 ghost use Rattle.spec_meaning.specs.Convert as convert;
@@ -37,10 +37,7 @@ pub(crate) fn of_text<W: World>(
 {
     match function {
         TextFunction::StringLength => string_length(text),
-        TextFunction::NormalizeSpace => {
-            let normal = normalize(alloc, text.as_str())?;
-            Ok(Value::Text(normal))
-        }
+        TextFunction::NormalizeSpace => normal(alloc, text),
         TextFunction::Lang => lang(alloc, text, focus.node, world),
         TextFunction::SystemProperty => property(alloc, &context.scope, text),
         TextFunction::ElementAvailable => has_instruction(alloc, &context.scope, text),
@@ -54,6 +51,13 @@ fn string_length(text: &Text) -> Result<Value, EvalFault>
 {
     let number = given(length(text.as_str()))?;
     Ok(Value::Number(number))
+}
+
+fn normal(alloc: Global, text: &Text) -> Result<Value, EvalFault>
+    ensures { (supply : Supply NodeRef) → (depth : ℕ) → (s : State NodeRef) → Runs value_of supply depth (Give (value.Text (normalized text.now))) s s result }
+{
+    let normal = normalize(alloc, text.as_str())?;
+    Ok(Value::Text(normal))
 }
 
 // The system property of the name that the text is.
