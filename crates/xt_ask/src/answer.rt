@@ -3,8 +3,8 @@ ghost use Rattle.std.specs.Prelude.{◌≡◌};
 ghost use Rattle.spec_meaning.specs.Question.{nodes_in, text_in};
 ghost use Rattle.xt_ask.specs.View.{answer_of};
 
-use crate::copies::{copy_name_if, copy_text_if};
 use crate::Refusal;
+use crate::copies::{copy_name_if, copy_text_if};
 use spec_document::Kind;
 use std::alloc::Global;
 use std::rc::Rc;
