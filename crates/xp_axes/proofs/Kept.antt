@@ -89,13 +89,13 @@ alike p x y e =
 
 -- ---- One name has one place
 
-some_same : {A : Type 0} (x y : A) → Some x ≡ Some y → x ≡ y
+pub some_same : {A : Type 0} (x y : A) → Some x ≡ Some y → x ≡ y
 some_same x y e = ap (λ o. elim o [ Some z ↦ z | None ↦ x ]) e
 
 some_none : {A : Type 0} (x : A) → Some x ≡ None → ⊥
 some_none x e = cc
 
-ref_is : (r : NodeRef) (e : Entry ℕ) → same_ref r (ref_of e) ≡ true → ref_of e ≡ r
+pub ref_is : (r : NodeRef) (e : Entry ℕ) → same_ref r (ref_of e) ≡ true → ref_of e ≡ r
 ref_is r e same =
     let parts = and_parts (r.node.number == number_of e.item) (same_part r.part (part_at e.place.ending e.number)) same in
     let number = eqb-true r.node.number (number_of e.item) parts.0 in
@@ -198,7 +198,7 @@ order_is document numbers nodes out order members =
 
 -- ---- The place of a name
 
-none_found : (document : Document ℕ) (r : NodeRef) → item_of document r ≡ None → (es : List (Entry ℕ)) → AllItems document es
+pub none_found : (document : Document ℕ) (r : NodeRef) → item_of document r ≡ None → (es : List (Entry ℕ)) → AllItems document es
     → find (λ e. same_ref r (ref_of e)) es ≡ None
 none_found document r none [] h = refl
 none_found document r none (e ∷ es) h =

@@ -8,3 +8,4 @@ pub mod Reached
 pub mod Told
 pub mod Placing
 pub mod Kept
+pub mod Named

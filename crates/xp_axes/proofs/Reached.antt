@@ -38,7 +38,7 @@ more_known P Q (Err e) h p = p
 
 -- ---- The entry at a place
 
-or_some : {B : Type 0} (Q : Type 0) (o p : Option B) (x : B) → option_or o p ≡ Some x → (o ≡ Some x → Q) → (p ≡ Some x → Q) → Q
+pub or_some : {B : Type 0} (Q : Type 0) (o p : Option B) (x : B) → option_or o p ≡ Some x → (o ≡ Some x → Q) → (p ≡ Some x → Q) → Q
 or_some Q None p x e f g = g e
 or_some Q (Some y) p x e f g = f e
 
@@ -79,7 +79,7 @@ entry_at document r path some place only = by (numbered_node document r.node.num
 
 -- ---- Names lead back to their entries
 
-item_is : (document : Document ℕ) → IsNumbered document → (e : Entry ℕ) → IsAt (root_of document) e → item_of document (ref_of e) ≡ Some e.item
+pub item_is : (document : Document ℕ) → IsNumbered document → (e : Entry ℕ) → IsAt (root_of document) e → item_of document (ref_of e) ≡ Some e.item
 item_is document numbers e at =
     let parts = and_parts (are_distinct (document.root ∷ labels document.nodes))
     (list_all (λ n. nat_lt n number_limit) (document.root ∷ labels document.nodes)) numbers in

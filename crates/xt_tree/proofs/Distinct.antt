@@ -23,7 +23,7 @@ pub or_right : (a b : Bool) → b ≡ true → (a || b) ≡ true
 or_right true b h = refl
 or_right false b h = h
 
-or_neither : (a b : Bool) → (a || b) ≡ false → (a ≡ false) × (b ≡ false)
+pub or_neither : (a b : Bool) → (a || b) ≡ false → (a ≡ false) × (b ≡ false)
 or_neither true b h = absurd (cc)
 or_neither false b h = (refl, h)
 
@@ -71,7 +71,7 @@ head_apart l n rest h k =
       | false ↦ λ _. refl
     ] refl
 
-some_same : {A : Type 0} (x y : A) → Some x ≡ Some y → x ≡ y
+pub some_same : {A : Type 0} (x y : A) → Some x ≡ Some y → x ≡ y
 some_same x y e = ap (λ o. elim o [ Some z ↦ z | None ↦ x ]) e
 
 pub record IsFirst (f : spec.Forest ℕ) (above : List spec.Content) (x : Found ℕ) : Type 0 where
@@ -205,7 +205,7 @@ not_behind l c f g above q ps qs x h d e =
     let behind = (found_first g above q qs x parts.1 e).among in
     apart (is_among x.label (l ∷ spec.labels f)) (among_from l c f above ps x own.1 d) (not_before (l ∷ spec.labels f) (spec.labels g) x.label h behind)
 
-none_some : {A : Type 0} (x : A) → None ≡ Some x → ⊥
+pub none_some : {A : Type 0} (x : A) → None ≡ Some x → ⊥
 none_some x e = cc
 
 true_false : true ≡ false → ⊥
