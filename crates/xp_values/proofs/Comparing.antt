@@ -50,8 +50,8 @@ compared_so {supply = supply} {depth = depth} {s = s} {t = t} {r = r} operator v
     let left = operands (beside w v) in
     let right = operands (beside v w) in
     let same : compared operator v w ≡ operands_compared operator by_texts ls rs =
-        ap (λ x. if x then Give (booleans_satisfy operator (to_boolean v) (to_boolean w)) else operands_compared operator (goes_by_texts operator v w) left right) n
-        ∙ ap (λ x. operands_compared operator x left right) b
-        ∙ ap (λ x. operands_compared operator by_texts x right) (sym l)
-        ∙ ap (λ x. operands_compared operator by_texts ls x) (sym m) in
+    ap (λ x. if x then Give (booleans_satisfy operator (to_boolean v) (to_boolean w)) else operands_compared operator (goes_by_texts operator v w) left right) n
+    ∙ ap (λ x. operands_compared operator x left right) b
+    ∙ ap (λ x. operands_compared operator by_texts x right) (sym l)
+    ∙ ap (λ x. operands_compared operator by_texts ls x) (sym m) in
     subst (λ p. Runs itself supply depth p s t r) (sym same) h

@@ -2,7 +2,6 @@ use Rattle.std.proofs.Common.{◌≡◌, ◌∙◌, refl}
 use Rattle.std.specs.Prelude.{codes}
 use Rattle.std.specs.Str.{chars}
 use Rattle.std.proofs.lemmas.Result.{IfOk-weaker}
-use Rattle.spec_meaning.specs.Convert.{text_of_boolean}
 use Rattle.xp_values.proofs.convert.text_of_boolean.Goals as goal
 
 true-chars : chars (codes "true") ≡ codes "true"

@@ -1,4 +1,4 @@
-use Rattle.std.proofs.Common.{◌≡◌, ◌+◌, ◌∙◌, ◌++◌, ◌∷◌, [], sym, ap, map, drop, arith, append_assoc}
+use Rattle.std.proofs.Common.{◌+◌, ◌∙◌, ◌++◌, sym, ap, map, drop, arith, append_assoc}
 use Rattle.std.proofs.lemmas.List.{at_drop_more, at_drop_all, append-nil, map-append}
 use Rattle.spec_meaning.specs.Compare.{OfNode}
 use Rattle.xp_values.specs.OperandView.{operand_of}

@@ -1,4 +1,4 @@
-use Rattle.std.proofs.Common.{◌≡◌, ◌+◌, ◌∙◌, ◌++◌, sym, ap, drop, map, arith, append_assoc}
+use Rattle.std.proofs.Common.{◌+◌, ◌∙◌, ◌++◌, sym, ap, drop, map, arith, append_assoc}
 use Rattle.std.proofs.lemmas.List.{at_drop_more, at_drop_all, append-nil}
 use Rattle.spec_meaning.specs.Stream.{all_followed, texts_of}
 use Rattle.xt_tree.specs.StreamView.{single_of}
