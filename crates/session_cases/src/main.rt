@@ -10,11 +10,13 @@
 //!
 //! Behind the name, after ` | `, may stand: `limit N`, how many bytes are taken at most; `pieces N`, how many
 //! bytes a read gives at most; `reads N,N` and `writes N,N`, the numbers of the calls that fail; `room N`, how
-//! many bytes the sink has place for; and last `words WORD..`, the words of a command line behind the
+//! many bytes the sink has place for; `over std`, that source and sink are a reader and a writer of std, which
+//! move one byte a call and never fail; and last `words WORD..`, the words of a command line behind the
 //! program's name. With these `run` is called, else `serve`.
 #![tactic(auto)]
 
 mod line;
+mod one_byte;
 mod session;
 mod setting;
 mod show;

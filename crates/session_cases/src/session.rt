@@ -1,10 +1,11 @@
 // Sessions, one after another.
 
 use crate::line::push_line;
+use crate::one_byte::{Giver, Taker};
 use crate::setting::Setting;
 use crate::show::push_bytes;
 use std::alloc::Global;
-use xt_io::{MemSink, MemSource};
+use xt_io::{MemSink, MemSource, Sink, Source, StdSink, StdSource};
 use xt_session::{run, serve};
 use xt_text::Memory;
 
@@ -32,23 +33,32 @@ impl Sessions {
 
     /// Takes the next line.
     pub fn take_line(&mut self, alloc: Global, line: &str) -> Result<(), Memory> {
-        if let Some(head) = line.strip_prefix("== ") {
-            self.end(alloc)?;
-            self.head = Some(String::from_str(alloc, head)?);
-            return Ok(());
-        }
-        if line.starts_with("#") {
-            self.end(alloc)?;
-            self.out.push_str(line)?;
-            self.out.push('\n')?;
-            return Ok(());
-        }
         if line.is_empty() {
             self.empty = self.empty.saturating_add(1);
             return Ok(());
         }
-        self.take_empty()?;
-        push_line(&mut self.input, line)
+        match line.strip_prefix("== ") {
+            Some(head) => self.begin(alloc, head),
+            None if line.starts_with("#") => self.remark(alloc, line),
+            None => {
+                self.take_empty()?;
+                push_line(&mut self.input, line)
+            }
+        }
+    }
+
+    // Ends the session before, and begins one.
+    fn begin(&mut self, alloc: Global, head: &str) -> Result<(), Memory> {
+        self.end(alloc)?;
+        self.head = Some(String::from_str(alloc, head)?);
+        Ok(())
+    }
+
+    // Ends the session before, and prints a comment.
+    fn remark(&mut self, alloc: Global, line: &str) -> Result<(), Memory> {
+        self.end(alloc)?;
+        self.out.push_str(line)?;
+        Ok(self.out.push('\n')?)
     }
 
     // The empty lines that came last are lines of the session.
@@ -89,26 +99,71 @@ fn answer(alloc: Global, out: &mut String, head: &str, input: &[u8]) -> Result<(
     out.push_str(head)?;
     out.push('\n')?;
     match head.split_once(" | ") {
-        None => play(alloc, out, &Setting::new(alloc), input),
-        Some((_, options)) => match Setting::read(alloc, options)? {
-            None => Ok(out.push_str("?\n")?),
-            Some(setting) => play(alloc, out, &setting, input),
-        },
+        None => play(alloc, out, Some(Setting::new(alloc)), input),
+        Some((_, options)) => play(alloc, out, Setting::read(alloc, options)?, input),
     }
 }
 
-fn play(alloc: Global, out: &mut String, setting: &Setting, input: &[u8]) -> Result<(), Memory> {
-    let mut from = MemSource::new(alloc, input, setting.reads.as_slice())?;
-    if setting.pieces > 0 {
-        from = from.in_pieces(setting.pieces);
+fn play(
+    alloc: Global,
+    out: &mut String,
+    setting: Option<Setting>,
+    input: &[u8],
+) -> Result<(), Memory> {
+    match setting {
+        None => Ok(out.push_str("?\n")?),
+        Some(setting) if setting.is_over_std => play_over_std(alloc, out, &setting, input),
+        Some(setting) => play_over_memory(alloc, out, &setting, input),
     }
+}
+
+fn play_over_memory(
+    alloc: Global,
+    out: &mut String,
+    setting: &Setting,
+    input: &[u8],
+) -> Result<(), Memory> {
+    let mut from = source(alloc, setting, input)?;
     let mut to = MemSink::new(alloc, setting.room, setting.writes.as_slice())?;
-    let status = match &setting.words {
-        None => serve(alloc, &mut from, &mut to, setting.limit),
-        Some(words) => run(alloc, words.as_slice(), &mut from, &mut to),
-    };
+    let status = served(alloc, setting, &mut from, &mut to);
+    push_end(alloc, out, status, to.written())
+}
+
+fn source(alloc: Global, setting: &Setting, input: &[u8]) -> Result<MemSource, Memory> {
+    let source = MemSource::new(alloc, input, setting.reads.as_slice())?;
+    if setting.pieces > 0 {
+        Ok(source.in_pieces(setting.pieces))
+    } else {
+        Ok(source)
+    }
+}
+
+fn play_over_std(
+    alloc: Global,
+    out: &mut String,
+    setting: &Setting,
+    input: &[u8],
+) -> Result<(), Memory> {
+    let mut written = Vec::new(alloc);
+    let mut from = StdSource::new(Giver { rest: input });
+    let mut to = StdSink::new(Taker {
+        taken: &mut written,
+    });
+    let status = served(alloc, setting, &mut from, &mut to);
+    push_end(alloc, out, status, written.as_slice())
+}
+
+// Serves the session, and gives its status.
+fn served<I: Source, O: Sink>(alloc: Global, setting: &Setting, from: &mut I, to: &mut O) -> u8 {
+    match &setting.words {
+        None => serve(alloc, from, to, setting.limit),
+        Some(words) => run(alloc, words.as_slice(), from, to),
+    }
+}
+
+fn push_end(alloc: Global, out: &mut String, status: u8, written: &[u8]) -> Result<(), Memory> {
     out.push_str("status ")?;
     out.push_str(itoa::Buffer::new().format(status))?;
     out.push('\n')?;
-    push_bytes(alloc, out, to.written())
+    push_bytes(alloc, out, written)
 }

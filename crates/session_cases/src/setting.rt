@@ -18,6 +18,8 @@ pub struct Setting {
     pub reads: Vec<u64>,
     pub writes: Vec<u64>,
     pub room: usize,
+    // over a reader and a writer of std in place of memory
+    pub is_over_std: bool,
     pub words: Option<Vec<String>>,
 }
 
@@ -29,8 +31,19 @@ enum Key {
     Reads,
     Writes,
     Room,
+    Over,
     // and all words behind that one
     Words,
+}
+
+// What comes next.
+#[derive(Clone, Copy)]
+enum Next {
+    Key,
+    // of this key
+    Value(Key),
+    // nothing, since what came says nothing
+    Wrong,
 }
 
 fn key_of(word: &str) -> Option<Key> {
@@ -40,6 +53,7 @@ fn key_of(word: &str) -> Option<Key> {
         "reads" => Some(Key::Reads),
         "writes" => Some(Key::Writes),
         "room" => Some(Key::Room),
+        "over" => Some(Key::Over),
         "words" => Some(Key::Words),
         _ => None,
     }
@@ -51,23 +65,28 @@ impl Setting {
         let mut setting = Setting::new(alloc);
         let mut open = None;
         for word in options.split(' ') {
-            match open {
-                None => match key_of(word) {
-                    None => return Ok(None),
-                    Some(key) => {
-                        setting.begin(alloc, key)?;
-                        open = Some(key);
-                    }
-                },
-                Some(key) => {
-                    if !setting.set(alloc, key, word)? {
-                        return Ok(None);
-                    }
-                    open = behind(key);
-                }
+            match setting.take(alloc, open, word)? {
+                Next::Wrong => return Ok(None),
+                Next::Key => open = None,
+                Next::Value(key) => open = Some(key),
             }
         }
         Ok(Some(setting))
+    }
+
+    // Takes the next word, a key or a value of the open one.
+    fn take(&mut self, alloc: Global, open: Option<Key>, word: &str) -> Result<Next, Memory> {
+        match (open, key_of(word)) {
+            (Some(key), _) => {
+                let is_value = self.set(alloc, key, word)?;
+                Ok(if is_value { behind(key) } else { Next::Wrong })
+            }
+            (None, Some(key)) => {
+                self.begin(alloc, key)?;
+                Ok(Next::Value(key))
+            }
+            (None, None) => Ok(Next::Wrong),
+        }
     }
 
     /// The setting where nothing is said: `serve` is called.
@@ -78,6 +97,7 @@ impl Setting {
             reads: Vec::new(alloc),
             writes: Vec::new(alloc),
             room: ROOM,
+            is_over_std: false,
             words: None,
         }
     }
@@ -85,8 +105,9 @@ impl Setting {
     // With `words` the program's name is there, though no word may follow.
     fn begin(&mut self, alloc: Global, key: Key) -> Result<(), Memory> {
         if key == Key::Words {
+            let name = String::from_str(alloc, "xt")?;
             let mut words = Vec::new(alloc);
-            words.push(String::from_str(alloc, "xt")?)?;
+            words.push(name)?;
             self.words = Some(words);
         }
         Ok(())
@@ -99,6 +120,10 @@ impl Setting {
             Key::Reads => push_numbers(&mut self.reads, word),
             Key::Writes => push_numbers(&mut self.writes, word),
             Key::Limit | Key::Pieces | Key::Room => Ok(self.set_number(key, word)),
+            Key::Over => {
+                self.is_over_std = word == "std";
+                Ok(self.is_over_std)
+            }
         }
     }
 
@@ -106,7 +131,8 @@ impl Setting {
         match &mut self.words {
             None => Ok(false),
             Some(words) => {
-                words.push(String::from_str(alloc, word)?)?;
+                let word = String::from_str(alloc, word)?;
+                words.push(word)?;
                 Ok(true)
             }
         }
@@ -120,17 +146,17 @@ impl Setting {
             Key::Limit => self.limit = number,
             Key::Pieces => self.pieces = number as usize,
             Key::Room => self.room = number as usize,
-            Key::Reads | Key::Writes | Key::Words => return false,
+            Key::Reads | Key::Writes | Key::Over | Key::Words => return false,
         }
         true
     }
 }
 
-// What the word behind a value is for: another key, or one more word.
-fn behind(key: Key) -> Option<Key> {
+// What comes behind a value: another key, or one more word.
+fn behind(key: Key) -> Next {
     match key {
-        Key::Words => Some(key),
-        _ => None,
+        Key::Words => Next::Value(key),
+        _ => Next::Key,
     }
 }
 

@@ -31,11 +31,15 @@ pub dash_after_space : tokens (codes "a -b") ≡ Some (a ∷ Binary Subtract ∷
 unfolding cut piece_at name_at number_at literal_at local_at variable_at word word_at sign_of_two sign_of_one is_name_start is_name_part
 dash_after_space = refl
 
-pub numbers : tokens (codes "1. .5 1.0 007") ≡ Some (Number (codes "1") [] ∷ Number [] (codes "5") ∷ Number (codes "1") (codes "0") ∷ Number (codes "007") [] ∷ [])
+pub numbers : tokens (codes "1. .5 1.0 007") ≡ Some (Number (Some 1) ∷ Number None ∷ Number (Some 1) ∷ Number (Some 7) ∷ [])
 unfolding cut piece_at name_at number_at literal_at local_at variable_at word word_at sign_of_two sign_of_one is_name_start is_name_part
 numbers = refl
 
-pub dots_before_a_digit : tokens (codes "..5.") ≡ Some (DotDot ∷ Number (codes "5") [] ∷ [])
+pub greatest_number : tokens (codes "9007199254740991 9007199254740992") ≡ Some (Number (Some 9007199254740991) ∷ Number None ∷ [])
+unfolding cut piece_at name_at number_at literal_at local_at variable_at word word_at sign_of_two sign_of_one is_name_start is_name_part
+greatest_number = refl
+
+pub dots_before_a_digit : tokens (codes "..5.") ≡ Some (DotDot ∷ Number (Some 5) ∷ [])
 unfolding cut piece_at name_at number_at literal_at local_at variable_at word word_at sign_of_two sign_of_one is_name_start is_name_part
 dots_before_a_digit = refl
 
@@ -63,11 +67,11 @@ pub unclosed : tokens (codes "'a") ≡ None
 unfolding cut piece_at name_at number_at literal_at local_at variable_at word word_at sign_of_two sign_of_one is_name_start is_name_part
 unclosed = refl
 
-pub slash_before_star : tokens (codes "/ * 2") ≡ Some (Slash ∷ Star ∷ Number (codes "2") [] ∷ [])
+pub slash_before_star : tokens (codes "/ * 2") ≡ Some (Slash ∷ Star ∷ Number (Some 2) ∷ [])
 unfolding cut piece_at name_at number_at literal_at local_at variable_at word word_at sign_of_two sign_of_one is_name_start is_name_part
 slash_before_star = refl
 
-pub signs : tokens (codes "(a)<=[b]!=c//.>1|d,e") ≡ Some (Open ∷ a ∷ Close ∷ Binary LessOrEqual ∷ OpenSquare ∷ n (codes "b") ∷ CloseSquare ∷ Binary NotEqual ∷ n (codes "c") ∷ SlashSlash ∷ Dot ∷ Binary Greater ∷ Number (codes "1") [] ∷ Binary Union ∷ n (codes "d") ∷ Comma ∷ n (codes "e") ∷ [])
+pub signs : tokens (codes "(a)<=[b]!=c//.>1|d,e") ≡ Some (Open ∷ a ∷ Close ∷ Binary LessOrEqual ∷ OpenSquare ∷ n (codes "b") ∷ CloseSquare ∷ Binary NotEqual ∷ n (codes "c") ∷ SlashSlash ∷ Dot ∷ Binary Greater ∷ Number (Some 1) ∷ Binary Union ∷ n (codes "d") ∷ Comma ∷ n (codes "e") ∷ [])
 unfolding cut piece_at name_at number_at literal_at local_at variable_at word word_at sign_of_two sign_of_one is_name_start is_name_part
 signs = refl
 

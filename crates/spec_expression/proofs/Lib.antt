@@ -3,3 +3,5 @@ mod GrammarExamples
 pub mod Ranks
 pub mod Unique
 pub mod Rank
+pub mod TwoDigits
+pub mod CodeTexts

@@ -1,9 +1,14 @@
--- The numbers that stand in replies for the codes of refused stylesheets and runs.
-use Rattle.std.specs.Prelude.{ℕ}
+-- The codes of refused stylesheets and runs: their numbers, how they are written, and what has which code.
+use Rattle.std.specs.Prelude.{ℕ, List, ◌∷◌, nat_lt, decimal, if◌then◌else◌}
 use Rattle.spec_expression.specs.declared.code.StaticCode.{StaticCode}
 use Rattle.spec_expression.specs.declared.code.StaticCode.TheVariants as fixed
 use Rattle.spec_expression.specs.declared.code.DynCode.{DynCode}
 use Rattle.spec_expression.specs.declared.code.DynCode.TheVariants as dynamic
+use Rattle.spec_expression.specs.declared.code.Code.{Code}
+use Rattle.spec_expression.specs.declared.code.Code.TheVariants.{Static, Dynamic}
+use Rattle.spec_expression.specs.declared.ExpressionRefusal.{ExpressionRefusal}
+use Rattle.spec_expression.specs.declared.ExpressionRefusal.TheVariants as refusals
+use Rattle.spec_expression.specs.Number.{Fault, Fraction, Infinite, Wide}
 
 -- `SN`
 abbrev pub static_number : StaticCode → ℕ
@@ -47,3 +52,25 @@ dynamic_number dynamic.BadName = 8
 dynamic_number dynamic.BadSort = 9
 dynamic_number dynamic.Terminated = 10
 dynamic_number dynamic.TooDeep = 11
+
+-- a number in two digits at least
+abbrev pub two_digits : ℕ → List ℕ
+two_digits number = if nat_lt number 10 then 0x30 ∷ decimal number else decimal number
+
+-- a code as it is written: a letter and its number in two digits
+abbrev pub code_text : Code → List ℕ
+code_text (Static code) = 0x53 ∷ two_digits (static_number code)
+code_text (Dynamic code) = 0x44 ∷ two_digits (dynamic_number code)
+
+-- an expression that is refused
+abbrev pub expression_code : ExpressionRefusal → StaticCode
+expression_code refusals.Syntax = fixed.BadExpression
+expression_code refusals.Depth = fixed.TooManyBrackets
+expression_code refusals.Number = fixed.BadNumber
+expression_code refusals.Prefix = fixed.NoPrefix
+
+-- an answer of XPath's that is no number here
+abbrev pub fault_code : Fault → DynCode
+fault_code Fraction = dynamic.Fraction
+fault_code Infinite = dynamic.Infinite
+fault_code Wide = dynamic.Wide

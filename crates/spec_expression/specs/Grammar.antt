@@ -11,9 +11,9 @@ use Rattle.spec_expression.specs.declared.Operator.{Operator}
 use Rattle.spec_expression.specs.declared.Operator.TheVariants as operators
 use Rattle.spec_expression.specs.declared.Level.{Level}
 use Rattle.spec_expression.specs.declared.Level.TheVariants.{OrExpr, AndExpr, EqualityExpr, RelationalExpr, AdditiveExpr, MultiplicativeExpr, UnaryExpr, UnionExpr, PathExpr}
-use Rattle.spec_expression.specs.declared.Refusal.{Refusal}
-use Rattle.spec_expression.specs.declared.Refusal.TheVariants as refusals
-use Rattle.spec_expression.specs.Token.{Token, Open, Close, OpenSquare, CloseSquare, Dot, DotDot, At, Comma, ColonColon, Slash, SlashSlash, Binary, Star, AnyOf, Name, Variable, Literal, Number, tokens, is_deep, is_whole, decimal}
+use Rattle.spec_expression.specs.declared.ExpressionRefusal.{ExpressionRefusal}
+use Rattle.spec_expression.specs.declared.ExpressionRefusal.TheVariants as refusals
+use Rattle.spec_expression.specs.Token.{Token, Open, Close, OpenSquare, CloseSquare, Dot, DotDot, At, Comma, ColonColon, Slash, SlashSlash, Binary, Star, AnyOf, Name, Variable, Literal, Number, tokens, is_deep}
 use Rattle.spec_expression.specs.Syntax.{Test, AnyName, InNamespace, Named, OfType, Instruction, Expr, number, literal, variable, call, root, here, exprs, Link, Step, chained, negated, filtered, stepped, node_on}
 
 -- the axis of a name
@@ -61,10 +61,6 @@ uri_of scope (Some prefix) = unwrap_or (resolved scope prefix) []
 
 abbrev pub expanded : Scope → QName → Expanded
 expanded scope q = record { uri = uri_of scope q.prefix; local = q.local }
-
--- the value of a number; where it is not whole or too great, the expression is refused, and 0 stands for it
-abbrev pub value_of : List ℕ → List ℕ → ℕ
-value_of whole fraction = if is_whole whole fraction then decimal whole else 0
 
 -- which level an operator stands at
 abbrev pub level_of : Operator → Level
@@ -137,7 +133,8 @@ mutual
     of_variable : {ts : List Token} {q : QName} → ReadsPrimary scope (Variable q ∷ ts) (variable (expanded scope q)) ts
     group : {ts us : List Token} {e : Expr} → Reads scope OrExpr ts e (Close ∷ us) → ReadsPrimary scope (Open ∷ ts) e us
     of_literal : {ts : List Token} {content : List ℕ} → ReadsPrimary scope (Literal content ∷ ts) (literal content) ts
-    of_number : {ts : List Token} {whole fraction : List ℕ} → ReadsPrimary scope (Number whole fraction ∷ ts) (number (value_of whole fraction)) ts
+    -- where a number has a fraction or is too great, the expression is refused, and 0 stands for it
+    of_number : {ts : List Token} {value : Option ℕ} → ReadsPrimary scope (Number value ∷ ts) (number (unwrap_or value 0)) ts
     of_call : {ts us : List Token} {q : QName} {es : List Expr}
         → type_of q ≡ None → ReadsArguments scope ts es us → ReadsPrimary scope (Name q ∷ Open ∷ ts) (call (expanded scope q) (exprs es)) us
 
@@ -196,7 +193,7 @@ IsExpression scope ts e = Reads scope OrExpr ts e []
 
 -- a number that has a fraction or is too great
 abbrev pub is_bad_number : Token → Bool
-is_bad_number (Number whole fraction) = not (is_whole whole fraction)
+is_bad_number (Number value) = not (is_some value)
 is_bad_number _ = false
 
 -- the prefix that a token names
@@ -215,7 +212,7 @@ pub record HasTree (scope : Scope) (ts : List Token) (e : Expr) : Type 0 where
   pub expression : IsExpression scope ts e
 
 -- What a text that is cut into these tokens gives: its tree, or the least refusal that stands at it.
-abbrev pub Gives : Scope → List Token → Result Expr Refusal → Type 0
+abbrev pub Gives : Scope → List Token → Result Expr ExpressionRefusal → Type 0
 Gives scope ts (Ok e) = HasTree scope ts e × (list_any is_bad_number ts ≡ false) × (list_any (is_undeclared scope) ts ≡ false)
 Gives scope ts (Err refusals.Syntax) = (is_deep 0 ts ≡ false) × ((e : Expr) → IsExpression scope ts e → ⊥)
 Gives scope ts (Err refusals.Depth) = is_deep 0 ts ≡ true
@@ -223,10 +220,10 @@ Gives scope ts (Err refusals.Number) = (e : Expr) × HasTree scope ts e × (list
 Gives scope ts (Err refusals.Prefix) = (e : Expr) × HasTree scope ts e × (list_any is_bad_number ts ≡ false) × (list_any (is_undeclared scope) ts ≡ true)
 
 -- what a text that cannot be cut gives
-abbrev pub Uncut : Result Expr Refusal → Type 0
+abbrev pub Uncut : Result Expr ExpressionRefusal → Type 0
 Uncut (Err refusals.Syntax) = Unit {0}
 Uncut _ = ⊥
 
 -- What a text gives as an expression.
-abbrev pub Parses : Scope → List ℕ → Result Expr Refusal → Type 0
+abbrev pub Parses : Scope → List ℕ → Result Expr ExpressionRefusal → Type 0
 Parses scope text result = elim (tokens text) as (λ _. Type 0) [ None ↦ Uncut result | Some ts ↦ Gives scope ts result ]

@@ -1,12 +1,11 @@
 -- Numbers (XPath 1.0, 3.5 and 4.4). Of XPath's doubles there are the whole ones up to the last that a double
 -- tells from its neighbours, and NaN. An answer that XPath has outside these is refused by a fault. Negative
 -- zero is zero.
-use Rattle.std.specs.Prelude.{◌≡◌, refl, ◌≤◌, ℕ, ◌+◌, ℤ, pos, ◌+ℤ◌, ◌-ℤ◌, ◌*ℤ◌, neg_ℤ, unsigned_abs, int_div, int_rem, Bool, ◌&&◌, ◌==◌, nat_lt, nat_le, if◌then◌else◌, ◌-◌, List, [], ◌∷◌, length, drop, take, Option, None, Some, Result, Ok, Err, codes}
+use Rattle.std.specs.Prelude.{◌≡◌, refl, ◌≤◌, ℕ, ◌+◌, ℤ, pos, ◌+ℤ◌, ◌-ℤ◌, ◌*ℤ◌, neg_ℤ, unsigned_abs, int_div, int_rem, Bool, ◌&&◌, ◌==◌, nat_lt, nat_le, if◌then◌else◌, ◌*◌, ◌-◌, List, [], ◌∷◌, length, drop, take, Option, None, Some, Result, Ok, Err, codes}
 use Rattle.std.specs.declared.cmp.Ordering.{Ordering}
 use Rattle.std.specs.Ordering.{int_cmp}
-use Rattle.std.specs.List.{list_all, prefix_len, suffix_len, before_first, after_first}
+use Rattle.std.specs.List.{fold, list_all, prefix_len, suffix_len, before_first, after_first}
 use Rattle.std.specs.Char.{is_ascii_digit}
-use Rattle.std.specs.Str.Parse.{digits_value}
 use Rattle.std.specs.Fmt.{signed_decimal}
 use Rattle.spec_document.specs.Character.{is_space}
 
@@ -91,6 +90,18 @@ order_of (Whole a) (Whole b) = Some (int_cmp a b)
 order_of (Whole a) NaN = None
 order_of NaN b = None
 
+-- ---- numerals, which tokens are too (XPath 1.0, production 30)
+
+-- the number that decimal digits spell
+abbrev pub decimal : List ℕ → ℕ
+decimal digits = fold (λ n c. n * 10 + (c - 0x30)) 0 digits
+
+-- the value of the digits before a point and behind it; a fraction of zeros counts for nothing
+abbrev pub numeral : List ℕ → List ℕ → Result ℕ Fault
+numeral whole fraction =
+    if nat_lt greatest (decimal whole) then Err Wide
+    else (if list_all (λ c. c == 0x30) fraction then Ok (decimal whole) else Err Fraction)
+
 -- ---- the number of a string (XPath 1.0, 4.4): white space, `-`, a Number (production 30), white space
 abbrev pub is_point : ℕ → Bool
 is_point c = c == 0x2E
@@ -101,14 +112,12 @@ is_numeral text =
     list_all is_ascii_digit (before_first is_point text) && list_all is_ascii_digit (after_first is_point text)
     && nat_lt 0 (length (before_first is_point text) + length (after_first is_point text))
 
--- the value of such a numeral; a fraction of zeros counts for nothing
-abbrev pub numeral_value : List ℕ → Result Number Fault
-numeral_value text =
-    if nat_lt greatest (digits_value 10 (before_first is_point text)) then Err Wide
-    else (if list_all (λ c. c == 0x30) (after_first is_point text) then Ok (Whole (pos (digits_value 10 (before_first is_point text)))) else Err Fraction)
+abbrev pub unsigned : Result ℕ Fault → Result Number Fault
+unsigned (Ok value) = Ok (Whole (pos value))
+unsigned (Err fault) = Err fault
 
 abbrev pub unsigned_number : List ℕ → Result Number Fault
-unsigned_number text = if is_numeral text then numeral_value text else Ok NaN
+unsigned_number text = if is_numeral text then unsigned (numeral (before_first is_point text) (after_first is_point text)) else Ok NaN
 
 abbrev pub negated : Result Number Fault → Result Number Fault
 negated (Ok n) = Ok (negation_of n)

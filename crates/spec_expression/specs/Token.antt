@@ -1,8 +1,10 @@
 -- The tokens of an expression (XPath 1.0, section 3.7).
-use Rattle.std.specs.Prelude.{ℕ, zero, suc, ◌+◌, ◌-◌, ◌*◌, Bool, true, false, ◌&&◌, ◌||◌, ◌==◌, not, if◌then◌else◌, nat_le, nat_lt, bytes_eq, codes, List, [], ◌∷◌, length, drop, Option, None, Some, option_map}
-use Rattle.std.specs.List.{take_while, before_first, fold, list_all}
+use Rattle.std.specs.Prelude.{ℕ, zero, suc, ◌+◌, ◌-◌, Bool, true, false, ◌&&◌, ◌||◌, ◌==◌, not, if◌then◌else◌, nat_lt, bytes_eq, codes, List, [], ◌∷◌, length, drop, Option, None, Some, option_map}
+use Rattle.std.specs.List.{take_while, before_first}
+use Rattle.std.specs.Result.{result_ok}
 use Rattle.spec_document.specs.Character.{is_space, is_between, is_name_start, is_name_part}
 use Rattle.spec_document.specs.Name.{QName}
+use Rattle.spec_expression.specs.Number.{numeral}
 use Rattle.spec_expression.specs.declared.Operator.{Operator}
 use Rattle.spec_expression.specs.declared.Operator.TheVariants.{Or, And, Equal, NotEqual, Less, LessOrEqual, Greater, GreaterOrEqual, Add, Subtract, Multiply, Divide, Modulo, Union}
 
@@ -24,7 +26,7 @@ pub data Token : Type 0 where
   Name : (name : QName) → Token  -- a, p:a
   Variable : (name : QName) → Token  -- $a, $p:a
   Literal : (content : List ℕ) → Token  -- "..", '..'
-  Number : (whole fraction : List ℕ) → Token  -- the digits before the point and after it
+  Number : (value : Option ℕ) → Token  -- none where it has a fraction or is too great
 
 -- whether an operator may follow: after `@ :: ( [ ,` and after an operator, and before the first
 -- token, `*` is a name test and an NCName is a name
@@ -73,8 +75,8 @@ number_at text =
     let whole = digits_at text in
     let behind = drop (length whole) text in
     let fraction = digits_at (drop 1 behind) in
-    if begins 0x2E behind then piece (Number whole fraction) (length whole + 1 + length fraction)
-    else piece (Number whole []) (length whole)
+    if begins 0x2E behind then piece (Number (result_ok (numeral whole fraction))) (length whole + 1 + length fraction)
+    else piece (Number (result_ok (numeral whole []))) (length whole)
 
 -- from the quote up to the next of its kind
 unfoldable pub literal_at : ℕ → List ℕ → Option Piece
@@ -201,11 +203,3 @@ depth_behind depth _ = depth
 unfoldable pub is_deep : ℕ → List Token → Bool
 is_deep depth [] = false
 is_deep depth (t ∷ ts) = nat_lt 64 (depth_behind depth t) || is_deep (depth_behind depth t) ts
-
--- the number that digits spell
-abbrev pub decimal : List ℕ → ℕ
-decimal digits = fold (λ n c. n * 10 + (c - 0x30)) 0 digits
-
--- whether a number is whole and at most 9007199254740991, the greatest that xt has
-abbrev pub is_whole : List ℕ → List ℕ → Bool
-is_whole whole fraction = list_all (λ c. c == 0x30) fraction && nat_le (decimal whole) 9007199254740991

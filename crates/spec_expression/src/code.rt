@@ -1,6 +1,8 @@
 // The codes of refused stylesheets and runs. Each variant stands for one number of the replies.
-ghost use Rattle.std.specs.Prelude.{◌≡◌};
-ghost use Rattle.spec_expression.specs.Code.{static_number, dynamic_number};
+ghost use Rattle.std.specs.Prelude.{◌≡◌, Some};
+ghost use Rattle.spec_expression.specs.Code.{static_number, dynamic_number, code_text};
+
+use std::fmt;
 
 /// Why a stylesheet is refused before it runs: the reply has `S` and the number, in two digits.
 #[derive(Clone, Copy, Debug, PartialEq, Eq)]
@@ -101,5 +103,26 @@ impl DynCode {
         ensures { result ≡ dynamic_number self }
     {
         self as u8
+    }
+}
+
+/// The code of a refusal.
+#[derive(Clone, Copy, Debug, PartialEq, Eq)]
+pub enum Code {
+    /// The stylesheet is refused.
+    Static(StaticCode),
+    /// Its run is refused.
+    Dynamic(DynCode),
+}
+
+/// Writes the code as it stands in replies, as `S10` or `D01`.
+impl fmt::Display for Code {
+    ghost output = { λ code. Some (code_text code) };
+
+    fn fmt<W: fmt::Write>(&self, f: &mut fmt::Formatter<W>) -> fmt::Result {
+        match self {
+            Code::Static(code) => write!(f, "S{:02}", code.number()),
+            Code::Dynamic(code) => write!(f, "D{:02}", code.number()),
+        }
     }
 }

@@ -9,14 +9,15 @@
 
 ghost use Rattle.std.specs.Prelude.{◌≡◌, ℕ, List, Result};
 ghost use Rattle.spec_document.specs.Scope.{Scope};
+ghost use Rattle.spec_expression.specs.Code.{expression_code};
 ghost use Rattle.spec_expression.specs.Token.{Token};
 ghost use Rattle.spec_expression.specs.Syntax.{Expr};
 ghost use Rattle.spec_expression.specs.Grammar.{IsExpression, Parses};
-ghost use Rattle.spec_expression.specs.declared.Refusal.{Refusal};
+ghost use Rattle.spec_expression.specs.declared.ExpressionRefusal.{ExpressionRefusal};
 
 mod code;
 
-pub use code::{DynCode, StaticCode};
+pub use code::{Code, DynCode, StaticCode};
 
 /// The node types of XPath 1.0, production 38.
 #[derive(Clone, Copy, PartialEq, Eq)]
@@ -63,7 +64,7 @@ pub enum Level {
 
 /// Why a text is refused as an expression, in the order of the codes S10, S12, S13 and S14.
 #[derive(Clone, Copy, Debug, PartialEq, Eq)]
-pub enum Refusal {
+pub enum ExpressionRefusal {
     /// S10: it cannot be cut into tokens, or it is not of the grammar.
     Syntax,
     /// S12: more than 64 `(` and `[` are open at a token.
@@ -74,6 +75,20 @@ pub enum Refusal {
     Prefix,
 }
 
+impl ExpressionRefusal {
+    /// The code of a stylesheet with such an expression: S10, S12, S13 or S14.
+    pub fn code(self) -> StaticCode
+        ensures { result ≡ expression_code self }
+    {
+        match self {
+            ExpressionRefusal::Syntax => StaticCode::BadExpression,
+            ExpressionRefusal::Depth => StaticCode::TooManyBrackets,
+            ExpressionRefusal::Number => StaticCode::BadNumber,
+            ExpressionRefusal::Prefix => StaticCode::NoPrefix,
+        }
+    }
+}
+
 /// Tokens are an expression in one way: a list of tokens has at most one tree.
 pub fn one_tree()
     ensures { (scope : Scope) (ts : List Token) (e f : Expr) → IsExpression scope ts e → IsExpression scope ts f → e ≡ f }
@@ -81,5 +96,5 @@ pub fn one_tree()
 
 /// A text gives at most one answer, a tree or the least refusal that stands at it.
 pub fn one_answer()
-    ensures { (scope : Scope) (text : List ℕ) (r s : Result Expr Refusal) → Parses scope text r → Parses scope text s → r ≡ s }
+    ensures { (scope : Scope) (text : List ℕ) (r s : Result Expr ExpressionRefusal) → Parses scope text r → Parses scope text s → r ≡ s }
 {}

@@ -1,24 +1,19 @@
 -- Conversions of values (XPath 1.0, section 4; XSLT 1.0, section 11.1). A node-set is converted by the string-value of its first node
 -- in document order, a fragment by that of its root. What XPath has and these numbers have not is refused.
 use Rattle.std.specs.Prelude.{ℕ, pos, Bool, true, false, not, List, [], ◌∷◌, Result, Ok, Err, codes, if◌then◌else◌}
-use Rattle.spec_expression.specs.declared.code.DynCode.{DynCode}
-use Rattle.spec_expression.specs.declared.code.DynCode.TheVariants as code
-use Rattle.spec_expression.specs.Number.{Number, Whole, NaN, Fault, Fraction, Infinite, Wide, whole, is_zero, number_of, text_of}
+use Rattle.spec_expression.specs.declared.code.DynCode.TheVariants.{NoNodeSet}
+use Rattle.spec_expression.specs.Code.{fault_code}
+use Rattle.spec_expression.specs.Number.{Number, Whole, NaN, Fault, whole, is_zero, number_of, text_of}
 use Rattle.spec_meaning.specs.Stream.{texts_of}
 use Rattle.spec_meaning.specs.Value as value
 use Rattle.spec_meaning.specs.Value.{Value}
 use Rattle.spec_meaning.specs.Question.{Here, Text, text_in}
 use Rattle.spec_meaning.specs.Program.{Program, Give, Refuse, Ask, ◌>>=◌}
 
-abbrev pub code_of : Fault → DynCode
-code_of Fraction = code.Fraction
-code_of Infinite = code.Infinite
-code_of Wide = code.Wide
-
 -- a number, or the refusal that stands in its place
 abbrev pub given : {N : Type 0} → Result Number Fault → Program N Number
 given (Ok n) = Give n
-given (Err fault) = Refuse (Here (code_of fault))
+given (Err fault) = Refuse (Here (fault_code fault))
 
 -- the number of a count
 abbrev pub counted : {N : Type 0} → ℕ → Program N (Value N)
@@ -75,7 +70,7 @@ to_boolean (value.Fragment stream) = true
 -- no other value becomes a node-set
 abbrev pub to_nodes : {N : Type 0} → Value N → Program N (List N)
 to_nodes (value.Nodes nodes) = Give nodes
-to_nodes (value.Number n) = Refuse (Here code.NoNodeSet)
-to_nodes (value.Text text) = Refuse (Here code.NoNodeSet)
-to_nodes (value.Boolean b) = Refuse (Here code.NoNodeSet)
-to_nodes (value.Fragment stream) = Refuse (Here code.NoNodeSet)
+to_nodes (value.Number n) = Refuse (Here NoNodeSet)
+to_nodes (value.Text text) = Refuse (Here NoNodeSet)
+to_nodes (value.Boolean b) = Refuse (Here NoNodeSet)
+to_nodes (value.Fragment stream) = Refuse (Here NoNodeSet)

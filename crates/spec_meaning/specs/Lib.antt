@@ -12,3 +12,5 @@ pub mod Call
 pub mod Meaning
 pub mod Truth
 pub mod Supplies
+pub mod Related
+pub mod Naming

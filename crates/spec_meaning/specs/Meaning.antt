@@ -13,7 +13,7 @@ use Rattle.spec_meaning.specs.Question as question
 use Rattle.spec_meaning.specs.Question.{nodes_in}
 use Rattle.spec_meaning.specs.Program.{Global, value_in, Program, Give, Ask, Need, ◌>>=◌}
 use Rattle.spec_meaning.specs.Context.{Context, at_node, binding_of}
-use Rattle.spec_meaning.specs.Convert.{to_number, to_boolean, to_nodes}
+use Rattle.spec_meaning.specs.Convert.{counted, to_number, to_boolean, to_nodes}
 use Rattle.spec_meaning.specs.Compare.{is_equal}
 use Rattle.spec_meaning.specs.Operation.{linked}
 use Rattle.spec_meaning.specs.Function.{function_of}
@@ -55,7 +55,7 @@ stepped predicates axis test done (n ∷ ns) =
 
 abbrev mutual
   pub meaning : {N : Type 0} → Expr → Context N → Program N (Value N)
-  meaning (number n) c = Give (value.Number (Whole (pos n)))
+  meaning (number n) c = counted n
   meaning (literal t) c = Give (value.Text t)
   meaning (variable name) c = bound_or_global name (binding_of name c.bindings)
   meaning (call name arguments) c = values_of arguments c [] >>= λ vs. called (function_of name (length vs)) vs c

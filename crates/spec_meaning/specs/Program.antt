@@ -53,6 +53,11 @@ pub record State (N : Type 0) : Type 0 where
   pub truth : Question N → Answer N
   pub reads : Option (List (Read N))
 
+-- the reads with these after them, where the world keeps them
+abbrev pub with_reads : {N : Type 0} → List (Read N) → Option (List (Read N)) → Option (List (Read N))
+with_reads more None = None
+with_reads more (Some rs) = Some (rs ++ more)
+
 abbrev pub with_read : {N : Type 0} → Read N → Option (List (Read N)) → Option (List (Read N))
 with_read r None = None
 with_read r (Some rs) = Some (rs ++ r ∷ [])
@@ -68,6 +73,12 @@ pub data Said (A : Type 0) : Type 0 where
   Gives : (value : A) → Said A
   Refuses : (why : Refusal) → Said A
   Lacks : (wanted : Wanted) → Said A
+
+-- whether it ends with a value or a refusal
+abbrev pub IsEnded : {A : Type 0} → Said A → Type 0
+IsEnded (Gives value) = Unit {0}
+IsEnded (Refuses why) = Unit {0}
+IsEnded (Lacks wanted) = ⊥
 
 pub record Ending (N : Type 0) (A : Type 0) : Type 0 where
   pub said : Said A

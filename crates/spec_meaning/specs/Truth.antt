@@ -2,8 +2,10 @@
 -- places, or by their numbers.
 use Rattle.std.specs.Prelude.{ℕ, ◌++◌, Bool, List, [], ◌∷◌, Option, None, Some, codes, decimal}
 use Rattle.std.specs.List.{find}
+use Rattle.spec_document.specs.Forest.{Document}
+use Rattle.spec_document.specs.Place as place
 use Rattle.spec_document.specs.Place.{Ending, Itself, AtAttribute, AtNamespace, kind_of, expanded_name, written_name, string_value}
-use Rattle.spec_document.specs.Order.{Entry}
+use Rattle.spec_document.specs.Order.{Entry, entries_of, is_same_place}
 use Rattle.spec_meaning.specs.Step.{stepped, ordered}
 use Rattle.spec_meaning.specs.Question.{Question, Step, Text, Name, Place, Order, Key, Choice, Copy, Unit, External, Answer, Gone, SomeNodes, SomeText, Named}
 
@@ -42,3 +44,7 @@ answer_by key same entries (Choice node mode candidates) = Gone
 answer_by key same entries (Copy node) = Gone
 answer_by key same entries (Unit element) = Gone
 answer_by key same entries (External name) = Gone
+
+-- nodes named by their places
+abbrev pub truth_at_places : {L : Type 0} → Document L → Question place.Place → Answer place.Place
+truth_at_places document = answer_by (λ e. e.place) is_same_place (entries_of document)

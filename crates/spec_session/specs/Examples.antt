@@ -9,7 +9,10 @@ use Rattle.spec_session.specs.declared.kinds.Ending.TheVariants.{Finished, Quit,
 use Rattle.spec_session.specs.Command.{session_of, status_of}
 use Rattle.spec_session.specs.Request.{Request, SetSource, SetModule, SetText, SetAttribute, Rename, SetParameter, Dump, SourceName, ModuleName, words_of, asked_by, request_of, path_of}
 use Rattle.spec_session.specs.Language.{attribute, stylesheet_attributes, template_attributes, stylesheet_of}
-use Rattle.spec_session.specs.Reply.{Static, Dynamic, OkRefused, Refused, Shown, No, reply_bytes}
+use Rattle.spec_expression.specs.declared.code.Code.TheVariants.{Static, Dynamic}
+use Rattle.spec_expression.specs.declared.code.StaticCode.TheVariants.{NotYet}
+use Rattle.spec_expression.specs.declared.code.DynCode.TheVariants.{TooDeep}
+use Rattle.spec_session.specs.Reply.{OkRefused, Refused, Shown, No, reply_bytes}
 use Rattle.spec_session.specs.Machine.{Failed, no_main, no_source, outcome_by}
 
 -- a body goes up to a line `.`; empty lines between commands are skipped; `quit` ends the session
@@ -125,7 +128,7 @@ pub without_source : outcome_by (Some (leaf (codes "a") [])) None ≡ Failed no_
 without_source = refl
 
 pub other_main : outcome_by (Some (Node tt (Comment []) Empty (leaf (codes "a") (codes "b")))) (Some (leaf (codes "a") (codes "b")))
-    ≡ Failed (record { code = Static 90; place = Some (record { name = codes "main"; positions = 2 ∷ [] }) })
+    ≡ Failed (record { code = Static NotYet; place = Some (record { name = codes "main"; positions = 2 ∷ [] }) })
 unfolding is_name_start is_name_part
 other_main = refl
 
@@ -139,7 +142,7 @@ pub refused_change : reply_bytes (OkRefused no_main) ≡ codes "ok refused S01 -
 unfolding encode digits
 refused_change = refl
 
-pub refused_result : reply_bytes (Refused (record { code = Dynamic 11; place = Some (record { name = codes "main"; positions = 1 ∷ 20 ∷ [] }) })) ≡ codes "refused D11 main/1/20\n"
+pub refused_result : reply_bytes (Refused (record { code = Dynamic TooDeep; place = Some (record { name = codes "main"; positions = 1 ∷ 20 ∷ [] }) })) ≡ codes "refused D11 main/1/20\n"
 unfolding encode digits
 refused_result = refl
 

@@ -7,7 +7,9 @@ use Rattle.spec_document.specs.Document.{document_of}
 use Rattle.spec_session.specs.Command.{Command}
 use Rattle.spec_session.specs.Request.{DocumentName, SourceName, ModuleName, Request, SetSource, SetModule, DropModule, Insert, Delete, SetText, SetAttribute, RemoveAttribute, Rename, SetParameter, Show, Write, Messages, Dump, Statistics, request_of}
 use Rattle.spec_session.specs.Language.{stylesheet_of, document_element_from, result_of}
-use Rattle.spec_session.specs.Reply.{Static, Refusal, Reply, OkDone, OkRefused, Refused, Shown, No}
+use Rattle.spec_expression.specs.declared.code.Code.TheVariants.{Static}
+use Rattle.spec_expression.specs.declared.code.StaticCode.TheVariants.{NoMain, NoSource, NotYet}
+use Rattle.spec_session.specs.Reply.{Refusal, Reply, OkDone, OkRefused, Refused, Shown, No}
 
 -- the module of each name
 abbrev pub Modules : Type 0
@@ -39,14 +41,14 @@ main_name = codes "main"
 
 -- S01: there is no module `main`; S02: there is no source
 abbrev pub no_main : Refusal
-no_main = record { code = Static 1; place = None }
+no_main = record { code = Static NoMain; place = None }
 
 abbrev pub no_source : Refusal
-no_source = record { code = Static 2; place = None }
+no_source = record { code = Static NoSource; place = None }
 
 -- S90, at its document element: `main` is none of the stylesheets that are taken
 abbrev pub not_taken : Plain → Refusal
-not_taken main = record { code = Static 90; place = Some (record { name = main_name; positions = document_element_from 1 main ∷ [] }) }
+not_taken main = record { code = Static NotYet; place = Some (record { name = main_name; positions = document_element_from 1 main ∷ [] }) }
 
 abbrev pub outcome_by : Option Plain → Option Plain → Outcome
 outcome_by None source = Failed no_main

@@ -1,13 +1,10 @@
 -- Replies and their bytes.
-use Rattle.std.specs.Prelude.{ℕ, List, [], ◌∷◌, ◌++◌, nat_lt, codes, decimal, Option, None, Some, if◌then◌else◌}
+use Rattle.std.specs.Prelude.{ℕ, List, [], ◌∷◌, ◌++◌, codes, decimal, Option, None, Some}
 use Rattle.std.specs.List.{flat_map}
 use Rattle.std.specs.Str.{encode_utf8_all}
 use Rattle.spec_document.specs.Pyx.{Line}
-
--- the code of a refusal: S and a number where the stylesheet is refused, D and a number where its run is
-pub data Code : Type 0 where
-  Static : (number : ℕ) → Code
-  Dynamic : (number : ℕ) → Code
+use Rattle.spec_expression.specs.declared.code.Code.{Code}
+use Rattle.spec_expression.specs.Code.{code_text}
 
 -- a node of a module, by the positions of raw children on the way from its root
 pub record ModulePlace : Type 0 where
@@ -29,14 +26,6 @@ pub data Reply : Type 0 where
   Shown : (lines : List Line) → Reply
   -- to a refused command
   No : (number : ℕ) → Reply
-
--- a number in two digits at least
-abbrev pub two_digits : ℕ → List ℕ
-two_digits number = if nat_lt number 10 then 0x30 ∷ decimal number else decimal number
-
-abbrev pub code_text : Code → List ℕ
-code_text (Static number) = 0x53 ∷ two_digits number
-code_text (Dynamic number) = 0x44 ∷ two_digits number
 
 -- a module and a path in it, as `main/1/2`, or `-`
 abbrev pub place_text : Option ModulePlace → List ℕ

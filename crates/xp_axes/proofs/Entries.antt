@@ -127,10 +127,10 @@ all_at node = all_append node (own_entries [] node) (entries_in node.above [] 1 
 
 -- ---- Each node is listed
 
-abbrev has : NodeRef → List (Entry ℕ) → Bool
+abbrev pub has : NodeRef → List (Entry ℕ) → Bool
 has r es = list_any (λ e. same_ref r (ref_of e)) es
 
-has_under : (r : NodeRef) (n : ℕ) (es : List (Entry ℕ)) → has r (map (under n) es) ≡ has r es
+pub has_under : (r : NodeRef) (n : ℕ) (es : List (Entry ℕ)) → has r (map (under n) es) ≡ has r es
 has_under r n [] = refl
 has_under r n (e ∷ es) = ap (λ b. same_ref r (ref_of e) || b) (has_under r n es)
 
@@ -142,10 +142,10 @@ or_right : (a b : Bool) → b ≡ true → (a || b) ≡ true
 or_right true b h = refl
 or_right false b h = h
 
-has_left : (r : NodeRef) (xs ys : List (Entry ℕ)) → has r xs ≡ true → has r (xs ++ ys) ≡ true
+pub has_left : (r : NodeRef) (xs ys : List (Entry ℕ)) → has r xs ≡ true → has r (xs ++ ys) ≡ true
 has_left r xs ys h = list_any-append (λ e. same_ref r (ref_of e)) xs ys ∙ or_left (has r xs) (has r ys) h
 
-has_right : (r : NodeRef) (xs ys : List (Entry ℕ)) → has r ys ≡ true → has r (xs ++ ys) ≡ true
+pub has_right : (r : NodeRef) (xs ys : List (Entry ℕ)) → has r ys ≡ true → has r (xs ++ ys) ≡ true
 has_right r xs ys h = list_any-append (λ e. same_ref r (ref_of e)) xs ys ∙ or_right (has r xs) (has r ys) h
 
 both_true : (a b : Bool) → a ≡ true → b ≡ true → (a && b) ≡ true
@@ -200,7 +200,7 @@ pub namespace_there : (node : Found ℕ) (j : ℕ) (item : Item ℕ) → namespa
     → (n : List ℕ × List ℕ) × (at_number j (namespaces_of node) ≡ Some n)
 namespace_there node j item h = mapped (λ n. NamespaceNode node n.0 n.1) (at_number j (namespaces_of node)) item h
 
-has_own : (r : NodeRef) (p : Part) (node : Found ℕ) (item : Item ℕ) → r.part ≡ p → r.node.number ≡ node.label → part_of p node ≡ Some item
+pub has_own : (r : NodeRef) (p : Part) (node : Found ℕ) (item : Item ℕ) → r.part ≡ p → r.node.number ≡ node.label → part_of p node ≡ Some item
     → has r (own_entries [] node) ≡ true
 has_own r part.Itself node item g e h = or_left _ _ (same_own r part.Itself node.label e (ap (λ p. same_part p part.Itself) g))
 has_own r (part.Attribute j) node item g e h =

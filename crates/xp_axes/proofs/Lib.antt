@@ -5,3 +5,7 @@ pub mod Entries
 pub mod Located
 pub mod Sliced
 pub mod Reached
+pub mod Told
+pub mod Placing
+pub mod Kept
+pub mod Named

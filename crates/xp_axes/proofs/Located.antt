@@ -27,7 +27,7 @@ use Rattle.xp_axes.proofs.Entries.{IsAt, IsEnding, found_first, all_at, is_liste
 some_same : {A : Type 0} (x y : A) → Some x ≡ Some y → x ≡ y
 some_same x y e = ap (λ o. elim o [ Some z ↦ z | None ↦ x ]) e
 
-same_parts : (p q : Part) → same_part p q ≡ true → p ≡ q
+pub same_parts : (p q : Part) → same_part p q ≡ true → p ≡ q
 same_parts part.Itself part.Itself h = refl
 same_parts (part.Attribute m) (part.Attribute n) h = ap part.Attribute (eqb-true m n h)
 same_parts (part.Namespace m) (part.Namespace n) h = ap part.Namespace (eqb-true m n h)

@@ -38,7 +38,7 @@ more_known P Q (Err e) h p = p
 
 -- ---- The entry at a place
 
-or_some : {B : Type 0} (Q : Type 0) (o p : Option B) (x : B) → option_or o p ≡ Some x → (o ≡ Some x → Q) → (p ≡ Some x → Q) → Q
+pub or_some : {B : Type 0} (Q : Type 0) (o p : Option B) (x : B) → option_or o p ≡ Some x → (o ≡ Some x → Q) → (p ≡ Some x → Q) → Q
 or_some Q None p x e f g = g e
 or_some Q (Some y) p x e f g = f e
 
@@ -79,7 +79,7 @@ entry_at document r path some place only = by (numbered_node document r.node.num
 
 -- ---- Names lead back to their entries
 
-item_is : (document : Document ℕ) → IsNumbered document → (e : Entry ℕ) → IsAt (root_of document) e → item_of document (ref_of e) ≡ Some e.item
+pub item_is : (document : Document ℕ) → IsNumbered document → (e : Entry ℕ) → IsAt (root_of document) e → item_of document (ref_of e) ≡ Some e.item
 item_is document numbers e at =
     let parts = and_parts (are_distinct (document.root ∷ labels document.nodes))
     (list_all (λ n. nat_lt n number_limit) (document.root ∷ labels document.nodes)) numbers in
@@ -87,11 +87,11 @@ item_is document numbers e at =
     ∙ ap (option_and_then (part_of (part_at e.place.ending e.number))) (numbered_at document e.place.positions at.element parts.0 at.at)
     ∙ at.part
 
-abbrev AllItems : Document ℕ → List (Entry ℕ) → Type 0
+abbrev pub AllItems : Document ℕ → List (Entry ℕ) → Type 0
 AllItems document [] = Unit {0}
 AllItems document (e ∷ es) = (item_of document (ref_of e) ≡ Some e.item) × AllItems document es
 
-all_items : (document : Document ℕ) → IsNumbered document → (es : List (Entry ℕ)) → AllAt (root_of document) es → AllItems document es
+pub all_items : (document : Document ℕ) → IsNumbered document → (es : List (Entry ℕ)) → AllAt (root_of document) es → AllItems document es
 all_items document numbers [] h = tt
 all_items document numbers (e ∷ es) h = (item_is document numbers e h.0, all_items document numbers es h.1)
 

@@ -1,2 +1,4 @@
 pub mod View
 pub mod Along
+pub mod Numbered
+pub mod Placed

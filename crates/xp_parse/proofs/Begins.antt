@@ -80,5 +80,5 @@ pub head_begins : (p : Parser) (at : ℕ) (h : Head) → Begins p at h → begin
 head_begins p at (heads.Variable name) b = ap begins_primary b.is
 head_begins p at heads.Group b = ap begins_primary b.is
 head_begins p at (heads.Literal content) b = ap begins_primary b.is
-head_begins p at (heads.Number whole fraction) b = ap begins_primary b.is
+head_begins p at (heads.Number value) b = ap begins_primary b.is
 head_begins p at (heads.Call name) b = ap begins_primary (next_two p at (Name (name_of name)) Open b.0 b.1) ∙ ap (λ (o : Option NodeType). not (is_some o)) b.2

@@ -3,7 +3,7 @@ ghost use Rattle.std.specs.Prelude.{◌≡◌};
 ghost use Rattle.xp_parse.specs.Code.{fault_code};
 ghost use Rattle.xp_parse.specs.declared.fault.ParseFault.TheVariants as faults;
 
-use spec_expression::Refusal;
+use spec_expression::ExpressionRefusal;
 use std::alloc::{AllocError, AllocFailed};
 use thiserror::Error;
 use xt_base::StaticCode;
@@ -17,7 +17,7 @@ pub enum ParseFault {
     Memory,
     /// The least refusal that stands at the text: S10, S12, S13 or S14.
     #[error("no expression")]
-    Refused(Refusal),
+    Refused(ExpressionRefusal),
 }
 
 impl ParseFault {
@@ -27,10 +27,7 @@ impl ParseFault {
     {
         match self {
             ParseFault::Memory => None,
-            ParseFault::Refused(Refusal::Syntax) => Some(StaticCode::BadExpression),
-            ParseFault::Refused(Refusal::Depth) => Some(StaticCode::TooManyBrackets),
-            ParseFault::Refused(Refusal::Number) => Some(StaticCode::BadNumber),
-            ParseFault::Refused(Refusal::Prefix) => Some(StaticCode::NoPrefix),
+            ParseFault::Refused(why) => Some(why.code()),
         }
     }
 }

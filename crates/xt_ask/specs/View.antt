@@ -1,6 +1,5 @@
 -- What questions, answers and contexts of the program stand for.
-use Rattle.std.specs.Prelude.{List, [], ◌∷◌, map, Option, None, Some}
-use Rattle.std.specs.declared.rc.Rc.{Rc}
+use Rattle.std.specs.Prelude.{List, [], ◌∷◌, map}
 use Rattle.spec_meaning.specs.Question as plain
 use Rattle.spec_meaning.specs.Program as program
 use Rattle.spec_meaning.specs.Context as context
@@ -24,11 +23,13 @@ use Rattle.xt_ask.specs.declared.answer.NamedSets.{NamedSets}
 use Rattle.xt_ask.specs.declared.answer.ResolvedUnit.{ResolvedUnit}
 use Rattle.xt_ask.specs.declared.answer.Answer.{Answer}
 use Rattle.xt_ask.specs.declared.answer.Answer.TheVariants as answers
+use Rattle.xt_ask.specs.declared.read.Read.{Read}
+use Rattle.xt_ask.specs.declared.read.Read.TheVariants as reads
 use Rattle.xt_ask.specs.declared.fault.Refusal.{Refusal}
 use Rattle.xt_ask.specs.declared.fault.Refusal.TheVariants as refusals
 use Rattle.xt_ask.specs.declared.context.Focus.{Focus}
 use Rattle.xt_ask.specs.declared.context.Bindings.{Bindings, Bindings-F, fold-Bindings}
-use Rattle.xt_ask.specs.declared.context.Binding.{Binding, Binding-F, fold-Binding}
+use Rattle.xt_ask.specs.declared.context.Binding.{Binding-F}
 use Rattle.xt_ask.specs.declared.context.Context.{Context}
 use Rattle.xt_ask.specs.declared.context.Known.{Known}
 use Rattle.xt_ask.specs.declared.context.Supplies.{Supplies}
@@ -81,6 +82,10 @@ wanted_of (wanted.Global name) = program.Global name
 abbrev pub given_of : Given → program.Given NodeRef
 given_of (given.Counted number) = program.Counted number
 given_of (given.Valued value) = program.Valued (value_of value)
+
+abbrev pub read_of : Read → program.Read NodeRef
+read_of (reads.Asked question answer) = program.Asked (question_of question) (answer_of answer)
+read_of (reads.Saw wanted depth given) = program.Saw (wanted_of wanted) depth (given_of given)
 
 -- variables, innermost first
 abbrev pub bindings_step : Bindings-F (List (context.Bound NodeRef)) (List (context.Bound NodeRef)) → List (context.Bound NodeRef)

@@ -6,7 +6,7 @@ ghost use Rattle.xt_tree.specs.ValueView.{value_of};
 use std::alloc::Global;
 use xp_syntax::Test;
 use xt_names::Expanded;
-use xt_text::Memory;
+use xt_text::{Memory, Text};
 use xt_tree::{Fragment, Value};
 
 /// The same name, in memory of its own.
@@ -16,6 +16,29 @@ pub fn copy_name(alloc: Global, name: &Expanded) -> Result<Expanded, Memory>
     let uri = name.uri().copy(alloc)?;
     let local = name.local().copy(alloc)?;
     Ok(Expanded::new(uri, local))
+}
+
+/// The same name, where there is one, in memory of its own.
+pub(crate) fn copy_name_if(
+    alloc: Global,
+    name: &Option<Expanded>,
+) -> Result<Option<Expanded>, Memory>
+    ensures { IfOk result (λ n. n ≡ name.now) }
+{
+    match name {
+        None => Ok(None),
+        Some(name) => Ok(Some(copy_name(alloc, name)?)),
+    }
+}
+
+/// The same text, where there is one, in memory of its own.
+pub(crate) fn copy_text_if(alloc: Global, text: &Option<Text>) -> Result<Option<Text>, Memory>
+    ensures { IfOk result (λ t. t ≡ text.now) }
+{
+    match text {
+        None => Ok(None),
+        Some(text) => Ok(Some(text.copy(alloc)?)),
+    }
 }
 
 /// The same node test, in memory of its own.

@@ -1,6 +1,10 @@
 // Why an evaluation ends with no value.
+ghost use Rattle.std.specs.Prelude.{◌≡◌, IfOk};
+ghost use Rattle.xp_syntax.specs.PartView.{place_of};
+
+use crate::copies::copy_text_if;
 use spec_expression::DynCode;
-use std::alloc::{AllocError, AllocFailed};
+use std::alloc::{AllocError, AllocFailed, Global};
 use xt_base::Place;
 use xt_names::Expanded;
 use xt_text::Memory;
@@ -12,6 +16,43 @@ pub enum Refusal {
     Here(DynCode),
     /// At this element, which is a global, an xsl:key or an xsl:sort.
     At(DynCode, Place),
+}
+
+impl Refusal {
+    ghost use Rattle.std.specs.Prelude.{◌≡◌, IfOk};
+    ghost use Rattle.std.specs.Bool.{Decides};
+    ghost use Rattle.xt_ask.specs.View.{refusal_of};
+
+    /// The same refusal, in memory of its own.
+    pub fn copy(&self, alloc: Global) -> Result<Refusal, Memory>
+        ensures { IfOk result (λ r. refusal_of r ≡ refusal_of self.now) }
+    {
+        match self {
+            Refusal::Here(code) => Ok(Refusal::Here(*code)),
+            Refusal::At(code, place) => Ok(Refusal::At(*code, copy_place(alloc, place)?)),
+        }
+    }
+
+    /// Whether both are the same refusal. Takes no memory.
+    pub fn same(&self, other: &Refusal) -> bool
+        ensures { Decides result (refusal_of self.now ≡ refusal_of other.now) }
+    {
+        match (self, other) {
+            (Refusal::Here(code), Refusal::Here(other)) => code == other,
+            (Refusal::At(code, place), Refusal::At(other_code, other)) => {
+                code == other_code && place.same(other)
+            }
+            _ => false,
+        }
+    }
+}
+
+fn copy_place(alloc: Global, place: &Place) -> Result<Place, Memory>
+    ensures { IfOk result (λ p. place_of p ≡ place_of place.now) }
+{
+    let module = copy_text_if(alloc, &place.module)?;
+    let path = place.path.copy(alloc)?;
+    Ok(Place { module, path })
 }
 
 /// Why there is no value.

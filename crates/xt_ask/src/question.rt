@@ -1,8 +1,11 @@
 // Questions to a world, and what is needed of a run.
+use crate::copies::copy_name_if;
+use crate::{copy_name, copy_test, copy_value};
 use spec_document::Axis;
+use std::alloc::Global;
 use xp_syntax::Test;
 use xt_names::Expanded;
-use xt_text::Text;
+use xt_text::{Memory, Text};
 use xt_tree::{NodeRef, Value};
 
 /// Which template rules are candidates for a node (XSLT 1.0, sections 5.5 and 5.6).
@@ -57,4 +60,79 @@ pub enum Given {
     Counted(u64),
     /// The value of a global.
     Valued(Value),
+}
+
+impl Question {
+    ghost use Rattle.std.specs.Prelude.{◌≡◌, IfOk};
+    ghost use Rattle.xt_ask.specs.View.{question_of};
+
+    /// The same question, in memory of its own.
+    pub fn copy(&self, alloc: Global) -> Result<Question, Memory>
+        ensures { IfOk result (λ q. question_of q ≡ question_of self.now) }
+    {
+        match self {
+            Question::Step(node, axis, test) => {
+                Ok(Question::Step(*node, *axis, copy_test(alloc, test)?))
+            }
+            Question::Text(node) => Ok(Question::Text(*node)),
+            Question::Name(node) => Ok(Question::Name(*node)),
+            Question::Place(node) => Ok(Question::Place(*node)),
+            Question::Order(nodes) => {
+                Ok(Question::Order(Vec::from_slice(alloc, nodes.as_slice())?))
+            }
+            Question::Key(name, value) => {
+                let name = copy_name(alloc, name)?;
+                Ok(Question::Key(name, value.copy(alloc)?))
+            }
+            Question::Choice(node, mode, candidates) => {
+                Ok(Question::Choice(*node, copy_name_if(alloc, mode)?, *candidates))
+            }
+            Question::Copy(node) => Ok(Question::Copy(*node)),
+            Question::Unit(element) => Ok(Question::Unit(*element)),
+            Question::External(name) => Ok(Question::External(name.copy(alloc)?)),
+        }
+    }
+}
+
+impl Wanted {
+    ghost use Rattle.std.specs.Prelude.{◌≡◌, IfOk};
+    ghost use Rattle.xt_ask.specs.View.{wanted_of};
+
+    /// The same, in memory of its own.
+    pub fn copy(&self, alloc: Global) -> Result<Wanted, Memory>
+        ensures { IfOk result (λ w. wanted_of w ≡ wanted_of self.now) }
+    {
+        match self {
+            Wanted::Position => Ok(Wanted::Position),
+            Wanted::Size => Ok(Wanted::Size),
+            Wanted::Global(name) => Ok(Wanted::Global(copy_name(alloc, name)?)),
+        }
+    }
+}
+
+impl Given {
+    ghost use Rattle.std.specs.Prelude.{◌≡◌, IfOk};
+    ghost use Rattle.spec_meaning.specs.Program.{value_in};
+    ghost use Rattle.xt_tree.specs.ValueView.{value_of};
+    ghost use Rattle.xt_ask.specs.View.{given_of};
+
+    /// The same. A fragment is shared.
+    pub fn copy(&self, alloc: Global) -> Result<Given, Memory>
+        ensures { IfOk result (λ g. given_of g ≡ given_of self.now) }
+    {
+        match self {
+            Given::Counted(number) => Ok(Given::Counted(*number)),
+            Given::Valued(value) => Ok(Given::Valued(copy_value(alloc, value)?)),
+        }
+    }
+
+    /// The value of a global, and the empty text where a number was given. Takes no memory.
+    pub fn into_value(self, alloc: Global) -> Value
+        ensures { value_of result ≡ value_in (given_of self) }
+    {
+        match self {
+            Given::Valued(value) => value,
+            Given::Counted(_) => Value::Text(Text::new(alloc)),
+        }
+    }
 }

@@ -14,7 +14,8 @@ mod reading;
 mod steps;
 
 pub use codes::EditCode;
-pub use num::{Num, NumFault};
+pub use num::{GREATEST, Num, NumFault};
 pub use place::Place;
-pub use spec_expression::{DynCode, StaticCode};
+pub use reading::numeral;
+pub use spec_expression::{Code, DynCode, StaticCode};
 pub use steps::Steps;

@@ -2,18 +2,20 @@
 ghost use Rattle.std.specs.Prelude.{◌≡◌, IfOk, IfSome};
 ghost use Rattle.spec_expression.specs.Number.{whole, Whole, NaN, value_of, IsInRange, sum_of, difference_of, product_of, quotient_of, remainder_of, negation_of, order_of, number_of, text_of};
 ghost use Rattle.std.specs.Str.{chars};
-ghost use Rattle.xt_base.specs.Fault.{Gives};
+ghost use Rattle.spec_expression.specs.Code.{fault_code};
+ghost use Rattle.xt_base.specs.Fault.{Gives, fault_of};
 
 use crate::reading;
 use itoa::Buffer;
+use spec_expression::DynCode;
 use std::alloc::{AllocError, Global};
 use std::cmp::Ordering;
 use std::marker::Model;
 use thiserror::Error;
 use xt_text::{Memory, Text};
 
-/// The greatest whole number, and with a minus the least: 2^53 - 1.
-const GREATEST: i64 = 9_007_199_254_740_991;
+/// The greatest whole number, 2^53 - 1; the least is its negative.
+pub const GREATEST: u64 = 9_007_199_254_740_991;
 
 /// Why a number that XPath has is none here.
 #[derive(Clone, Copy, Debug, PartialEq, Eq, Error)]
@@ -27,6 +29,19 @@ pub enum NumFault {
     /// It is over 9007199254740991 or below -9007199254740991.
     #[error("the number is out of range")]
     Wide,
+}
+
+impl NumFault {
+    /// The code of a run that meets it: D01, D02 or D03.
+    pub fn code(self) -> DynCode
+        ensures { result ≡ fault_code (fault_of self) }
+    {
+        match self {
+            NumFault::Fraction => DynCode::Fraction,
+            NumFault::Infinite => DynCode::Infinite,
+            NumFault::Wide => DynCode::Wide,
+        }
+    }
 }
 
 /// A number (XPath 1.0, 3.5): a whole one from -9007199254740991 to 9007199254740991, or NaN. Negative zero is
@@ -71,7 +86,7 @@ impl Num {
     pub fn whole(value: i64) -> Result<Num, NumFault>
         ensures { Gives result (whole value) }
     {
-        if value < -GREATEST || value > GREATEST {
+        if value.unsigned_abs() > GREATEST {
             return Err(NumFault::Wide);
         }
         Ok(Num { value: Some(value) })
@@ -126,8 +141,7 @@ impl Num {
     fn from_wide(value: i128) -> Result<Num, NumFault>
         ensures { Gives result (whole value) }
     {
-        let greatest = i128::from(GREATEST);
-        if value < -greatest || value > greatest {
+        if value.unsigned_abs() > u128::from(GREATEST) {
             return Err(NumFault::Wide);
         }
         Num::whole(value as i64)

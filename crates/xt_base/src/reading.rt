@@ -1,16 +1,12 @@
 // The number of a string. What counts in a numeral is ASCII, so the bytes are read.
-ghost use Rattle.std.specs.Prelude.{◌≡◌, ◌&&◌, ◌==◌, ◌+◌, length, nat_lt, if◌then◌else◌, Some, None, IsTrue};
+ghost use Rattle.std.specs.Prelude.{◌≡◌, ◌&&◌, ◌==◌, ◌+◌, length, nat_lt, min};
 ghost use Rattle.std.specs.List.{list_all, before_first, after_first, position};
 ghost use Rattle.std.specs.Char.{is_ascii_digit};
-ghost use Rattle.std.specs.Str.Parse.{digits_value};
-ghost use Rattle.spec_expression.specs.Number.{greatest, is_point, trimmed, without_front, without_end, signed_number, unsigned_number, number_of};
+ghost use Rattle.spec_expression.specs.Number.{greatest, decimal, numeral, is_point, trimmed, without_front, without_end, signed_number, unsigned_number, number_of};
 ghost use Rattle.xt_base.specs.Fault.{Gives};
 
-use crate::{Num, NumFault};
+use crate::{GREATEST, Num, NumFault};
 use xt_text::is_space;
-
-/// The greatest value of a numeral.
-const GREATEST: u64 = 9_007_199_254_740_991;
 
 /// The number that the bytes of a text write.
 pub(crate) fn number(text: &[u8]) -> Result<Num, NumFault>
@@ -66,11 +62,8 @@ fn unsigned(text: &[u8]) -> Result<Num, NumFault>
     if !is_numeral(whole, fraction) {
         return Ok(Num::nan());
     }
-    match value(whole) {
-        None => Err(NumFault::Wide),
-        Some(_) if !are_zeros(fraction) => Err(NumFault::Fraction),
-        Some(value) => Num::whole(value as i64),
-    }
+    let value = numeral(whole, fraction)?;
+    Num::whole(value as i64)
 }
 
 fn before_point(text: &[u8]) -> &[u8]
@@ -116,17 +109,28 @@ fn are_digits(text: &[u8]) -> bool
     text.iter().all(|byte| byte.is_ascii_digit())
 }
 
-/// The value of the digits, where it is in range.
-fn value(digits: &[u8]) -> Option<u64>
-    requires { IsTrue (list_all is_ascii_digit digits.now) }
-    ensures { result ≡ (if nat_lt greatest (digits_value 10 digits.now) then None else Some (digits_value 10 digits.now)) }
+/// The value of the digits before a point and behind it (XPath 1.0, production 30). `Wide` where those before it
+/// spell a number over 9007199254740991, else `Fraction` where one behind it is not 0.
+pub fn numeral(whole: &[u8], fraction: &[u8]) -> Result<u64, NumFault>
+    ensures { Gives result (numeral whole.now fraction.now) }
 {
-    let mut value = 0;
-    for digit in digits {
-        value = value * 10 + u64::from(*digit - b'0');
-        if value > GREATEST {
-            return None;
-        }
+    let value = decimal(whole);
+    if value > GREATEST {
+        return Err(NumFault::Wide);
     }
-    Some(value)
+    if !are_zeros(fraction) {
+        return Err(NumFault::Fraction);
+    }
+    Ok(value)
+}
+
+/// The number that the digits spell, up to the greatest; one more than the greatest stands for all above it.
+fn decimal(digits: &[u8]) -> u64
+    ensures { result ≡ min (decimal digits.now) (greatest + 1) }
+{
+    let mut value = 0u64;
+    for digit in digits {
+        value = (value * 10 + u64::from(digit.saturating_sub(b'0'))).min(GREATEST + 1);
+    }
+    value
 }

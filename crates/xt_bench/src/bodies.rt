@@ -1,13 +1,15 @@
 // Bodies of lines of a shape and a size.
 
-use std::alloc::{AllocError, Global};
+use std::alloc::Global;
 use xt_build::{BuildFault, Built, Line, build, lines};
 use xt_names::Scope;
 use xt_text::Memory;
 use xt_tree::NodeId;
 
-/// How deep the elements of the shape `deep` stand.
+/// How deep the elements of the shape `deep` stand, and those of the shape `random` at most.
 const DEPTH: u64 = 200;
+
+const RANDOM_DEPTH: u64 = 20;
 
 /// How many nodes are built, or the refusal.
 pub fn build_outcome(alloc: Global, shape: &str, size: u64) -> Result<String, Memory> {
@@ -31,13 +33,15 @@ pub fn lines_outcome(alloc: Global, shape: &str, size: u64) -> Result<String, Me
     }
 }
 
-fn built(alloc: Global, shape: &str, size: u64) -> Result<Result<Built, BuildFault>, Memory> {
+/// The document of the body, or why it has none.
+pub fn built(alloc: Global, shape: &str, size: u64) -> Result<Result<Built, BuildFault>, Memory> {
     let body = body(alloc, shape, size)?;
     let scope = Scope::root(alloc)?;
     Ok(build(alloc, body.as_slice(), &scope, NodeId { number: 0 }))
 }
 
-fn refusal(alloc: Global, fault: BuildFault) -> Result<String, Memory> {
+/// The refusal of a body.
+pub fn refusal(alloc: Global, fault: BuildFault) -> Result<String, Memory> {
     match fault {
         BuildFault::Memory => Err(Memory),
         BuildFault::Refused(fault) => {
@@ -58,6 +62,7 @@ fn body(alloc: Global, shape: &str, size: u64) -> Result<Vec<Line>, Memory> {
     match shape {
         "wide" => push_wide(alloc, &mut body, size)?,
         "deep" => push_deep(alloc, &mut body, size)?,
+        "random" => push_random(alloc, &mut body, size)?,
         "attributes" => push_attributes(alloc, &mut body, size)?,
         "scopes" => push_scopes(alloc, &mut body, size)?,
         _ => {}
@@ -67,7 +72,8 @@ fn body(alloc: Global, shape: &str, size: u64) -> Result<Vec<Line>, Memory> {
 }
 
 fn push(alloc: Global, body: &mut Vec<Line>, line: &str) -> Result<(), Memory> {
-    body.push(Line::new(alloc, line.as_bytes())?)?;
+    let line = Line::new(alloc, line.as_bytes())?;
+    body.push(line)?;
     Ok(())
 }
 
@@ -92,10 +98,41 @@ fn push_deep(alloc: Global, body: &mut Vec<Line>, size: u64) -> Result<(), Memor
     Ok(())
 }
 
+// A walk down and up by pseudo-random numbers, which goes down a little more often, so that few elements have
+// many children.
+fn push_random(alloc: Global, body: &mut Vec<Line>, size: u64) -> Result<(), Memory> {
+    let mut state: u64 = 1;
+    let mut depth: u64 = 0;
+    for _ in 0..size {
+        state = state
+            .wrapping_mul(6_364_136_223_846_793_005)
+            .wrapping_add(1_442_695_040_888_963_407);
+        let ends = ends(state, depth).min(depth);
+        for _ in 0..ends {
+            push(alloc, body, ")a")?;
+        }
+        push(alloc, body, "(a")?;
+        depth = depth.saturating_sub(ends).saturating_add(1);
+    }
+    for _ in 0..depth {
+        push(alloc, body, ")a")?;
+    }
+    Ok(())
+}
+
+// How many elements end before the next one begins, by the three highest bits.
+fn ends(state: u64, depth: u64) -> u64 {
+    match state / (1 << 61) {
+        0..=3 if depth < RANDOM_DEPTH => 0,
+        0..=6 => 1,
+        _ => 4,
+    }
+}
+
 fn push_nested(alloc: Global, body: &mut Vec<Line>, size: u64) -> Result<(), Memory> {
     for index in 0..size {
         push(alloc, body, "(a")?;
-        push(alloc, body, declaration(alloc, index)?.as_str())?;
+        push_declaration(alloc, body, index)?;
     }
     for _ in 0..size {
         push(alloc, body, ")a")?;
@@ -103,13 +140,14 @@ fn push_nested(alloc: Global, body: &mut Vec<Line>, size: u64) -> Result<(), Mem
     Ok(())
 }
 
-fn declaration(alloc: Global, index: u64) -> Result<String, AllocError> {
-    format!(in alloc; "Axmlns:p{index} urn:{index}")
+fn push_declaration(alloc: Global, body: &mut Vec<Line>, index: u64) -> Result<(), Memory> {
+    let line = format!(in alloc; "Axmlns:p{index} urn:{index}")?;
+    push(alloc, body, line.as_str())
 }
 
 fn push_attributes(alloc: Global, body: &mut Vec<Line>, size: u64) -> Result<(), Memory> {
     for index in 0..size {
-        push(alloc, body, declaration(alloc, index)?.as_str())?;
+        push_declaration(alloc, body, index)?;
         let line = format!(in alloc; "Ap{index}:x 1")?;
         push(alloc, body, line.as_str())?;
     }
@@ -118,7 +156,7 @@ fn push_attributes(alloc: Global, body: &mut Vec<Line>, size: u64) -> Result<(),
 
 fn push_scopes(alloc: Global, body: &mut Vec<Line>, size: u64) -> Result<(), Memory> {
     for index in 0..size {
-        push(alloc, body, declaration(alloc, index)?.as_str())?;
+        push_declaration(alloc, body, index)?;
     }
     for _ in 0..size {
         for line in ["(q:a", "Axmlns:q urn:q", ")q:a"] {

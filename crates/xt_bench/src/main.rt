@@ -1,20 +1,24 @@
 //! Work of a size, for benches: each three words of the command line are a bench, a shape and a size, whose
-//! outcome is printed as counts. Times are measured from outside (`tools/bench-build`).
+//! outcome is printed as counts. Times are measured from outside (`tools/bench-build`, `tools/bench-axes`).
 //!
 //! | Bench | Shape | The work |
 //! |---|---|---|
 //! | `build`, `lines` | `wide` | a document with so many children, each with an attribute and a text |
 //! | | `deep` | so many elements, in chains of 200 |
+//! | | `random` | so many elements, at depths up to 20 |
 //! | | `nested` | so many elements inside one another, each with a declaration: too deep |
 //! | | `attributes` | an element with so many declarations and as many attributes with their prefixes |
 //! | | `scopes` | so many declarations at the top, and as many children that declare one |
 //! | `parse` | `sum`, `path` | an expression of so many terms or steps |
 //!
-//! `lines` is `build` and the lines that are written for the document.
+//! `lines` is `build` and the lines that are written for the document. Over the same documents, `find` finds each
+//! node by its number, `child`, `parent`, `descendant` and `following-sibling` are a step to elements from each
+//! node, and `order` brings all nodes in order.
 #![tactic(auto)]
 
 mod bodies;
 mod expressions;
+mod nodes;
 
 use std::alloc::Global;
 use std::{env, io};
@@ -23,7 +27,10 @@ use xt_text::Memory;
 fn main(rt: HostRuntime) -> io::Result<()> {
     let alloc = rt.alloc();
     let words: Vec<String> = env::args(&rt)?.collect(alloc)?;
-    let benches = words.as_slice().get(1..).unwrap_or(&[]);
+    let benches = match words.as_slice() {
+        [_, benches @ ..] => benches,
+        [] => &[],
+    };
     for bench in benches.chunks(3) {
         if let [bench, shape, size] = bench {
             let size = size.as_str().parse::<u64>().unwrap_or(0);
@@ -41,6 +48,9 @@ fn outcome(alloc: Global, bench: &str, shape: &str, size: u64) -> Result<String,
         "build" => bodies::build_outcome(alloc, shape, size)?,
         "lines" => bodies::lines_outcome(alloc, shape, size)?,
         "parse" => expressions::outcome(alloc, shape, size)?,
+        "find" | "child" | "parent" | "descendant" | "following-sibling" | "order" => {
+            nodes::outcome(alloc, bench, shape, size)?
+        }
         _ => String::from_str(alloc, "no such bench")?,
     };
     Ok(format!(in alloc; "{bench} {shape} {size}: {found}")?)

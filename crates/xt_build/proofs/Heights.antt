@@ -4,7 +4,7 @@ use Rattle.std.proofs.Common.{ap, ◌∙◌, arith}
 use Rattle.std.specs.Prelude.{nat_lt}
 use Rattle.spec_document.specs.Scope.{Scope}
 use Rattle.spec_document.specs.Declaration.{within}
-use Rattle.spec_document.specs.Forest.{Written, Content, Element, Text, Comment, Instruction, Forest, Empty, Node, height, numbered, size}
+use Rattle.spec_document.specs.Forest.{Written, Element, Text, Comment, Instruction, Forest, Empty, Node, height, numbered, size}
 use Rattle.spec_document.specs.Fault.{Fault, fault_if, least}
 use Rattle.spec_document.specs.Balance.{LineNumbers}
 use Rattle.spec_document.specs.Top.{without_texts}

@@ -79,7 +79,7 @@ fn document(
     }
     let built = make_nodes(alloc, pieces, Some(0), second)?;
     let next = built.next;
-    let document = Doc::numbered(first, built.nodes);
+    let document = Doc::numbered(alloc, first, built.nodes)?;
     Ok(Built { document, next })
 }
 

@@ -7,13 +7,14 @@
 //
 // A document is written as `(root 0 (element 1 a @x="1" (text 2 "hi")))`, each node with its number.
 
-use crate::fault::Fault;
 use crate::scopes::scope;
-use crate::show::{part, push_number, push_part, push_quoted, push_word};
-use crate::words::{Word, behind, halves, number_at, text_at};
+use cases::{
+    Fault, Word, behind, body, document, halves, number_at, part, push_number, push_part,
+    push_quoted, push_word, text_at,
+};
 use std::alloc::Global;
 use std::rc::Rc;
-use xt_build::{BuildFault, Built, Line, Parent, build, build_nodes, lines};
+use xt_build::{BuildFault, Built, BuiltNodes, Parent, build, build_nodes, lines};
 use xt_names::Scope;
 use xt_text::{Memory, Text};
 use xt_tree::{Content, Doc, Node, NodeId, Written};
@@ -22,78 +23,78 @@ use xt_tree::{Content, Doc, Node, NodeId, Written};
 pub fn answer(alloc: Global, out: &mut Text, call: &str, words: &[Word]) -> Result<bool, Fault> {
     match call {
         "build" => push_built(alloc, out, 0, words)?,
-        "builds" => match built(alloc, 0, words)? {
-            Ok(built) => push_next(out, built.next)?,
-            Err(fault) => push_fault(out, fault)?,
-        },
+        "builds" => push_behind(out, built(alloc, 0, words)?)?,
         "build-from" => push_built(alloc, out, number_at(words, 0)?, behind(words, 1))?,
-        "siblings" => push_siblings(alloc, out, &Scope::root(alloc)?, words)?,
+        "siblings" => push_siblings(alloc, out, &[], words)?,
         "siblings-in" => {
             let (declared, rest) = halves(words);
-            push_siblings(alloc, out, &scope(alloc, declared)?, rest)?;
+            push_siblings(alloc, out, declared, rest)?;
         }
-        "lines" => {
-            for line in &lines(alloc, &document(alloc, words)?)? {
-                part(out)?;
-                push_word(out, line.as_str())?;
-            }
-        }
+        "lines" => push_lines(alloc, out, words)?,
         _ => return Ok(false),
     }
     Ok(true)
 }
 
-// The lines that the words are.
-fn body(alloc: Global, words: &[Word]) -> Result<Vec<Line>, Memory> {
-    let mut body = Vec::new(alloc);
-    for word in words {
-        body.push(Line::new(alloc, word.as_slice())?)?;
-    }
-    Ok(body)
+fn push_lines(alloc: Global, out: &mut Text, words: &[Word]) -> Result<(), Fault> {
+    let document = document(alloc, words)?;
+    push_words(out, lines(alloc, &document)?)?;
+    Ok(())
 }
 
-fn built(alloc: Global, first: u64, words: &[Word]) -> Result<Result<Built, BuildFault>, Fault> {
-    let body = body(alloc, words)?;
-    let first = NodeId { number: first };
-    Ok(build(alloc, body.as_slice(), &Scope::root(alloc)?, first))
-}
-
-/// The document of these lines.
-pub fn document(alloc: Global, words: &[Word]) -> Result<Doc, Fault> {
-    match built(alloc, 0, words)? {
-        Ok(built) => Ok(built.document),
-        Err(BuildFault::Memory) => Err(Fault::Memory),
-        Err(BuildFault::Refused(_)) => Err(Fault::NoCase),
-    }
-}
-
-fn push_built(alloc: Global, out: &mut Text, first: u64, words: &[Word]) -> Result<(), Fault> {
-    match built(alloc, first, words)? {
-        Ok(built) => push_document(out, &built.document)?,
-        Err(fault) => push_fault(out, fault)?,
+fn push_words(out: &mut Text, lines: Vec<Text>) -> Result<(), Memory> {
+    for line in &lines {
+        part(out)?;
+        push_word(out, line.as_str())?;
     }
     Ok(())
+}
+
+fn built(alloc: Global, first: u64, words: &[Word]) -> Result<Result<Built, BuildFault>, Memory> {
+    let body = body(alloc, words)?;
+    let scope = Scope::root(alloc)?;
+    Ok(build(alloc, body.as_slice(), &scope, NodeId { number: first }))
+}
+
+fn push_built(alloc: Global, out: &mut Text, first: u64, words: &[Word]) -> Result<(), Memory> {
+    match built(alloc, first, words)? {
+        Ok(built) => push_document(out, &built.document),
+        Err(fault) => push_fault(out, fault),
+    }
+}
+
+fn push_behind(out: &mut Text, answer: Result<Built, BuildFault>) -> Result<(), Memory> {
+    match answer {
+        Ok(built) => push_next(out, built.next),
+        Err(fault) => push_fault(out, fault),
+    }
 }
 
 fn push_siblings(
     alloc: Global,
     out: &mut Text,
-    scope: &Scope,
+    declared: &[Word],
     words: &[Word],
 ) -> Result<(), Fault> {
-    let body = body(alloc, behind(words, 3))?;
-    let first = NodeId {
-        number: number_at(words, 0)?,
-    };
+    let number = number_at(words, 0)?;
     let parent = parent(text_at(words, 1)?, number_at(words, 2)?)?;
-    match build_nodes(alloc, body.as_slice(), scope, first, parent) {
+    let scope = scope(alloc, declared)?;
+    let body = body(alloc, behind(words, 3))?;
+    push_made(
+        out,
+        build_nodes(alloc, body.as_slice(), &scope, NodeId { number }, parent),
+    )?;
+    Ok(())
+}
+
+fn push_made(out: &mut Text, answer: Result<BuiltNodes, BuildFault>) -> Result<(), Memory> {
+    match answer {
         Ok(built) => {
             push_nodes(out, built.nodes.list())?;
-            push_next(out, built.next)?;
+            push_next(out, built.next)
         }
-        Err(fault) => push_fault(out, fault)?,
+        Err(fault) => push_fault(out, fault),
     }
-    Ok(())
 }
 
 fn parent(kind: &str, number: u64) -> Result<Parent, Fault> {

@@ -1,9 +1,7 @@
 // Classes of characters: `is-char`, `is-space`, `is-name-start`, `is-name-part`, each of code points in
 // hexadecimal digits. A surrogate is no character: `none`.
 
-use crate::fault::Fault;
-use crate::show::{push_part, push_yes};
-use crate::words::{Word, text_of};
+use cases::{Fault, Word, push_part, push_yes, text_of};
 use xt_names::{is_char, is_name_part, is_name_start};
 use xt_text::{Text, is_space};
 

@@ -1,32 +1,35 @@
 // The numbers of refusals, by what they are: `edit CODE..`, `static CODE..`, `dynamic CODE..`; `steps COUNT N
 // COUNT N ..`, counts of what a change cost; `place MODULE STEP..`; `says ERROR`, the text of an error.
 
-use crate::fault::Fault;
 use crate::parts::{path, push_path};
-use crate::show::{part, push_number, push_part, push_quoted};
-use crate::words::{Word, behind, number_at, text_at, text_of};
+use cases::{
+    Fault, Word, behind, number_at, part, push_number, push_part, push_quoted, text_at, text_of,
+};
 use std::alloc::Global;
 use xt_base::{DynCode, EditCode, NumFault, Place, StaticCode, Steps};
 use xt_io::LineFault;
 use xt_pyx::BadLine;
-use xt_text::{Memory, Text};
+use xt_text::{Memory, Path, Text};
 
 /// Answers the call, if it is one of these.
 pub fn answer(alloc: Global, out: &mut Text, call: &str, words: &[Word]) -> Result<bool, Fault> {
     match call {
-        "edit" | "static" | "dynamic" => {
-            for word in words {
-                let number = number(call, text_of(word)?)?;
-                part(out)?;
-                push_number(out, u64::from(number))?;
-            }
-        }
+        "edit" | "static" | "dynamic" => push_numbers(out, call, words)?,
         "steps" => push_steps(out, words)?,
-        "says" => push_quoted(out, said(alloc, text_at(words, 0)?)?.as_str())?,
+        "says" => push_said(alloc, out, text_at(words, 0)?)?,
         "place" => push_place(out, &place(alloc, words)?)?,
         _ => return Ok(false),
     }
     Ok(true)
+}
+
+fn push_numbers(out: &mut Text, kind: &str, names: &[Word]) -> Result<(), Fault> {
+    for name in names {
+        let number = number(kind, text_of(name)?)?;
+        part(out)?;
+        push_number(out, u64::from(number))?;
+    }
+    Ok(())
 }
 
 fn number(kind: &str, name: &str) -> Result<u8, Fault> {
@@ -126,11 +129,7 @@ fn dynamic_code(name: &str) -> Option<DynCode> {
 fn push_steps(out: &mut Text, words: &[Word]) -> Result<(), Fault> {
     let mut steps = Steps::default();
     for (index, word) in words.iter().enumerate() {
-        match text_of(word)? {
-            "ran" => steps.add_ran(count_behind(words, index)?),
-            "asked" => steps.add_asked(count_behind(words, index)?),
-            _ => {}
-        }
+        add_steps(&mut steps, text_of(word)?, behind(words, index))?;
     }
     push_part(out, "ran ")?;
     push_number(out, steps.ran)?;
@@ -139,20 +138,34 @@ fn push_steps(out: &mut Text, words: &[Word]) -> Result<(), Fault> {
     Ok(())
 }
 
-fn count_behind(words: &[Word], index: usize) -> Result<u64, Fault> {
-    number_at(behind(behind(words, index), 1), 0)
+// Adds the number behind the first word, where that names a count.
+fn add_steps(steps: &mut Steps, kind: &str, words: &[Word]) -> Result<(), Fault> {
+    if !matches!(kind, "ran" | "asked") {
+        return Ok(());
+    }
+    let count = number_at(words, 1)?;
+    if kind == "ran" {
+        steps.add_ran(count);
+    } else {
+        steps.add_asked(count);
+    }
+    Ok(())
 }
 
 fn place(alloc: Global, words: &[Word]) -> Result<Place, Fault> {
     match words.split_first() {
         None => Ok(Place {
             module: None,
-            path: path(alloc, &[])?,
+            path: Path::new(alloc),
         }),
-        Some((module, steps)) => Ok(Place {
-            module: Some(Text::from_str(alloc, text_of(module)?)?),
-            path: path(alloc, steps)?,
-        }),
+        Some((module, steps)) => {
+            let path = path(alloc, steps)?;
+            let module = Text::from_str(alloc, text_of(module)?)?;
+            Ok(Place {
+                module: Some(module),
+                path,
+            })
+        }
     }
 }
 
@@ -164,6 +177,12 @@ fn push_place(out: &mut Text, place: &Place) -> Result<(), Memory> {
             push_path(out, &place.path)
         }
     }
+}
+
+fn push_said(alloc: Global, out: &mut Text, error: &str) -> Result<(), Fault> {
+    let said = said(alloc, error)?;
+    push_quoted(out, said.as_str())?;
+    Ok(())
 }
 
 // The text of an error.

@@ -8,9 +8,10 @@
 
 ghost use Rattle.std.specs.Prelude.{◌≤◌};
 
-use crate::fault::Fault;
-use crate::show::{part, push_bytes, push_number, push_part};
-use crate::words::{Word, behind, number_at, number_of, text_at, text_of};
+use cases::{
+    Fault, Word, behind, number_at, number_of, part, push_bytes, push_number, push_part, text_at,
+    text_of,
+};
 use std::alloc::Global;
 use xt_io::{
     LineFault, Lines, MemSink, MemSource, Sink, SkipFault, Source, SureSink, SureSource, write_all,
@@ -20,17 +21,8 @@ use xt_text::{Memory, Text};
 /// Answers the call, if it is one of these.
 pub fn answer(alloc: Global, out: &mut Text, call: &str, words: &[Word]) -> Result<bool, Fault> {
     match call {
-        "reader" => {
-            let mut from = source(alloc, behind(words, 1))?;
-            let lines = Lines::new(alloc, number_at(words, 0)?)?;
-            push_lines(out, lines, &mut from, behind(words, 4))?;
-            push_count(out, from.fault_count())?;
-        }
-        "sure-reader" => {
-            let mut from = SureSource::new(alloc, bytes_at(words, 1)?)?;
-            let lines = Lines::new(alloc, number_at(words, 0)?)?;
-            push_lines(out, lines, &mut from, behind(words, 2))?;
-        }
+        "reader" => push_reader(alloc, out, words)?,
+        "sure-reader" => push_sure_reader(alloc, out, words)?,
         "source" => push_reads(alloc, out, words)?,
         "sink" => push_written(alloc, out, words)?,
         "sure-sink" => push_told(alloc, out, words)?,
@@ -39,10 +31,25 @@ pub fn answer(alloc: Global, out: &mut Text, call: &str, words: &[Word]) -> Resu
     Ok(true)
 }
 
+fn push_reader(alloc: Global, out: &mut Text, words: &[Word]) -> Result<(), Fault> {
+    let limit = number_at(words, 0)?;
+    let mut from = source(alloc, behind(words, 1))?;
+    push_lines(alloc, out, limit, &mut from, behind(words, 4))?;
+    push_count(out, from.fault_count())?;
+    Ok(())
+}
+
+fn push_sure_reader(alloc: Global, out: &mut Text, words: &[Word]) -> Result<(), Fault> {
+    let limit = number_at(words, 0)?;
+    let mut from = SureSource::new(alloc, bytes_at(words, 1)?)?;
+    push_lines(alloc, out, limit, &mut from, behind(words, 2))
+}
+
 fn bytes_at(words: &[Word], index: usize) -> Result<&[u8], Fault> {
-    match words.get(index) {
-        None => Err(Fault::NoCase),
-        Some(word) => Ok(word.as_slice()),
+    if index < words.len() {
+        Ok(words[index].as_slice())
+    } else {
+        Err(Fault::NoCase)
     }
 }
 
@@ -53,20 +60,21 @@ fn numbers(alloc: Global, text: &str) -> Result<Vec<u64>, Fault> {
         return Ok(numbers);
     }
     for number in text.split(',') {
-        numbers.push(number_of(number)?)?;
+        let number = number_of(number)?;
+        numbers.push(number)?;
     }
     Ok(numbers)
 }
 
 // The source that the words MOST FAILS BYTES make.
 fn source(alloc: Global, words: &[Word]) -> Result<MemSource, Fault> {
-    let fails = numbers(alloc, text_at(words, 1)?)?;
-    let source = MemSource::new(alloc, bytes_at(words, 2)?, fails.as_slice())?;
     let most = number_at(words, 0)? as usize;
+    let bytes = bytes_at(words, 2)?;
+    let fails = numbers(alloc, text_at(words, 1)?)?;
     if most == 0 {
         return Err(Fault::NoCase);
     }
-    Ok(source.in_pieces(most))
+    Ok(MemSource::new(alloc, bytes, fails.as_slice())?.in_pieces(most))
 }
 
 fn push_count(out: &mut Text, faults: u64) -> Result<(), Memory> {
@@ -75,19 +83,30 @@ fn push_count(out: &mut Text, faults: u64) -> Result<(), Memory> {
 }
 
 fn push_lines<I: Source>(
+    alloc: Global,
     out: &mut Text,
-    mut lines: Lines,
+    limit: u64,
     from: &mut I,
     actions: &[Word],
 ) -> Result<(), Fault> {
+    let mut lines = Lines::new(alloc, limit)?;
     for action in actions {
-        match text_of(action)? {
-            "next" => push_next(out, &mut lines, from)?,
-            "skip" => push_skipped(out, &mut lines, from)?,
-            _ => return Err(Fault::NoCase),
-        }
+        push_action(out, &mut lines, from, action)?;
     }
     Ok(())
+}
+
+fn push_action<I: Source>(
+    out: &mut Text,
+    lines: &mut Lines,
+    from: &mut I,
+    action: &Word,
+) -> Result<(), Fault> {
+    match text_of(action)? {
+        "next" => Ok(push_next(out, lines, from)?),
+        "skip" => Ok(push_skipped(out, lines, from)?),
+        _ => Err(Fault::NoCase),
+    }
 }
 
 fn push_next<I: Source>(out: &mut Text, lines: &mut Lines, from: &mut I) -> Result<(), Memory> {
@@ -121,10 +140,15 @@ const MOST: usize = 64;
 fn push_reads(alloc: Global, out: &mut Text, words: &[Word]) -> Result<(), Fault> {
     let mut from = source(alloc, words)?;
     for size in behind(words, 3) {
-        let size = number_of(text_of(size)?)? as usize;
-        push_read(out, &mut from, size.min(MOST))?;
+        push_sized(out, &mut from, size)?;
     }
     push_count(out, from.fault_count())?;
+    Ok(())
+}
+
+fn push_sized(out: &mut Text, from: &mut MemSource, size: &Word) -> Result<(), Fault> {
+    let size = number_of(text_of(size)?)? as usize;
+    push_read(out, from, size.min(MOST))?;
     Ok(())
 }
 
@@ -142,29 +166,46 @@ fn push_read(out: &mut Text, from: &mut MemSource, size: usize) -> Result<(), Me
 }
 
 fn push_written(alloc: Global, out: &mut Text, words: &[Word]) -> Result<(), Fault> {
-    let fails = numbers(alloc, text_at(words, 1)?)?;
-    let room = number_at(words, 0)? as usize;
-    let mut sink = MemSink::new(alloc, room, fails.as_slice())?;
-    for piece in behind(words, 2) {
-        push_write(out, &mut sink, piece.as_slice())?;
-    }
-    part(out)?;
-    push_bytes(out, sink.written())?;
-    push_count(out, sink.fault_count())?;
+    let mut sink = sink(alloc, words)?;
+    push_writes(out, &mut sink, behind(words, 2))?;
+    push_taken(out, sink.written(), sink.fault_count())?;
     Ok(())
 }
 
+// The sink that the words ROOM FAILS make.
+fn sink(alloc: Global, words: &[Word]) -> Result<MemSink, Fault> {
+    let room = number_at(words, 0)? as usize;
+    let fails = numbers(alloc, text_at(words, 1)?)?;
+    Ok(MemSink::new(alloc, room, fails.as_slice())?)
+}
+
+fn push_taken(out: &mut Text, written: &[u8], faults: u64) -> Result<(), Memory> {
+    part(out)?;
+    push_bytes(out, written)?;
+    push_count(out, faults)
+}
+
 fn push_told(alloc: Global, out: &mut Text, words: &[Word]) -> Result<(), Fault> {
-    let mut sink = SureSink::new(alloc, number_at(words, 0)? as usize)?;
-    for piece in behind(words, 1) {
-        push_write(out, &mut sink, piece.as_slice())?;
-    }
-    match sink.written() {
-        None => push_part(out, "untold")?,
+    let room = number_at(words, 0)? as usize;
+    let mut sink = SureSink::new(alloc, room)?;
+    push_writes(out, &mut sink, behind(words, 1))?;
+    push_bytes_told(out, sink.written())?;
+    Ok(())
+}
+
+fn push_bytes_told(out: &mut Text, told: Option<&[u8]>) -> Result<(), Memory> {
+    match told {
+        None => push_part(out, "untold"),
         Some(bytes) => {
             part(out)?;
-            push_bytes(out, bytes)?;
+            push_bytes(out, bytes)
         }
+    }
+}
+
+fn push_writes<O: Sink>(out: &mut Text, sink: &mut O, pieces: &[Word]) -> Result<(), Memory> {
+    for piece in pieces {
+        push_write(out, sink, piece.as_slice())?;
     }
     Ok(())
 }

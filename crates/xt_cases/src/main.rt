@@ -1,40 +1,23 @@
-//! Cases as data: reads calls of the libraries from standard input, one a line, and prints what each
-//! answers, one line each. Empty lines and comments (`#`) are printed as they are, so input and output
-//! read side by side. What is wanted stands in the file `stdout`.
-//!
-//! A line is the name of a call and its arguments, words that are parted by spaces. A word that begins
-//! with `'` or `"` goes to the next such mark, any other to the next space. In a word `%` and two
-//! hexadecimal digits stand for that byte, and `%*N` alone says that the next word stands N times. Texts
-//! are printed in the same form, in `"`.
-//!
-//! `?` is printed where the line is no call, and `memory` for want of memory: no case wants either.
+//! Cases of documents: characters, names, lines, trees and what they are read from, in the form that the
+//! crate `cases` tells. The head of each file says what calls it answers.
 #![tactic(auto)]
 
 mod bodies;
 mod characters;
 mod codes;
-mod fault;
 mod files;
-mod instructions;
 mod names;
 mod nodes;
-mod numbers;
 mod parts;
 mod pyx;
 mod scopes;
-mod sheets;
-mod show;
 mod streams;
-mod syntax;
-mod texts;
-mod trees;
-mod words;
+mod wire;
 
-use fault::Fault;
+use cases::{Fault, Word, text_of, words_of};
 use std::alloc::Global;
 use std::io;
 use std::io::{BufRead, BufReader};
-use words::Word;
 use xt_text::{Memory, Text};
 
 fn main(rt: HostRuntime) -> io::Result<()> {
@@ -63,9 +46,9 @@ fn shown(alloc: Global, line: &str) -> Result<Text, Memory> {
 }
 
 fn answer(alloc: Global, out: &mut Text, line: &str) -> Result<(), Fault> {
-    let words = words::words(alloc, line)?;
+    let words = words_of(alloc, line)?;
     let (call, arguments) = words.as_slice().split_first().ok_or(Fault::NoCase)?;
-    let call = words::text_of(call)?;
+    let call = text_of(call)?;
     if is_answered(alloc, out, call, arguments)? {
         return Ok(());
     }
@@ -79,15 +62,12 @@ fn is_answered(alloc: Global, out: &mut Text, call: &str, words: &[Word]) -> Res
             || names::answer(alloc, out, call, words)?
             || scopes::answer(alloc, out, call, words)?
             || pyx::answer(alloc, out, call, words)?
-            || numbers::answer(alloc, out, call, words)?
             || codes::answer(alloc, out, call, words)?
-            || texts::answer(alloc, out, call, words)?
             || parts::answer(alloc, out, call, words)?
-            || trees::answer(alloc, out, call, words)?
             || bodies::answer(alloc, out, call, words)?
             || nodes::answer(alloc, out, call, words)?
             || streams::answer(alloc, out, call, words)?
             || files::answer(alloc, out, call, words)?
-            || sheets::answer(alloc, out, call, words)?,
+            || wire::answer(alloc, out, call, words)?,
     )
 }

@@ -1,9 +1,7 @@
 // Names: `ncname`, `qname`, `use`, `declares` and `reserved`, each of texts; `same-name URI LOCAL URI LOCAL`;
 // `barred PREFIX URI`, whether that may not be declared.
 
-use crate::fault::Fault;
-use crate::show::{part, push_part, push_quoted, push_yes};
-use crate::words::{Word, text_at, text_of};
+use cases::{Fault, Word, part, push_part, push_quoted, push_yes, text_at, text_of};
 use std::alloc::Global;
 use xt_names::{
     AttributeUse, Expanded, QName, is_barred, is_declaration, is_ncname, is_reserved_target, use_of,
@@ -71,11 +69,15 @@ fn push_use(out: &mut Text, text: &str) -> Result<(), Memory> {
 }
 
 fn are_same(alloc: Global, words: &[Word]) -> Result<bool, Fault> {
-    let name = expanded(alloc, text_at(words, 0)?, text_at(words, 1)?)?;
-    let other = expanded(alloc, text_at(words, 2)?, text_at(words, 3)?)?;
+    let (uri, local) = (text_at(words, 0)?, text_at(words, 1)?);
+    let (other_uri, other_local) = (text_at(words, 2)?, text_at(words, 3)?);
+    let name = expanded(alloc, uri, local)?;
+    let other = expanded(alloc, other_uri, other_local)?;
     Ok(name.same(&other))
 }
 
 fn expanded(alloc: Global, uri: &str, local: &str) -> Result<Expanded, Memory> {
-    Ok(Expanded::new(Text::from_str(alloc, uri)?, Text::from_str(alloc, local)?))
+    let uri = Text::from_str(alloc, uri)?;
+    let local = Text::from_str(alloc, local)?;
+    Ok(Expanded::new(uri, local))
 }

@@ -1,39 +1,137 @@
 // Nodes of a document, which is built of the lines before `:`. `nodes LINE..` lists all: the number with
 // the part, the place, the kind, the name, and the string-value; `at LINE.. : PATH..` gives the number of
 // the node at each path, `place-of LINE.. : NODE..` the path of each node, `has LINE.. : NODE..` tells whether it
-// is there. A node is written as its number, an attribute as `2@1`, a namespace node as `2#1`.
+// is there. `attributes-of LINE.. : NUMBER..` and `namespaces-of LINE.. : NUMBER..` list those of nodes, as
+// `2: x="1" 3:`. A node is written as its number, an attribute as `2@1`, a namespace node as `2#1`.
 
-use crate::bodies::document;
-use crate::fault::Fault;
 use crate::parts::push_path;
-use crate::show::{part, push_name, push_number, push_part, push_quoted, push_yes};
-use crate::words::{Word, halves, number_of, text_of};
+use cases::{
+    Fault, Word, document, halves, node, number_of, part, push_name, push_number, push_part,
+    push_quoted, push_reference, push_yes, text_of,
+};
 use std::alloc::Global;
 use std::rc::Rc;
 use xt_names::Expanded;
 use xt_text::{Memory, Path, Text};
 use xt_tree::{Doc, Kind, Node, NodeId, NodeRef, Part};
 
+// What is asked of a document.
+#[derive(Clone, Copy)]
+enum Question {
+    All,
+    At,
+    PlaceOf,
+    Has,
+    Attributes,
+    Namespaces,
+}
+
+fn question_of(call: &str) -> Option<Question> {
+    match call {
+        "nodes" => Some(Question::All),
+        "at" => Some(Question::At),
+        "place-of" => Some(Question::PlaceOf),
+        "has" => Some(Question::Has),
+        "attributes-of" => Some(Question::Attributes),
+        "namespaces-of" => Some(Question::Namespaces),
+        _ => None,
+    }
+}
+
 /// Answers the call, if it is one of these.
 pub fn answer(alloc: Global, out: &mut Text, call: &str, words: &[Word]) -> Result<bool, Fault> {
-    if !matches!(call, "nodes" | "at" | "place-of" | "has") {
-        return Ok(false);
-    }
-    let (body, asked) = halves(words);
-    let document = document(alloc, body)?;
-    if call == "nodes" {
-        push_all(alloc, out, &document)?;
-        return Ok(true);
-    }
-    for word in asked {
-        let text = text_of(word)?;
-        match call {
-            "at" => push_at(out, &document, &path(alloc, text)?)?,
-            "place-of" => push_place(alloc, out, &document, &node(text)?)?,
-            _ => push_yes(out, document.has(alloc, &node(text)?)?)?,
+    match question_of(call) {
+        None => Ok(false),
+        Some(question) => {
+            let (body, asked) = halves(words);
+            let document = document(alloc, body)?;
+            push_answer(alloc, out, &document, question, asked)?;
+            Ok(true)
         }
     }
-    Ok(true)
+}
+
+fn push_answer(
+    alloc: Global,
+    out: &mut Text,
+    document: &Doc,
+    question: Question,
+    asked: &[Word],
+) -> Result<(), Fault> {
+    match question {
+        Question::All => Ok(push_all(alloc, out, document)?),
+        _ => {
+            for word in asked {
+                push_one(alloc, out, document, question, text_of(word)?)?;
+            }
+            Ok(())
+        }
+    }
+}
+
+fn push_one(
+    alloc: Global,
+    out: &mut Text,
+    document: &Doc,
+    question: Question,
+    text: &str,
+) -> Result<(), Fault> {
+    match question {
+        Question::At => push_at(out, document, &path(alloc, text)?)?,
+        Question::PlaceOf => push_place(alloc, out, document, &node(text)?)?,
+        Question::Attributes => push_attributes(alloc, out, document, id(text)?)?,
+        Question::Namespaces => push_namespaces(alloc, out, document, id(text)?)?,
+        Question::Has | Question::All => {
+            let node = node(text)?;
+            push_yes(out, document.has(alloc, &node)?)?;
+        }
+    }
+    Ok(())
+}
+
+fn id(text: &str) -> Result<NodeId, Fault> {
+    let number = number_of(text)?;
+    Ok(NodeId { number })
+}
+
+fn push_attributes(
+    alloc: Global,
+    out: &mut Text,
+    document: &Doc,
+    id: NodeId,
+) -> Result<(), Memory> {
+    let attributes = document.attributes(alloc, id)?;
+    push_owner(out, id)?;
+    for attribute in &attributes {
+        push_pair(out, attribute.name.as_str(), attribute.value.as_str())?;
+    }
+    Ok(())
+}
+
+fn push_namespaces(
+    alloc: Global,
+    out: &mut Text,
+    document: &Doc,
+    id: NodeId,
+) -> Result<(), Memory> {
+    let namespaces = document.namespaces(alloc, id)?;
+    push_owner(out, id)?;
+    for namespace in &namespaces {
+        push_pair(out, namespace.prefix.as_str(), namespace.uri.as_str())?;
+    }
+    Ok(())
+}
+
+fn push_owner(out: &mut Text, id: NodeId) -> Result<(), Memory> {
+    part(out)?;
+    push_number(out, id.number)?;
+    out.push(':')
+}
+
+fn push_pair(out: &mut Text, name: &str, value: &str) -> Result<(), Memory> {
+    push_part(out, name)?;
+    out.push('=')?;
+    push_quoted(out, value)
 }
 
 // The path that a text like `/1/2` writes.
@@ -41,28 +139,11 @@ fn path(alloc: Global, text: &str) -> Result<Path, Fault> {
     let mut path = Path::new(alloc);
     for step in text.split('/') {
         if !step.is_empty() {
-            path.push(number_of(step)?)?;
+            let position = number_of(step)?;
+            path.push(position)?;
         }
     }
     Ok(path)
-}
-
-// The node that a text like `2`, `2@1` or `2#1` names.
-fn node(text: &str) -> Result<NodeRef, Fault> {
-    if let Some((number, attribute)) = text.split_once('@') {
-        return reference(number, Part::Attribute(number_of(attribute)?));
-    }
-    if let Some((number, namespace)) = text.split_once('#') {
-        return reference(number, Part::Namespace(number_of(namespace)?));
-    }
-    reference(text, Part::Itself)
-}
-
-fn reference(number: &str, part: Part) -> Result<NodeRef, Fault> {
-    let node = NodeId {
-        number: number_of(number)?,
-    };
-    Ok(NodeRef { node, part })
 }
 
 fn push_at(out: &mut Text, document: &Doc, path: &Path) -> Result<(), Memory> {
@@ -135,12 +216,20 @@ fn push_node(alloc: Global, out: &mut Text, document: &Doc, node: &NodeRef) -> R
     push_reference(out, node)?;
     push_place(alloc, out, document, node)?;
     push_part(out, word_of(document.kind(node)))?;
-    match document.name(alloc, node)? {
-        None => push_part(out, "-")?,
-        Some(name) => push_expanded(out, &name)?,
-    }
+    push_found(out, document.name(alloc, node)?)?;
     part(out)?;
-    push_quoted(out, document.string_value(alloc, node)?.as_str())
+    push_text(out, document.string_value(alloc, node)?)
+}
+
+fn push_found(out: &mut Text, name: Option<Expanded>) -> Result<(), Memory> {
+    match name {
+        None => push_part(out, "-"),
+        Some(name) => push_expanded(out, &name),
+    }
+}
+
+fn push_text(out: &mut Text, text: Text) -> Result<(), Memory> {
+    push_quoted(out, text.as_str())
 }
 
 fn push_expanded(out: &mut Text, name: &Expanded) -> Result<(), Memory> {
@@ -149,21 +238,6 @@ fn push_expanded(out: &mut Text, name: &Expanded) -> Result<(), Memory> {
     }
     part(out)?;
     push_name(out, name)
-}
-
-fn push_reference(out: &mut Text, node: &NodeRef) -> Result<(), Memory> {
-    push_number(out, node.node.number)?;
-    match node.part {
-        Part::Itself => Ok(()),
-        Part::Attribute(number) => {
-            out.push('@')?;
-            push_number(out, number)
-        }
-        Part::Namespace(number) => {
-            out.push('#')?;
-            push_number(out, number)
-        }
-    }
 }
 
 fn word_of(kind: Kind) -> &'static str {

@@ -2,28 +2,17 @@
 // for that event, `write EVENT TEXT TEXT` the line of an event, whose second text an attribute and an
 // instruction have. `escape TEXT` gives a text as it is written.
 
-use crate::fault::Fault;
-use crate::show::{part, push_part, push_quoted};
-use crate::words::{Word, text_at};
+use cases::{Fault, Word, part, push_part, push_quoted, text_at};
 use std::alloc::Global;
 use xt_pyx::{BadLine, Event, push_escaped, read_event, write_event};
 use xt_text::{Memory, Text};
-
-impl From<BadLine> for Fault {
-    fn from(bad: BadLine) -> Self {
-        match bad {
-            BadLine::Memory => Fault::Memory,
-            BadLine::Bad => Fault::NoCase,
-        }
-    }
-}
 
 /// Answers the call, if it is one of these.
 pub fn answer(alloc: Global, out: &mut Text, call: &str, words: &[Word]) -> Result<bool, Fault> {
     match call {
         "read" => push_read(alloc, out, text_at(words, 0)?)?,
         "rewrite" => {
-            let event = read_event(alloc, text_at(words, 0)?)?;
+            let event = read_event(alloc, text_at(words, 0)?).map_err(|bad| fault_of(bad))?;
             push_line(alloc, out, &event)?;
         }
         "write" => push_line(alloc, out, &event(alloc, words)?)?,
@@ -35,6 +24,13 @@ pub fn answer(alloc: Global, out: &mut Text, call: &str, words: &[Word]) -> Resu
         _ => return Ok(false),
     }
     Ok(true)
+}
+
+fn fault_of(bad: BadLine) -> Fault {
+    match bad {
+        BadLine::Memory => Fault::Memory,
+        BadLine::Bad => Fault::NoCase,
+    }
 }
 
 fn push_line(alloc: Global, out: &mut Text, event: &Event) -> Result<(), Memory> {

@@ -4,9 +4,7 @@
 // bound; `same-scope` compares two scopes. `element-names`, `attribute-names` and `namespaces` take attributes, as `xmlns:p=URI`; so does
 // `doubles`, which tells of each name whether the ones before it are those of an attribute like it.
 
-use crate::fault::Fault;
-use crate::show::{part, push_name, push_part, push_quoted, push_yes};
-use crate::words::{Word, halves, text_of};
+use cases::{Fault, Word, halves, part, push_name, push_part, push_quoted, push_yes, text_of};
 use std::alloc::Global;
 use xt_names::{AttributeNames, Expanded, QName, Scope};
 use xt_text::{Memory, Text};
@@ -43,15 +41,22 @@ fn make_scopes(alloc: Global, words: &[Word]) -> Result<Nested, Fault> {
         outer: Scope::root(alloc)?,
     };
     for word in words {
-        let text = text_of(word)?;
-        if text == "/" {
-            scopes.outer = scopes.inner.copy()?;
-        } else {
-            let (prefix, uri) = equation(text)?;
-            scopes.inner.bind(alloc, prefix, uri)?;
-        }
+        scopes.take(alloc, word)?;
     }
     Ok(scopes)
+}
+
+impl Nested {
+    fn take(&mut self, alloc: Global, word: &Word) -> Result<(), Fault> {
+        let text = text_of(word)?;
+        if text == "/" {
+            self.outer = self.inner.copy()?;
+        } else {
+            let (prefix, uri) = equation(text)?;
+            self.inner.bind(alloc, prefix, uri)?;
+        }
+        Ok(())
+    }
 }
 
 /// The scope that these attributes make.
@@ -125,14 +130,32 @@ fn push_found(out: &mut Text, name: &Option<Expanded>) -> Result<(), Memory> {
 fn push_doubles(alloc: Global, out: &mut Text, scope: &Scope, names: &[Word]) -> Result<(), Fault> {
     let mut before = AttributeNames::new(alloc);
     for name in names {
-        let written = text_of(name)?;
-        let expanded = match QName::read(written) {
-            None => None,
-            Some(name) => scope.attribute_name(alloc, &name)?,
-        };
-        push_yes(out, before.insert(alloc, written, expanded.as_ref())?)?;
+        let is_double = insert(alloc, &mut before, scope, text_of(name)?)?;
+        push_yes(out, is_double)?;
     }
     Ok(())
+}
+
+// Adds the name of an attribute, and tells whether it was there.
+fn insert(
+    alloc: Global,
+    names: &mut AttributeNames,
+    scope: &Scope,
+    written: &str,
+) -> Result<bool, Memory> {
+    let expanded = found_attribute(alloc, scope, written)?;
+    names.insert(alloc, written, expanded.as_ref())
+}
+
+fn found_attribute(
+    alloc: Global,
+    scope: &Scope,
+    written: &str,
+) -> Result<Option<Expanded>, Memory> {
+    match QName::read(written) {
+        None => Ok(None),
+        Some(name) => scope.attribute_name(alloc, &name),
+    }
 }
 
 fn push_namespaces(alloc: Global, out: &mut Text, scope: &Scope) -> Result<(), Memory> {

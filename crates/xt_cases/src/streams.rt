@@ -8,9 +8,7 @@ ghost use Rattle.std.specs.Prelude.{◌≡◌, IfOk};
 ghost use Rattle.spec_meaning.specs.Stream.{holes};
 ghost use Rattle.xt_tree.specs.StreamView.{single_of, stream_of};
 
-use crate::fault::Fault;
-use crate::show::{part, push_part, push_quoted, push_yes};
-use crate::words::{Word, text_at};
+use cases::{Fault, Word, part, push_part, push_quoted, push_yes, text_at};
 use std::alloc::Global;
 use std::rc::Rc;
 use xt_text::{Memory, Text};
@@ -29,7 +27,7 @@ pub fn answer(alloc: Global, out: &mut Text, call: &str, words: &[Word]) -> Resu
         }
         "hole" => {
             let kind = text_at(words, 0)?;
-            push_yes(out, one(alloc, kind)?.has_hole())?;
+            push_yes(out, stream(alloc, kind)?.has_hole())?;
             push_yes(out, filled_one(alloc, kind, "x")?.has_hole())?;
         }
         _ => return Ok(false),
@@ -40,32 +38,37 @@ pub fn answer(alloc: Global, out: &mut Text, call: &str, words: &[Word]) -> Resu
 // A stream of one text.
 fn text_alone(alloc: Global, text: &str) -> Result<Rc<Items>, Memory> {
     let mut items = Items::new(alloc);
-    items.push(Item::Text(Text::from_str(alloc, text)?))?;
+    let text = Text::from_str(alloc, text)?;
+    items.push(Item::Text(text))?;
     Ok(Rc::new(alloc, items)?)
 }
 
 fn filled_one(alloc: Global, kind: &str, text: &str) -> Result<Rc<Items>, Memory> {
+    let text = text_alone(alloc, text)?;
     let mut parts = Vec::new(alloc);
-    parts.push(text_alone(alloc, text)?)?;
-    one(alloc, kind)?.fill(alloc, parts.as_slice())
+    parts.push(text)?;
+    stream(alloc, kind)?.fill(alloc, parts.as_slice())
 }
 
 fn filled_two(alloc: Global, first: &str, second: &str) -> Result<Rc<Items>, Memory> {
+    let first = text_alone(alloc, first)?;
+    let second = text_alone(alloc, second)?;
     let mut parts = Vec::new(alloc);
-    parts.push(text_alone(alloc, first)?)?;
-    parts.push(text_alone(alloc, second)?)?;
+    parts.push(first)?;
+    parts.push(second)?;
     two(alloc)?.fill(alloc, parts.as_slice())
 }
 
 // A stream of one item of this kind, with a hole in it.
-fn one(alloc: Global, kind: &str) -> Result<Items, Memory>
+fn stream(alloc: Global, kind: &str) -> Result<Items, Memory>
     ensures { IfOk result (λ items. holes (stream_of items) ≡ 1) }
 {
     let mut inner = Items::new(alloc);
     inner.push(Item::Hole)?;
     let content = Rc::new(alloc, inner)?;
     let mut items = Items::new(alloc);
-    items.push(around(alloc, kind, content)?)?;
+    let item = around(alloc, kind, content)?;
+    items.push(item)?;
     Ok(items)
 }
 

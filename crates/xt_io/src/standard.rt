@@ -7,9 +7,6 @@ use crate::source::Source;
 use std::io::{Read, Write};
 use std::marker::Model;
 
-#[cfg(test)]
-mod tests;
-
 /// A reader of std as a source, which counts how often a read failed. It tells nothing of the
 /// bytes.
 #[derive(Drop)]

@@ -16,19 +16,19 @@ ghost use Rattle.spec_session.specs.Machine as machine;
 ghost use Rattle.spec_session.specs.Reply as written;
 ghost use Rattle.xt_tree.specs.View.{content_of, forest_of, tree_of, written_of};
 ghost use Rattle.xt_wire.specs.View.{refusal_of, reply_of};
-ghost use Rattle.spec_expression.specs.Code.{static_number};
+ghost use Rattle.spec_expression.specs.declared.code.Code.TheVariants as codes;
 ghost use Rattle.xt_session.specs.Documents.{plain_in, plain_of};
 ghost use Rattle.xt_session.specs.Taken.{element_by, is_counted, is_element, is_selected, outcome_in, stylesheet_in, tree_in};
 
 use std::alloc::Global;
 use std::rc::Rc;
-use xt_base::{Place, StaticCode};
+use xt_base::{Code, Place, StaticCode};
 use xt_build::lines;
 use xt_names::{Expanded, QName, Scope, XSLT_URI, is_ncname};
 use xt_pyx::{write_data, write_end, write_start};
 use xt_text::{Memory, Path, Text, is_space};
 use xt_tree::{Content, Doc, Node, Written, push_texts};
-use xt_wire::{Code, Refusal, Reply};
+use xt_wire::{Refusal, Reply};
 
 // An element with what is below it.
 #[derive(Clone, Copy)]
@@ -109,7 +109,7 @@ fn outcome_by<'a>(
 }
 
 fn at_no_node(alloc: Global, code: StaticCode) -> Refusal
-    ensures { refusal_of result ≡ record { code = written.Static (static_number code); place = None } }
+    ensures { refusal_of result ≡ record { code = codes.Static code; place = None } }
 {
     Refusal {
         code: Code::Static(code),

@@ -12,26 +12,26 @@ use Rattle.spec_document.specs.Place.{Found, found_in, TreeNode, child_at, node_
 use Rattle.xt_tree.specs.Numbers.{are_distinct, IsNumbered}
 use Rattle.xt_tree.specs.View.{numbered_node, itself, item_of, IsWayTo}
 
-abbrev is_among : ℕ → List ℕ → Bool
+abbrev pub is_among : ℕ → List ℕ → Bool
 is_among n ns = list_any (λ m. m == n) ns
 
-or_left : (a b : Bool) → a ≡ true → (a || b) ≡ true
+pub or_left : (a b : Bool) → a ≡ true → (a || b) ≡ true
 or_left true b h = refl
 or_left false b h = absurd (cc)
 
-or_right : (a b : Bool) → b ≡ true → (a || b) ≡ true
+pub or_right : (a b : Bool) → b ≡ true → (a || b) ≡ true
 or_right true b h = refl
 or_right false b h = h
 
-or_neither : (a b : Bool) → (a || b) ≡ false → (a ≡ false) × (b ≡ false)
+pub or_neither : (a b : Bool) → (a || b) ≡ false → (a ≡ false) × (b ≡ false)
 or_neither true b h = absurd (cc)
 or_neither false b h = (refl, h)
 
-not_false : (a : Bool) → not a ≡ true → a ≡ false
+pub not_false : (a : Bool) → not a ≡ true → a ≡ false
 not_false true h = absurd (cc)
 not_false false h = refl
 
-apart : (b : Bool) → b ≡ true → b ≡ false → ⊥
+pub apart : (b : Bool) → b ≡ true → b ≡ false → ⊥
 apart true h k = cc
 apart false h k = cc
 
@@ -46,7 +46,7 @@ not_found n (spec.Node l c f g) above h =
     ∙ ap (λ o. option_or o (first_in (λ l. l == n) above g)) (not_found n f (c ∷ above) both.0) ∙ not_found n g above both.1
 
 -- of two lists together that are distinct, each is, and what is in the second is not in the first
-distinct_parts : (xs ys : List ℕ) → are_distinct (xs ++ ys) ≡ true → (are_distinct xs ≡ true) × (are_distinct ys ≡ true)
+pub distinct_parts : (xs ys : List ℕ) → are_distinct (xs ++ ys) ≡ true → (are_distinct xs ≡ true) × (are_distinct ys ≡ true)
 distinct_parts [] ys h = (refl, h)
 distinct_parts (x ∷ xs) ys h =
     let parts = and_parts (not (is_among x (xs ++ ys))) (are_distinct (xs ++ ys)) h in
@@ -54,7 +54,7 @@ distinct_parts (x ∷ xs) ys h =
     let own = or_neither (is_among x xs) (is_among x ys) (sym (list_any-append (λ m. m == x) xs ys) ∙ not_false _ parts.0) in
     (ap (λ b. not b && are_distinct xs) own.0 ∙ more.0, more.1)
 
-not_before : (xs ys : List ℕ) (n : ℕ) → are_distinct (xs ++ ys) ≡ true → is_among n ys ≡ true → is_among n xs ≡ false
+pub not_before : (xs ys : List ℕ) (n : ℕ) → are_distinct (xs ++ ys) ≡ true → is_among n ys ≡ true → is_among n xs ≡ false
 not_before [] ys n h k = refl
 not_before (x ∷ xs) ys n h k =
     let parts = and_parts (not (is_among x (xs ++ ys))) (are_distinct (xs ++ ys)) h in
@@ -64,14 +64,14 @@ not_before (x ∷ xs) ys n h k =
       | false ↦ λ _. not_before xs ys n parts.1 k
     ] refl
 
-head_apart : (l n : ℕ) (rest : List ℕ) → is_among l rest ≡ false → is_among n rest ≡ true → (l == n) ≡ false
+pub head_apart : (l n : ℕ) (rest : List ℕ) → is_among l rest ≡ false → is_among n rest ≡ true → (l == n) ≡ false
 head_apart l n rest h k =
     elim (l == n) as (λ b. (l == n) ≡ b → b ≡ false) [
       | true ↦ λ e. absurd (apart (is_among n rest) k (ap (λ m. is_among m rest) (sym (eqb-true l n e)) ∙ h))
       | false ↦ λ _. refl
     ] refl
 
-some_same : {A : Type 0} (x y : A) → Some x ≡ Some y → x ≡ y
+pub some_same : {A : Type 0} (x y : A) → Some x ≡ Some y → x ≡ y
 some_same x y e = ap (λ o. elim o [ Some z ↦ z | None ↦ x ]) e
 
 pub record IsFirst (f : spec.Forest ℕ) (above : List spec.Content) (x : Found ℕ) : Type 0 where
@@ -205,7 +205,7 @@ not_behind l c f g above q ps qs x h d e =
     let behind = (found_first g above q qs x parts.1 e).among in
     apart (is_among x.label (l ∷ spec.labels f)) (among_from l c f above ps x own.1 d) (not_before (l ∷ spec.labels f) (spec.labels g) x.label h behind)
 
-none_some : {A : Type 0} (x : A) → None ≡ Some x → ⊥
+pub none_some : {A : Type 0} (x : A) → None ≡ Some x → ⊥
 none_some x e = cc
 
 true_false : true ≡ false → ⊥

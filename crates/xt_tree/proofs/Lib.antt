@@ -1,5 +1,12 @@
+pub mod Bools
+pub mod Apart
+pub mod Given
 pub mod Views
 pub mod Ways
 pub mod Distinct
+pub mod Forks
+pub mod Fresh
+pub mod Named
 pub mod Ordered
+pub mod Site
 pub mod Streams

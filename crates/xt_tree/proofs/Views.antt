@@ -1,32 +1,25 @@
 -- A tree, level by level.
-use Rattle.std.proofs.Common.{◌≡◌, ℕ, ◌-◌, ◌<◌, ◌≤◌, ◌≢◌, suc, sym, eq-eqb, length, get_or, arith, true, false, cond, List, []}
-use Rattle.std.proofs.Common.{◌∷◌, ◌++◌, ◌==◌, Option, Some, None, is_some, ◌∙◌, refl, ap}
+use Rattle.std.proofs.Common.{◌≡◌, ℕ, zero, ◌-◌, ◌<◌, ◌≤◌, ◌≢◌, suc, sym, eq-eqb, length, get_or, arith, true, false, cond, List, []}
+use Rattle.std.proofs.Common.{◌∷◌, ◌++◌, ◌==◌, Some, None, ◌∙◌, refl, ap}
 use Rattle.std.proofs.lemmas.Simd.{map-map}
-use Rattle.std.specs.Option.{option_or, option_map}
 use Rattle.std.proofs.lemmas.Bool.{eqb-true}
 use Rattle.std.specs.declared.rc.Rc.{Rc}
 use Rattle.std.specs.declared.alloc.Global.{Global}
 use Rattle.spec_document.specs.Forest as spec
 use Rattle.xt_tree.specs.declared.node.Node.{Node, out-Node, fold_out-Node}
-use Rattle.xt_tree.specs.View.{Tree, tree_of, content_of, forest, forest_of, first_tree, tree_at, node_step}
+use Rattle.xt_tree.specs.Keys.{keys_of}
+use Rattle.xt_tree.specs.View.{Tree, tree_of, content_of, forest_of, tree_at, node_step}
 
 pub view-Node : (n : Node)
     → tree_of n ≡ record { number = (out-Node n).id.number; content = content_of (out-Node n).content; children = forest_of (out-Node n).children.items }
 view-Node n = fold_out-Node Tree node_step n ∙ rw map-map refl
 
--- the first in document order, where it is not the first sibling itself
-pub first_later : (number : ℕ) (n : Node) (more : List Tree) → ((out-Node n).id.number == number) ≡ false
-    → first_tree number (forest (tree_of n ∷ more))
-    ≡ option_or (first_tree number (forest_of (out-Node n).children.items)) (first_tree number (forest more))
-first_later number n more h = rw (view-Node n, h) refl
-
-pub or_some : {A B : Type 0} (f : A → B) (o : Option A) (rest : Option B) → is_some o ≡ true → option_or (option_map f o) rest ≡ option_map f o
-or_some f (Some x) rest h = refl
-or_some f None rest h = absurd (cc)
-
-pub or_none : {A B : Type 0} (f : A → B) (o : Option A) (rest : Option B) → is_some o ≡ false → option_or (option_map f o) rest ≡ rest
-or_none f None rest h = refl
-or_none f (Some x) rest h = absurd (cc)
+-- the key of a sibling
+pub key-at : (key : ℕ → ℕ) (xs : List (Rc Node Global)) (k : ℕ) (d : Rc Node Global) → k < length xs
+    → get_or (keys_of key xs) k 0 ≡ key (tree_of (get_or xs k d).value).number
+key-at key [] k d h = absurd (omega arith)
+key-at key (x ∷ xs) zero d h = refl
+key-at key (x ∷ xs) (suc k) d h = key-at key xs k d (omega arith)
 
 true_false : true ≡ false → ⊥
 true_false e = cc

@@ -1,8 +1,6 @@
 -- Ways through a forest, and the nodes that they lead to.
 use Rattle.std.proofs.Common.{◌≡◌, ◌≢◌, ◌≤◌, subst, ℕ, ◌+◌, ◌-◌, true, false, cond, List, [], ◌∷◌, ◌++◌, ◌==◌}
-use Rattle.std.proofs.Common.{Option, Some, None, is_some, refl, sym, ap, ◌∙◌, arith, append_assoc, length, length-append, take}
-use Rattle.std.proofs.Math.Seq.{take-append_seam}
-use Rattle.std.specs.Prelude.{MatchOption}
+use Rattle.std.proofs.Common.{Option, Some, None, is_some, refl, sym, ap, ◌∙◌, arith}
 use Rattle.std.proofs.lemmas.Bool.{eqb-true}
 use Rattle.std.specs.Option.{option_map, option_and_then, option_or}
 use Rattle.spec_document.specs.Forest as spec
@@ -11,7 +9,7 @@ use Rattle.spec_document.specs.declared.kind.Kind.TheVariants as kind
 use Rattle.spec_document.specs.Declaration.{within, namespaces_in, scope_of as scope_in}
 use Rattle.spec_document.specs.Place.{kind_by, namespaces_by, scope_at, Found, found_in, child_at, node_from, node_at, root_of, first_in}
 use Rattle.xt_tree.specs.declared.node.Node.{Node, out-Node}
-use Rattle.xt_tree.specs.View.{scope_from, content_of, Tree, tree_of, forest, forest_of, tree_at, number_from, way_to, gone_on, first_tree, itself}
+use Rattle.xt_tree.specs.View.{scope_from, content_of, Tree, tree_of, forest_of, tree_at, number_from, way_to, first_tree, itself}
 use Rattle.xt_tree.specs.View.{numbered_node, IsWayTo}
 use Rattle.xt_tree.proofs.Views.{view-Node}
 
@@ -41,48 +39,14 @@ label-node_from (p ∷ ps) node =
     ap (λ o. option_map (λ n. n.label) (option_and_then (node_from ps) o)) (child_at-tree_at node.above node.children p)
     ∙ label_below ps node.above (tree_at node.children p) (λ n. label-node_from ps n)
 
--- ---- What `lead` keeps
+-- a way that is gone on with from nothing
+pub from_nothing : (way : Option (List ℕ)) (path : List ℕ) → option_map (λ w. [] ++ w) way ≡ Some path → way ≡ Some path
+from_nothing None path e = e
+from_nothing (Some w) path e = e
 
--- the way, where it does not end at the first sibling itself
-pub way_later : (number position : ℕ) (n : Node) (more : List Tree) → ((out-Node n).id.number == number) ≡ false
-    → way_to number position (forest (tree_of n ∷ more))
-    ≡ option_or (option_map (λ way. position ∷ way) (way_to number 1 (forest_of (out-Node n).children.items)))
-    (way_to number (position + 1) (forest more))
-way_later number position n more h = rw (view-Node n, h) refl
-
-pub some_first : (position : ℕ) (way rest : Option (List ℕ)) → is_some way ≡ true
-    → is_some (option_or (option_map (λ way. position ∷ way) way) rest) ≡ true
-some_first position (Some way) rest h = refl
-some_first position None rest h = absurd (cc)
-
-pub path_first : (path : List ℕ) (position : ℕ) (way rest : Option (List ℕ)) → is_some way ≡ true
-    → gone_on (path ++ position ∷ []) way ≡ gone_on path (option_or (option_map (λ way. position ∷ way) way) rest)
-path_first path position (Some way) rest h = append_assoc path (position ∷ []) way
-path_first path position None rest h = absurd (cc)
-
-pub not_first : (position : ℕ) (way rest : Option (List ℕ)) → is_some way ≡ false
-    → option_or (option_map (λ way. position ∷ way) way) rest ≡ rest
-not_first position None rest h = refl
-not_first position (Some way) rest h = absurd (cc)
-
-pub as_before : (path : List ℕ) (way : Option (List ℕ)) → is_some way ≡ false → gone_on path way ≡ path
-as_before path None h = refl
-as_before path (Some way) h = absurd (cc)
-
--- one position less
-pub popped : (r : Option ℕ) (before after path : List ℕ) (n : ℕ)
-    → MatchOption r ((before ≡ []) × (after ≡ [])) (λ position. before ≡ after ++ position ∷ [])
-    → before ≡ path ++ n ∷ [] → after ≡ path
-popped None before after path n h e = absurd (not_empty path (sym e ∙ h.0))
-  where
-    not_empty : (path : List ℕ) → path ++ n ∷ [] ≡ [] → ⊥
-    not_empty [] e = cc
-    not_empty (x ∷ xs) e = cc
-popped (Some p) before after path n h e =
-    let same : after ++ p ∷ [] ≡ path ++ n ∷ [] = sym h ∙ e in
-    let long : length after ≡ length path = omega (arith, ap length same, length-append after (p ∷ []), length-append path (n ∷ [])) in
-    sym (take-append_seam after (p ∷ [])) ∙ ap (take (length after)) same ∙ ap (λ k. take k (path ++ n ∷ [])) long
-    ∙ take-append_seam path (n ∷ [])
+pub nothing_on : (way : Option (List ℕ)) → option_map (λ w. [] ++ w) way ≡ None → way ≡ None
+nothing_on None e = e
+nothing_on (Some w) e = e
 
 -- one step down
 pub number_down : (p : ℕ) (ps : List ℕ) (number : ℕ) (f : spec.Forest ℕ) (n : Node) → tree_at f p ≡ Some (tree_of n)
@@ -185,26 +149,14 @@ not_root : (document : spec.Document ℕ) (number : ℕ) → (document.root == n
     → numbered_node document number ≡ first_in (λ l. l == number) [] document.nodes
 not_root document number h = ap (λ b. cond b (Some (root_of document)) (first_in (λ l. l == number) [] document.nodes)) h
 
-way_is : (document : spec.Document ℕ) (number : ℕ) (way : Option (List ℕ)) → (document.root == number) ≡ false → is_some way ≡ true
-    → LeadsFromRoot document number way
-    → IsWayTo document number (Some (gone_on [] way))
-way_is document number None h s w = absurd (cc)
-way_is document number (Some way) h s w = (w.0 ∙ sym (not_root document number h), λ e. w.1 (sym (not_root document number h) ∙ e))
-
-no_way_is : (document : spec.Document ℕ) (number : ℕ) (way : Option (List ℕ)) → (document.root == number) ≡ false → is_some way ≡ false
-    → LeadsFromRoot document number way
-    → numbered_node document number ≡ None
-no_way_is document number None h s w = not_root document number h ∙ w
-no_way_is document number (Some way) h s w = absurd (cc)
-
-pub place_is : (document : spec.Document ℕ) (number : ℕ) → (document.root == number) ≡ false → is_some (way_to number 1 document.nodes) ≡ true
-    → IsWayTo document number (Some (gone_on [] (way_to number 1 document.nodes)))
-place_is document number h s = way_is document number (way_to number 1 document.nodes) h s (way_from_root document number)
-
-pub no_place_is : (document : spec.Document ℕ) (number : ℕ) → (document.root == number) ≡ false
-    → is_some (way_to number 1 document.nodes) ≡ false
-    → numbered_node document number ≡ None
-no_place_is document number h s = no_way_is document number (way_to number 1 document.nodes) h s (way_from_root document number)
+-- the way that is found leads there, and without one there is no such node
+pub way_is : (document : spec.Document ℕ) (number : ℕ) (way : Option (List ℕ)) → (document.root == number) ≡ false
+    → way_to number 1 document.nodes ≡ way → IsWayTo document number way
+way_is document number None h e =
+    not_root document number h ∙ subst (LeadsFromRoot document number) e (way_from_root document number)
+way_is document number (Some way) h e =
+    let w = subst (LeadsFromRoot document number) e (way_from_root document number) in
+    (w.0 ∙ sym (not_root document number h), λ d. w.1 (sym (not_root document number h) ∙ d))
 
 -- ---- The first tree of a number, and the node that it is
 

@@ -1,5 +1,9 @@
 pub mod Code
+pub mod Kept
+pub mod Keys
+pub mod Lookup
 pub mod Numbers
+pub mod Step
 pub mod StreamView
 pub mod StreamCode
 pub mod ValueView

@@ -1,10 +1,13 @@
 -- The numbers of a document's nodes, and their depth.
-use Rattle.std.specs.Prelude.{ℕ, ◌+◌, ◌≤◌, Bool, true, not, ◌&&◌, nat_lt, List, [], ◌∷◌, IsTrue}
+use Rattle.std.specs.Prelude.{ℕ, ◌+◌, ◌≤◌, ◌<◌, Bool, true, not, ◌&&◌, nat_lt, List, [], ◌∷◌, Option, IsTrue}
 use Rattle.std.specs.List.{list_all, list_any}
 use Rattle.std.specs.Prelude.{◌==◌}
 use Rattle.spec_document.specs.Forest.{Document, labels, height}
 use Rattle.spec_document.specs.NodeFaults.{greatest_depth}
 use Rattle.spec_document.specs.Numbering.{number_limit}
+use Rattle.spec_document.specs.Name.{Expanded}
+use Rattle.xt_tree.specs.Kept.{AreNames}
+use Rattle.xt_tree.specs.Keys.{Rises, last_key, key_limit}
 
 -- none stands twice
 abbrev pub are_distinct : List ℕ → Bool
@@ -18,7 +21,11 @@ are_numbers ns = are_distinct ns && list_all (λ n. nat_lt n number_limit) ns
 abbrev pub IsNumbered : Document ℕ → Type 0
 IsNumbered document = IsTrue (are_numbers (document.root ∷ labels document.nodes))
 
--- the numbers of a document's nodes are so, and its elements stand at depths of at most 256, with other nodes below the deepest
-pub record IsDocument (document : Document ℕ) : Type 0 where
+-- the numbers of a document's nodes are so, and its elements stand at depths of at most 256, with other nodes below the deepest; nodes are
+-- found by keys of their numbers, which rise in document order; names that are kept are theirs
+pub record IsDocument (key : ℕ → ℕ) (kept : ℕ → Option (Option Expanded)) (document : Document ℕ) : Type 0 where
   pub numbers : IsNumbered document
   pub depth : height document.nodes ≤ greatest_depth + 1
+  pub rises : Rises key 0 document.nodes
+  pub limit : last_key key 0 document.nodes < key_limit
+  pub names : AreNames kept document

@@ -1,5 +1,5 @@
 -- The trees that shared nodes stand for.
-use Rattle.std.specs.Prelude.{ℕ, ◌≡◌, ◌≢◌, ◌+◌, ◌-◌, List, [], ◌∷◌, ◌++◌, map, Option, None, Some, ◌==◌}
+use Rattle.std.specs.Prelude.{ℕ, ◌≡◌, ◌≢◌, ◌+◌, ◌-◌, List, [], ◌∷◌, map, Option, None, Some, ◌==◌}
 use Rattle.std.specs.Prelude.{if◌then◌else◌}
 use Rattle.std.specs.Option.{option_map, option_and_then, option_or}
 use Rattle.std.specs.declared.rc.Rc.{Rc}
@@ -72,11 +72,6 @@ way_to number position spec.Empty = None
 way_to number position (spec.Node label content children siblings) =
     if label == number then Some (position ∷ [])
     else option_or (option_map (λ way. position ∷ way) (way_to number 1 children)) (way_to number (position + 1) siblings)
-
--- a path, gone on with
-abbrev pub gone_on : List ℕ → Option (List ℕ) → List ℕ
-gone_on path None = path
-gone_on path (Some way) = path ++ way
 
 -- the tree at a position among siblings, from 1
 abbrev pub tree_at : spec.Forest ℕ → ℕ → Option Tree

@@ -1,28 +1,108 @@
 // Search among siblings and what is below them.
-ghost use Rattle.std.specs.Prelude.{◌≡◌, ◌++◌, is_some, Some, IfOk, OnOk};
+ghost use Rattle.std.specs.Prelude.{ℕ, ◌≡◌, ◌-◌, ◌<◌, ◌≤◌, ◌++◌, length, slice_index, slice_index_or, Some, None, IfOk, OnOk, MatchOption, false, if◌then◌else◌};
 ghost use Rattle.std.specs.Option.{option_map};
+ghost use Rattle.std.specs.declared.rc.Rc.{Rc};
+ghost use Rattle.std.specs.declared.alloc.Global.{Global};
 ghost use Rattle.spec_document.specs.Forest.{texts_in, text_of};
 ghost use Rattle.spec_document.specs.Place.{string_value_by};
-ghost use Rattle.xt_tree.specs.View.{forest_of, tree_of, content_of, first_tree, way_to, gone_on, tree_at};
+ghost use Rattle.xt_tree.specs.declared.node.Node.{Node};
+ghost use Rattle.xt_tree.specs.Keys.{Rises, key_by, keys_of, has_number};
+ghost use Rattle.xt_tree.specs.Step.{IsStep};
+ghost use Rattle.xt_tree.specs.View.{forest_of, tree_of, content_of, first_tree, way_to, tree_at};
 
+use crate::keys::key_of;
+use crate::table::Table;
 use crate::{Content, Node, NodeId};
 use std::rc::Rc;
 use xt_text::{Memory, Path, Text};
 
-/// The first node of this number in document order.
-pub fn find<'a>(siblings: &'a [Rc<Node>], id: NodeId) -> Option<&'a Node>
-    ensures { option_map (λ node. tree_of node.now) result ≡ first_tree id.number (forest_of siblings.now) }
+// A position among siblings, from 0: where their keys rise, how many have one that is no higher than this.
+fn reached(keys: &Table, siblings: &[Rc<Node>], key: u128) -> usize
+    ensures bound { result ≤ length siblings.now }
+    ensures before { 0 < result → slice_index (keys_of (key_by keys.now) siblings.now) (result - 1) ≤ key }
+    ensures behind { result < length siblings.now → key < slice_index (keys_of (key_by keys.now) siblings.now) result }
 {
-    for sibling in siblings {
-        if sibling.id == id {
-            return Some(sibling);
-        }
-        let found = find(sibling.children.as_slice(), id);
-        if found.is_some() {
-            return found;
+    let mut low = 0;
+    let mut high = siblings.len();
+    while low < high {
+        let middle = low + (high - low) / 2;
+        if key_of(keys, siblings[middle].id) <= key {
+            low = middle + 1;
+        } else {
+            high = middle;
         }
     }
-    None
+    low
+}
+
+// The sibling at this index, from 0.
+fn sibling<'a>(siblings: &'a [Rc<Node>], index: usize) -> &'a Node
+    requires { index < length siblings.now }
+    ensures { (other : Rc Node Global) → result.now ≡ (slice_index_or siblings.now index other).value }
+{
+    &siblings[index]
+}
+
+// The only sibling that has this number or stands above the node of this number, with its position from 1.
+// The key is that of the number.
+fn step<'a>(
+    keys: &Table,
+    siblings: &'a [Rc<Node>],
+    id: NodeId,
+    key: u128,
+) -> Option<(usize, &'a Node)>
+    requires rises { (low : ℕ) × Rises (key_by keys.now) low (forest_of siblings.now) }
+    requires key { key ≡ key_by keys.now id.number }
+    ensures { MatchOption result (has_number id.number (forest_of siblings.now) ≡ false) (λ r. IsStep (key_by keys.now) id.number siblings.now r.1.now r.0) }
+{
+    let count = reached(keys, siblings, key);
+    if count == 0 {
+        return None;
+    }
+    Some((count, sibling(siblings, count - 1)))
+}
+
+/// The node of this number among these siblings and what is below them.
+pub fn find<'a>(keys: &Table, siblings: &'a [Rc<Node>], id: NodeId) -> Option<&'a Node>
+    requires { (low : ℕ) × Rises (key_by keys.now) low (forest_of siblings.now) }
+    ensures { option_map (λ node. tree_of node.now) result ≡ first_tree id.number (forest_of siblings.now) }
+{
+    let key = key_of(keys, id);
+    let mut current = siblings;
+    'down: loop {
+        let Some((_, node)) = step(keys, current, id, key) else {
+            return None;
+        };
+        if node.id == id {
+            return Some(node);
+        }
+        current = node.children.as_slice();
+    }
+}
+
+/// Adds to the path the way to the node of this number, from the parent of these siblings. False where
+/// there is no such node; the path may then be longer than before.
+pub fn lead(
+    path: &mut Path,
+    keys: &Table,
+    siblings: &[Rc<Node>],
+    id: NodeId,
+) -> Result<bool, Memory>
+    requires { (low : ℕ) × Rises (key_by keys.now) low (forest_of siblings.now) }
+    ensures { IfOk result (λ found. option_map (λ way. path.old ++ way) (way_to id.number 1 (forest_of siblings.now)) ≡ (if found then Some path.new else None)) }
+{
+    let key = key_of(keys, id);
+    let mut current = siblings;
+    'down: loop {
+        let Some((position, node)) = step(keys, current, id, key) else {
+            return Ok(false);
+        };
+        path.push(position as u64)?;
+        if node.id == id {
+            return Ok(true);
+        }
+        current = node.children.as_slice();
+    }
 }
 
 /// The sibling at this position, which counts from 1.
@@ -33,25 +113,6 @@ pub fn sibling_at<'a>(siblings: &'a [Rc<Node>], position: u64) -> Option<&'a Nod
         return None;
     }
     Some(&siblings[(position - 1) as usize])
-}
-
-/// Adds to the path the way to the first node of this number, from the parent of these siblings. False
-/// where there is none, and the path is then as before.
-pub fn lead(path: &mut Path, siblings: &[Rc<Node>], id: NodeId) -> Result<bool, Memory>
-    ensures found { IfOk result (λ found. found ≡ is_some (way_to id.number 1 (forest_of siblings.now))) }
-    ensures path { OnOk result (path.new ≡ gone_on path.old (way_to id.number 1 (forest_of siblings.now))) }
-{
-    for (i, sibling) in siblings.iter().enumerate() {
-        path.push(i as u64 + 1)?;
-        if sibling.id == id {
-            return Ok(true);
-        }
-        if lead(path, sibling.children.as_slice(), id)? {
-            return Ok(true);
-        }
-        let _ = path.pop();
-    }
-    Ok(false)
 }
 
 /// Adds the texts of these siblings and of what is below them.

@@ -12,9 +12,14 @@ mod doc;
 mod filling;
 mod find;
 mod items;
+mod keys;
+mod names;
 mod node;
 mod node_ref;
 mod part;
+mod place;
+mod properties;
+mod table;
 mod value;
 
 pub use doc::{Doc, Nodes};

@@ -5,7 +5,6 @@ use Rattle.std.specs.Str.{chars}
 use Rattle.spec_session.specs.Request as spec
 use Rattle.spec_session.specs.Request.{Request, or_number}
 use Rattle.spec_session.specs.Reply as written
-use Rattle.spec_expression.specs.Code.{static_number, dynamic_number}
 use Rattle.xt_base.specs.Code.{edit_number}
 use Rattle.xt_base.specs.declared.codes.EditCode.{EditCode}
 use Rattle.xt_base.specs.declared.codes.EditCode.TheVariants as edit
@@ -16,8 +15,6 @@ use Rattle.xt_wire.specs.declared.document.DocumentName.{DocumentName}
 use Rattle.xt_wire.specs.declared.document.DocumentName.TheVariants.{Source, Module}
 use Rattle.xt_wire.specs.declared.fault.WireFault.{WireFault}
 use Rattle.xt_wire.specs.declared.fault.WireFault.TheVariants as variant
-use Rattle.xt_wire.specs.declared.replies.Code.{Code}
-use Rattle.xt_wire.specs.declared.replies.Code.TheVariants.{Static, Dynamic}
 use Rattle.xt_wire.specs.declared.replies.Refusal.{Refusal}
 use Rattle.xt_wire.specs.declared.replies.Reply.{Reply}
 use Rattle.xt_wire.specs.declared.replies.Reply.TheVariants.{OkDone, OkRefused, Refused, Shown, No}
@@ -69,16 +66,12 @@ code_of_fault variant.BadArguments = edit.BadArguments
 
 -- ---- Replies
 
-abbrev pub code_of : Code → written.Code
-code_of (Static code) = written.Static (static_number code)
-code_of (Dynamic code) = written.Dynamic (dynamic_number code)
-
 -- a place is a node's exactly where it has a module
 abbrev pub place_of : Place → Option written.ModulePlace
 place_of place = option_map (λ name. record { name = name; positions = place.path }) place.module
 
 abbrev pub refusal_of : Refusal → written.Refusal
-refusal_of why = record { code = code_of why.code; place = place_of why.place }
+refusal_of why = record { code = why.code; place = place_of why.place }
 
 abbrev pub reply_of : Reply → written.Reply
 reply_of OkDone = written.OkDone

@@ -22,6 +22,6 @@ pub use command::Command;
 pub use document::DocumentName;
 pub use fault::WireFault;
 pub use path::read_path;
-pub use replies::{Code, Refusal, Reply};
+pub use replies::{Refusal, Reply};
 pub use word::{Words, first_word, next_word, only_word, read_value};
 pub use write::reply;

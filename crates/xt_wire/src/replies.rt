@@ -1,15 +1,6 @@
 // Replies.
-use xt_base::{DynCode, EditCode, Place, StaticCode};
+use xt_base::{Code, EditCode, Place};
 use xt_text::Text;
-
-/// The code of a refusal.
-#[derive(Clone, Copy, Debug, PartialEq, Eq)]
-pub enum Code {
-    /// The stylesheet is refused.
-    Static(StaticCode),
-    /// Its run is refused.
-    Dynamic(DynCode),
-}
 
 /// Why the transformation is refused, and where.
 #[derive(Drop)]

@@ -2,14 +2,15 @@
 ghost use Rattle.std.specs.Prelude.{◌≡◌, ◌++◌, ◌∷◌, [], IfOk, OnOk, decimal, codes};
 ghost use Rattle.std.specs.List.{flat_map};
 ghost use Rattle.std.specs.Str.{chars};
-ghost use Rattle.spec_session.specs.Reply.{code_text, place_text, refusal_text, reply_text, two_digits, with_newline};
+ghost use Rattle.spec_session.specs.Reply.{place_text, refusal_text, reply_text, with_newline};
+ghost use Rattle.spec_expression.specs.Code.{code_text};
 ghost use Rattle.xt_base.specs.Code.{edit_number};
-ghost use Rattle.xt_wire.specs.View.{code_of, place_of, refusal_of, reply_of};
+ghost use Rattle.xt_wire.specs.View.{place_of, refusal_of, reply_of};
 
-use crate::replies::{Code, Refusal, Reply};
+use crate::replies::{Refusal, Reply};
 use itoa::Buffer;
 use std::alloc::Global;
-use xt_base::{EditCode, Place};
+use xt_base::{Code, EditCode, Place};
 use xt_text::{Memory, Text};
 
 /// The text of a reply: its lines, each with an LF.
@@ -30,7 +31,7 @@ fn refusal_line(alloc: Global, words: &str, why: &Refusal) -> Result<Text, Memor
     ensures { IfOk result (λ text. text ≡ with_newline (chars words.now ++ refusal_text (refusal_of why.now))) }
 {
     let mut text = Text::from_str(alloc, words)?;
-    push_code(&mut text, why.code)?;
+    push_code(alloc, &mut text, why.code)?;
     text.push(' ')?;
     push_place(&mut text, &why.place)?;
     text.push('\n')?;
@@ -60,29 +61,12 @@ fn no_line(alloc: Global, code: EditCode) -> Result<Text, Memory>
     Ok(text)
 }
 
-// Adds the code: its letter, and its number in two digits.
-fn push_code(text: &mut Text, code: Code) -> Result<(), Memory>
-    ensures { OnOk result (text.new ≡ text.old ++ code_text (code_of code)) }
+// Adds the code.
+fn push_code(alloc: Global, text: &mut Text, code: Code) -> Result<(), Memory>
+    ensures { OnOk result (text.new ≡ text.old ++ code_text code) }
 {
-    match code {
-        Code::Static(code) => {
-            text.push('S')?;
-            push_two_digits(text, code.number())
-        }
-        Code::Dynamic(code) => {
-            text.push('D')?;
-            push_two_digits(text, code.number())
-        }
-    }
-}
-
-fn push_two_digits(text: &mut Text, number: u8) -> Result<(), Memory>
-    ensures { OnOk result (text.new ≡ text.old ++ two_digits number) }
-{
-    if number < 10 {
-        text.push('0')?;
-    }
-    push_number(text, u64::from(number))
+    let code = code.to_string(alloc)?;
+    text.push_str(code.as_str())
 }
 
 // Adds the module and the positions, each behind a slash, or `-` where there is no module.

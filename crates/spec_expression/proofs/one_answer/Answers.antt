@@ -1,14 +1,14 @@
 use Rattle.std.proofs.Common.{◌≡◌, List, Option, None, Some, Result, Ok, Err, refl, arith}
 use Rattle.spec_document.specs.Scope.{Scope}
-use Rattle.spec_expression.specs.declared.Refusal.{Refusal}
-use Rattle.spec_expression.specs.declared.Refusal.TheVariants.{Syntax, Depth, Number, Prefix}
+use Rattle.spec_expression.specs.declared.ExpressionRefusal.{ExpressionRefusal}
+use Rattle.spec_expression.specs.declared.ExpressionRefusal.TheVariants.{Syntax, Depth, Number, Prefix}
 use Rattle.spec_expression.specs.Token.{Token, tokens}
 use Rattle.spec_expression.specs.Syntax.{Expr}
 use Rattle.spec_expression.specs.Grammar.{Gives, Uncut}
 use Rattle.spec_expression.proofs.Unique.{same}
 use Rattle.spec_expression.proofs.one_answer.Goals as goal
 
-one_gives : (scope : Scope) (ts : List Token) (r s : Result Expr Refusal) → Gives scope ts r → Gives scope ts s → r ≡ s
+one_gives : (scope : Scope) (ts : List Token) (r s : Result Expr ExpressionRefusal) → Gives scope ts r → Gives scope ts s → r ≡ s
 one_gives scope ts (Ok e) (Ok f) h g = let d = (same h.0.expression (omega arith) g.0.expression (omega arith)).0 in cc
 one_gives scope ts (Ok e) (Err Syntax) h g = absurd (g.1 e h.0.expression)
 one_gives scope ts (Ok e) (Err Depth) h g = let a = h.0.shallow in cc
@@ -35,7 +35,7 @@ one_gives scope ts (Err Prefix) (Err Depth) h g = let a = h.1.shallow in cc
 one_gives scope ts (Err Prefix) (Err Number) h g = cc
 one_gives scope ts (Err Prefix) (Err Prefix) h g = refl
 
-one_uncut : (r s : Result Expr Refusal) → Uncut r → Uncut s → r ≡ s
+one_uncut : (r s : Result Expr ExpressionRefusal) → Uncut r → Uncut s → r ≡ s
 one_uncut (Err Syntax) (Err Syntax) h g = refl
 one_uncut (Ok e) s h g = absurd h
 one_uncut (Err Depth) s h g = absurd h
@@ -46,7 +46,7 @@ one_uncut (Err Syntax) (Err Depth) h g = absurd g
 one_uncut (Err Syntax) (Err Number) h g = absurd g
 one_uncut (Err Syntax) (Err Prefix) h g = absurd g
 
-one : (scope : Scope) (cut : Option (List Token)) (r s : Result Expr Refusal)
+one : (scope : Scope) (cut : Option (List Token)) (r s : Result Expr ExpressionRefusal)
     → (elim cut as (λ _. Type 0) [ None ↦ Uncut r | Some ts ↦ Gives scope ts r ]) → (elim cut as (λ _. Type 0) [ None ↦ Uncut s | Some ts ↦ Gives scope ts s ]) → r ≡ s
 one scope None r s h g = one_uncut r s h g
 one scope (Some ts) r s h g = one_gives scope ts r s h g

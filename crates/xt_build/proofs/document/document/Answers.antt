@@ -38,14 +38,14 @@ make_nodes-requires-clause-numbers c =
 made : (c : In_ok-built) → AreMade c.args.first.number (without_texts (forest_in (pieces_of c.args.pieces.items))) c.in_ok-built.built.nodes
 made c = are_made _ _ _ _ c.saturating_add-second.ensures (room c.before.before.before) (c.in_ok-built.ensures {u = tt}).nodes
 
-pub numbered-document-requires-clause-order : goal.numbered-document-requires-clause-order
-numbered-document-requires-clause-order c = (made c.before).again
+pub numbered-requires-clause-order : goal.numbered-requires-clause-order
+numbered-requires-clause-order c = (made c.before).again
 
-pub numbered-document-requires-clause-limit : goal.numbered-document-requires-clause-limit
-numbered-document-requires-clause-limit c = (made c.before).fit
+pub numbered-requires-clause-limit : goal.numbered-requires-clause-limit
+numbered-requires-clause-limit c = (made c.before).fit
 
-pub numbered-document-requires-clause-depth : goal.numbered-document-requires-clause-depth
-numbered-document-requires-clause-depth c =
+pub numbered-requires-clause-depth : goal.numbered-requires-clause-depth
+numbered-requires-clause-depth c =
     let fits = document-height c.args.scope.now (c.args.first.number + 1) (pieces_of c.as_slice-whole.result.now) (found_of c.check_top.new.found)
     (found_of c.check_nodes.new.found)
     (found_of c.check_number.new.found) (found_of c.check_numbers.new.found) _ _ c.in_ok-check_nodes.ensures c.check_number.ensures c.check_numbers.ensures
@@ -57,10 +57,11 @@ numbered-document-requires-clause-depth c =
 
 pub returns : goal.returns
 returns c =
-    let m = made c.before.before in
+    let at = goal.at.returns c in
+    let m = made at.In_ok-built in
     let f = without_texts (forest_in (pieces_of c.args.pieces.items)) in
-    let doc = c.numbered-document.ensures in
-    let second = second_number _ _ _ c.saturating_add-second.ensures (room c.before.before.before.before.before) in
+    let doc = c.in_ok-document.ensures in
+    let second = second_number _ _ _ c.saturating_add-second.ensures (room at.In_default) in
     let count = ap (λ d. size d.nodes) doc ∙ ap size m.are ∙ size_numbered (c.args.first.number + 1) f in
     record {
       answer = ap (λ ps. document_by c.args.scope.now c.args.first.number (forest_in (pieces_of ps))) (sym c.as_slice-whole.ensures.value)

@@ -1,8 +1,5 @@
-use Rattle.std.proofs.Common.{◌≡◌, ◌+◌, ◌<◌, ◌^◌, None, Some, Ok, Option, ℕ, sym, ap, ◌∙◌, subst}
-use Rattle.std.specs.Prelude.{Result, Err}
-use Rattle.spec_document.specs.Forest.{Forest, numbered, size}
-use Rattle.spec_document.specs.Fault.{Fault}
-use Rattle.spec_document.specs.Balance.{LineNumbers}
+use Rattle.std.proofs.Common.{◌+◌, ◌<◌, ◌^◌, None, Some, Ok, sym, ap, ◌∙◌, subst}
+use Rattle.spec_document.specs.Forest.{numbered, size}
 use Rattle.spec_document.specs.Top.{kept}
 use Rattle.spec_document.specs.Document.{nodes_by}
 use Rattle.xt_build.specs.View.{found_of, pieces_of, fault_of}

@@ -1,4 +1,4 @@
-use Rattle.std.proofs.Common.{◌+◌, [], reverse, sym, ap, ◌∙◌, arith}
+use Rattle.std.proofs.Common.{◌+◌, reverse, sym, ap, ◌∙◌, arith}
 use Rattle.std.proofs.lemmas.List.{at_drop_all}
 use Rattle.spec_document.specs.Fault.{least}
 use Rattle.xt_build.specs.Least.{merged}

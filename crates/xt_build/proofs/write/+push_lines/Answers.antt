@@ -4,7 +4,7 @@ use mathlib.Core.Logic.{inl, inr}
 use Rattle.spec_document.specs.declared.event.Event.TheVariants as event
 use Rattle.spec_document.specs.Forest.{attribute_event, lines_of}
 use Rattle.spec_document.specs.Pyx.{line_of}
-use Rattle.xt_tree.specs.View.{Tree, content_of, written_of, tree_of, forest, forest_of}
+use Rattle.xt_tree.specs.View.{content_of, written_of, tree_of, forest, forest_of}
 use Rattle.xt_build.specs.Leaf.{leaf_events}
 use Rattle.xt_build.proofs.Writing.{element_step, leaf_step, IsLeaf}
 use Rattle.xt_build.proofs.write.+push_lines.Goals as goal

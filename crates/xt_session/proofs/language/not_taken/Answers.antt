@@ -1,12 +1,14 @@
 use Rattle.std.proofs.Common.{ℕ, List, [], ◌∷◌, ◌++◌, ◌∙◌, ap, sym, Some}
 use Rattle.spec_session.specs.Language.{document_element_from}
-use Rattle.spec_session.specs.Reply.{Static, Refusal}
+use Rattle.spec_expression.specs.declared.code.Code.TheVariants.{Static}
+use Rattle.spec_expression.specs.declared.code.StaticCode.TheVariants.{NotYet}
+use Rattle.spec_session.specs.Reply.{Refusal}
 use Rattle.xt_session.proofs.Labels.{document_element_from-plain}
 use Rattle.xt_session.proofs.Words.{main_chars}
 use Rattle.xt_session.proofs.language.not_taken.Goals as goal
 
 refusal : List ℕ → List ℕ → Refusal
-refusal name positions = record { code = Static 90; place = Some (record { name = name; positions = positions }) }
+refusal name positions = record { code = Static NotYet; place = Some (record { name = name; positions = positions }) }
 
 pub returns : goal.returns
 unfolding refusal

@@ -1,30 +1,15 @@
-use Rattle.std.proofs.Common.{◌≡◌, ◌==◌, false, ◌∙◌, sym, ap, Some, Result, Ok, Err, IfOk}
+use Rattle.std.proofs.Common.{◌∙◌, ap, map, Result, Ok, Err, IfOk}
 use Rattle.spec_document.specs.Place.{attributes_in}
-use Rattle.xt_tree.specs.View.{forest_of, first_tree, tree_of}
-use Rattle.xt_tree.proofs.Views.{view-Node}
-use Rattle.xt_tree.proofs.Ways.{no_tree, is_tree}
+use Rattle.xt_tree.specs.View.{written_of}
 use Rattle.xt_tree.proofs.doc.Doc.attributes.Goals as goal
-
-pub returns-in-None : goal.returns-in-None
-returns-in-None c x e =
-    let d = c.args.self.now in
-    let apart : (d.root == c.args.id.number) ≡ false = ap (λ e. e.root == c.args.id.number) (sym c.self.view_is) ∙ sym c.eq.ensures ∙ c.if-eq.false in
-    let same = ap (λ xs. first_tree c.args.id.number (forest_of xs)) c.as_slice.ensures.value
-    ∙ ap (λ e. first_tree c.args.id.number e.nodes) c.self.view_is in
-    absurd (no_tree d c.args.id.number x apart e (sym same ∙ sym c.in-None.ensures))
 
 more_known : {A E : Type 0} (P Q : A → Type 0) (r : Result A E) → ((a : A) → P a → Q a) → IfOk r P → IfOk r Q
 more_known P Q (Ok a) h p = h a p
 more_known P Q (Err e) h p = p
 
+pub returns-in-None : goal.returns-in-None
+returns-in-None c x e = ap (map (λ a. written_of a.now)) c.new.ensures.items ∙ ap (λ o. attributes_in o) (c.in-None.ensures x e)
+
 pub returns-in-Some : goal.returns-in-Some
 returns-in-Some c =
-    let d = c.args.self.now in
-    let apart : (d.root == c.args.id.number) ≡ false = ap (λ e. e.root == c.args.id.number) (sym c.self.view_is) ∙ sym c.eq.ensures ∙ c.if-eq.false in
-    let same = ap (λ xs. first_tree c.args.id.number (forest_of xs)) c.as_slice.ensures.value
-    ∙ ap (λ e. first_tree c.args.id.number e.nodes) c.self.view_is in
-    more_known _ _ c.attributes_in.result
-    (λ found known x e.
-    let is = is_tree d c.args.id.number x (tree_of c.in-Some.node.now) apart e (sym same ∙ sym c.in-Some.ensures) in
-    known ∙ sym (ap (λ o. attributes_in o) (is.content ∙ ap (λ t. Some t.content) (view-Node c.in-Some.node.now))))
-    c.attributes_in.ensures
+    more_known _ _ c.attributes_in.result (λ found known x e. known ∙ ap (λ o. attributes_in o) (c.in-Some.ensures x e)) c.attributes_in.ensures

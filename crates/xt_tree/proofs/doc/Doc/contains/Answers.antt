@@ -1,5 +1,5 @@
 use Rattle.std.proofs.Common.{◌≡◌, ◌==◌, false, ◌∙◌, sym, ap, is_some}
-use Rattle.xt_tree.specs.View.{forest_of, first_tree, tree_of}
+use Rattle.xt_tree.specs.View.{tree_of}
 use Rattle.xt_tree.proofs.Ways.{some_mapped, some_tree}
 use Rattle.xt_tree.proofs.doc.Doc.contains.Goals as goal
 
@@ -8,6 +8,4 @@ returns-else-eq c =
     let d = c.args.self.now in
     let number = c.args.id.number in
     let apart : (d.root == number) ≡ false = ap (λ e. e.root == number) (sym c.self.view_is) ∙ sym c.eq.ensures ∙ c.if-eq.false in
-    let same = ap (λ xs. first_tree number (forest_of xs)) c.as_slice.ensures.value ∙ ap (λ e. first_tree number e.nodes) c.self.view_is in
-    c.is_some.ensures ∙ sym (some_mapped (λ node. tree_of node.now) c.find.result) ∙ ap is_some (c.find.ensures ∙ same)
-    ∙ sym (some_tree d number apart)
+    c.is_some.ensures ∙ sym (some_mapped (λ node. tree_of node.now) c.find.result) ∙ ap is_some c.find.ensures ∙ sym (some_tree d number apart)

@@ -1,4 +1,4 @@
-use Rattle.std.proofs.Common.{◌≡◌, ◌∙◌, sym, ap, map, Result, Ok, Err, IfOk}
+use Rattle.std.proofs.Common.{◌∙◌, sym, ap, Result, Ok, Err, IfOk}
 use Rattle.spec_document.specs.Declaration.{namespaces_in}
 use Rattle.spec_document.specs.Place.{scope_at}
 use Rattle.xt_names.specs.View.{entries_of}

@@ -1,5 +1,20 @@
-use Rattle.xt_tree.proofs.Ordered.{ordered_numbers}
+use Rattle.std.proofs.Common.{◌∙◌, ap, subst, sym}
+use Rattle.spec_document.specs.Scope.{root_scope}
+use Rattle.xt_tree.specs.Keys.{key_by, entry_or}
+use Rattle.xt_tree.specs.Kept.{AreNames, kept_at, names_in}
+use Rattle.xt_tree.specs.Numbers.{IsDocument}
+use Rattle.xt_tree.proofs.Fresh.{fresh_document}
+use Rattle.xt_tree.proofs.Named.{document_names}
 use Rattle.xt_tree.proofs.doc.Doc.numbered.Goals as goal
 
-pub new-requires-clause-numbers : goal.new-requires-clause-numbers
-new-requires-clause-numbers c = ordered_numbers c.args.root.number c.args.nodes c.requires.order c.requires.limit
+pub invariant_of-result : goal.invariant_of-result
+invariant_of-result c =
+    let root = c.args.root.number in
+    let key = key_by c.new-keys.result in
+    let kept = kept_at c.in_ok-names.names.value in
+    let named = document_names c.in_ok-named.named root c.args.nodes c.in_ok-named.ensures.first
+    (c.in_ok-named.ensures.names ∙ ap (names_in root_scope) c.list.ensures) c.requires.order in
+    let names = subst (λ n. AreNames (kept_at n) (record { root = root; nodes = c.args.nodes })) (sym c.in_ok-names.ensures.ok) named in
+    subst (λ f. IsDocument key kept (record { root = root; nodes = f })) (sym c.into_list-children.ensures)
+    (fresh_document key kept root c.args.nodes (λ n. ap (λ o. entry_or o n) (c.new-keys.ensures n)) c.requires.order c.requires.limit
+    c.requires.depth names)

@@ -1,8 +1,9 @@
-use Rattle.std.proofs.Common.{◌≡◌, ◌==◌, true, false, ◌∙◌, sym, ap, subst, is_some, Some, None, []}
-use Rattle.xt_tree.specs.View.{forest_of, way_to, gone_on, IsWayTo}
+use Rattle.std.proofs.Common.{◌≡◌, ◌==◌, ◌++◌, true, false, ◌∙◌, sym, ap, subst, Some, None, if◌then◌else◌}
+use Rattle.std.specs.Option.{option_map}
+use Rattle.xt_tree.specs.View.{forest_of, way_to, IsWayTo}
 use Rattle.xt_tree.specs.Numbers.{IsNumbered}
 use Rattle.xt_tree.proofs.Distinct.{only_way}
-use Rattle.xt_tree.proofs.Ways.{root_way, place_is, no_place_is}
+use Rattle.xt_tree.proofs.Ways.{root_way, way_is, from_nothing, nothing_on}
 use Rattle.xt_tree.proofs.doc.Doc.way.Goals as goal
 
 pub returns-then-eq-clause-only : goal.returns-then-eq-clause-only
@@ -20,10 +21,10 @@ returns-then-branch c =
     let apart : (d.root == number) ≡ false = ap (λ e. e.root == number) (sym c.self.view_is) ∙ sym c.eq.ensures ∙ c.if-eq.false in
     let same : way_to number 1 (forest_of c.as_slice.result.now) ≡ way_to number 1 d.nodes =
     ap (λ xs. way_to number 1 (forest_of xs)) c.as_slice.ensures.value ∙ ap (λ e. way_to number 1 e.nodes) c.self.view_is in
-    let some = sym (ap is_some same) ∙ sym c.in_ok-lead.ensures.found ∙ c.if-branch.true in
-    let path = c.in_ok-lead.ensures.path ∙ ap (λ p. gone_on p (way_to number 1 (forest_of c.as_slice.result.now))) c.new-path.ensures
-    ∙ ap (gone_on []) same in
-    let way = subst (λ p. IsWayTo d number (Some p)) (sym path) (place_is d number apart some) in
+    let led : way_to number 1 d.nodes ≡ Some c.lead.new.path =
+    sym same ∙ from_nothing _ _ (ap (λ p. option_map (λ w. p ++ w) (way_to number 1 (forest_of c.as_slice.result.now))) (sym c.new-path.ensures)
+    ∙ c.in_ok-lead.ensures ∙ ap (λ b. if b then Some c.lead.new.path else None) c.if-branch.true) in
+    let way = way_is d number (Some c.lead.new.path) apart led in
     record { way = way; only = only_way d number (Some c.lead.new.path) (subst IsNumbered c.self.view_is c.self.invariant.numbers) way }
 
 pub returns : goal.returns
@@ -33,5 +34,8 @@ returns c =
     let apart : (d.root == number) ≡ false = ap (λ e. e.root == number) (sym c.self.view_is) ∙ sym c.eq.ensures ∙ c.if-eq.false in
     let same : way_to number 1 (forest_of c.as_slice.result.now) ≡ way_to number 1 d.nodes =
     ap (λ xs. way_to number 1 (forest_of xs)) c.as_slice.ensures.value ∙ ap (λ e. way_to number 1 e.nodes) c.self.view_is in
-    let way = no_place_is d number apart (sym (ap is_some same) ∙ sym c.in_ok-lead.ensures.found ∙ c.if-branch.false) in
+    let led : way_to number 1 d.nodes ≡ None =
+    sym same ∙ nothing_on _ (ap (λ p. option_map (λ w. p ++ w) (way_to number 1 (forest_of c.as_slice.result.now))) (sym c.new-path.ensures)
+    ∙ c.in_ok-lead.ensures ∙ ap (λ b. if b then Some c.lead.new.path else None) c.if-branch.false) in
+    let way = way_is d number None apart led in
     record { way = way; only = only_way d number None (subst IsNumbered c.self.view_is c.self.invariant.numbers) way }

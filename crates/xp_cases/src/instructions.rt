@@ -1,0 +1,235 @@
+// Instructions, each named by a word `KIND:EXPRESSION`: `text`, `value-of`, `copy-of`, `number`, `count`,
+// `apply-imports`, `fallback`, `literal`, `element`, `attribute`, `comment`, `instruction`, `copy`, `variable`,
+// `message`, `for-each`, `if`, `choose`, `apply-templates`, `call-template`. `instructions-differ WORD..` tells
+// whether each is the same as itself and as no other one. Those that have a content have one text in it.
+
+use crate::trees::parsed;
+use cases::{Fault, Word, one, text_of};
+use std::alloc::Global;
+use xp_syntax::{
+    Avt, AvtPart, Binding, Branch, Control, Count, Expr, Form, Instr, LiteralTag, MadeName,
+    NumberLevel, NumberSource, Numbering, Place, Selection, SortKey, WithContent, WithoutContent,
+};
+use xt_names::Expanded;
+use xt_text::{Memory, Path, Text};
+
+/// Whether each instruction is the same as itself and as no other one.
+pub fn differ(alloc: Global, words: &[Word]) -> Result<bool, Fault> {
+    for (index, word) in words.iter().enumerate() {
+        let first = instruction(alloc, text_of(word)?)?;
+        for (other_index, other) in words.iter().enumerate() {
+            let other = instruction(alloc, text_of(other)?)?;
+            if first.same(&other) != (index == other_index) {
+                return Ok(false);
+            }
+        }
+    }
+    Ok(true)
+}
+
+/// An instruction by its word.
+pub fn instruction(alloc: Global, word: &str) -> Result<Instr, Fault> {
+    let (kind, rest) = word.split_once(':').ok_or(Fault::NoCase)?;
+    let place = place(alloc)?;
+    let form = form(alloc, kind, rest)?;
+    Ok(Instr { place, form })
+}
+
+/// The place of what is no node of a stylesheet. It takes no memory.
+pub fn nowhere(alloc: Global) -> Place {
+    Place {
+        module: None,
+        path: Path::new(alloc),
+    }
+}
+
+// The place `main/1`.
+fn place(alloc: Global) -> Result<Place, Memory> {
+    let module = Text::from_str(alloc, "main")?;
+    let mut path = Path::new(alloc);
+    path.push(1)?;
+    Ok(Place {
+        module: Some(module),
+        path,
+    })
+}
+
+/// The name in no namespace.
+pub fn name(alloc: Global, local: &str) -> Result<Expanded, Memory> {
+    let local = Text::from_str(alloc, local)?;
+    Ok(Expanded::new(Text::new(alloc), local))
+}
+
+fn form(alloc: Global, kind: &str, rest: &str) -> Result<Form, Fault> {
+    match kind {
+        "text" | "value-of" | "copy-of" | "number" | "count" | "apply-imports" | "fallback" => {
+            Ok(Form::WithoutContent(without_content(alloc, kind, rest)?))
+        }
+        "for-each" | "if" | "choose" | "apply-templates" | "call-template" => {
+            Ok(Form::Control(control(alloc, kind, rest)?))
+        }
+        _ => {
+            let made = with_content(alloc, kind, rest)?;
+            let content = content(alloc)?;
+            Ok(Form::WithContent(made, content))
+        }
+    }
+}
+
+/// A content of one text.
+pub fn content(alloc: Global) -> Result<Vec<Instr>, Memory> {
+    let text = Text::from_str(alloc, "x")?;
+    let form = Form::WithoutContent(WithoutContent::Text(text));
+    let place = nowhere(alloc);
+    one(alloc, Instr { place, form })
+}
+
+fn without_content(alloc: Global, kind: &str, rest: &str) -> Result<WithoutContent, Fault> {
+    match kind {
+        "text" => Ok(WithoutContent::Text(Text::from_str(alloc, rest)?)),
+        "value-of" => Ok(WithoutContent::ValueOf(parsed(alloc, rest)?)),
+        "copy-of" => Ok(WithoutContent::CopyOf(parsed(alloc, rest)?)),
+        "number" => numbering(alloc, NumberSource::Value(parsed(alloc, rest)?)),
+        "count" => numbering(alloc, NumberSource::Count(count(rest)?)),
+        "apply-imports" => Ok(WithoutContent::ApplyImports),
+        "fallback" => Ok(WithoutContent::Fallback),
+        _ => Err(Fault::NoCase),
+    }
+}
+
+fn numbering(alloc: Global, source: NumberSource) -> Result<WithoutContent, Fault> {
+    let format = template(alloc, "1")?;
+    Ok(WithoutContent::Number(Numbering {
+        source,
+        format,
+        grouping_separator: None,
+        grouping_size: None,
+    }))
+}
+
+fn count(level: &str) -> Result<Count, Fault> {
+    let level = match level {
+        "single" => NumberLevel::Single,
+        "multiple" => NumberLevel::Multiple,
+        "any" => NumberLevel::Any,
+        _ => return Err(Fault::NoCase),
+    };
+    Ok(Count {
+        level,
+        count: None,
+        from: None,
+    })
+}
+
+// A value template of one text.
+fn template(alloc: Global, text: &str) -> Result<Avt, Memory> {
+    let text = Text::from_str(alloc, text)?;
+    let parts = one(alloc, AvtPart::Text(text))?;
+    Ok(Avt { parts })
+}
+
+fn with_content(alloc: Global, kind: &str, rest: &str) -> Result<WithContent, Fault> {
+    match kind {
+        "literal" => Ok(WithContent::Literal(literal(alloc, rest)?)),
+        "element" => Ok(WithContent::Element(made_name(alloc, rest)?, Vec::new(alloc))),
+        "attribute" => Ok(WithContent::Attribute(made_name(alloc, rest)?)),
+        "comment" => Ok(WithContent::Comment),
+        "instruction" => Ok(WithContent::ProcessingInstruction(template(alloc, rest)?)),
+        "copy" => Ok(WithContent::Copy(one(alloc, name(alloc, rest)?)?)),
+        "variable" => Ok(WithContent::Variable(name(alloc, rest)?, None)),
+        "message" => Ok(WithContent::Message(rest == "yes")),
+        _ => Err(Fault::NoCase),
+    }
+}
+
+fn literal(alloc: Global, local: &str) -> Result<LiteralTag, Memory> {
+    Ok(LiteralTag {
+        prefix: Text::new(alloc),
+        name: name(alloc, local)?,
+        namespaces: Vec::new(alloc),
+        sets: Vec::new(alloc),
+        attributes: Vec::new(alloc),
+    })
+}
+
+fn made_name(alloc: Global, text: &str) -> Result<MadeName, Memory> {
+    Ok(MadeName {
+        name: template(alloc, text)?,
+        namespace: None,
+        scope: Vec::new(alloc),
+    })
+}
+
+fn control(alloc: Global, kind: &str, rest: &str) -> Result<Control, Fault> {
+    match kind {
+        "for-each" => {
+            let select = parsed(alloc, rest)?;
+            let content = content(alloc)?;
+            Ok(Control::ForEach(select, Vec::new(alloc), content))
+        }
+        "if" => {
+            let test = parsed(alloc, rest)?;
+            let content = content(alloc)?;
+            Ok(Control::If(test, content))
+        }
+        "choose" => choose(alloc, rest),
+        "apply-templates" => apply_templates(alloc, rest),
+        "call-template" => {
+            let parameters = one(alloc, binding(alloc, rest)?)?;
+            Ok(Control::CallTemplate(name(alloc, "t")?, parameters))
+        }
+        _ => Err(Fault::NoCase),
+    }
+}
+
+fn choose(alloc: Global, test: &str) -> Result<Control, Fault> {
+    let test = parsed(alloc, test)?;
+    let content = content(alloc)?;
+    let branch = branch(alloc, test, content);
+    Ok(Control::Choose(one(alloc, branch)?))
+}
+
+fn branch(alloc: Global, test: Expr, content: Vec<Instr>) -> Branch {
+    Branch {
+        place: nowhere(alloc),
+        test: Some(test),
+        content,
+    }
+}
+
+// Sorted by the string-value.
+fn apply_templates(alloc: Global, select: &str) -> Result<Control, Fault> {
+    let select = parsed(alloc, select)?;
+    let keys = one(alloc, sort_key(alloc)?)?;
+    let selection = Selection {
+        select,
+        mode: None,
+        keys,
+    };
+    Ok(Control::ApplyTemplates(selection, Vec::new(alloc)))
+}
+
+fn sort_key(alloc: Global) -> Result<SortKey, Fault> {
+    let data_type = template(alloc, "text")?;
+    let select = parsed(alloc, ".")?;
+    Ok(SortKey {
+        place: nowhere(alloc),
+        select,
+        data_type,
+        order: Avt {
+            parts: Vec::new(alloc),
+        },
+    })
+}
+
+/// A parameter `v` that selects the value of this expression.
+pub fn binding(alloc: Global, select: &str) -> Result<Binding, Fault> {
+    let name = name(alloc, "v")?;
+    let select = parsed(alloc, select)?;
+    Ok(Binding {
+        place: nowhere(alloc),
+        name,
+        select: Some(select),
+        content: Vec::new(alloc),
+    })
+}

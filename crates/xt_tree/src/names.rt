@@ -1,0 +1,99 @@
+// The expanded names that a document keeps, so that they are resolved once.
+ghost use Rattle.std.specs.Prelude.{ℕ, ◌≡◌, ◌++◌, None, IfOk, OnOk};
+ghost use Rattle.std.specs.List.{slice_get};
+ghost use Rattle.std.specs.Option.{option_map};
+ghost use Rattle.spec_document.specs.Scope.{root_scope};
+ghost use Rattle.xt_tree.specs.Kept.{kept_at, names_in};
+ghost use Rattle.xt_tree.specs.View.{forest_of};
+
+use crate::part::{content_name, enter};
+use crate::{Node, NodeId};
+use std::alloc::Global;
+use std::rc::Rc;
+use xt_names::{Expanded, Scope};
+use xt_text::Memory;
+
+/// Expanded names of nodes whose numbers follow one another.
+#[derive(Drop)]
+pub struct Names {
+    // The number that the first name belongs to.
+    first: u64,
+    list: Vec<Option<Expanded>>,
+}
+
+impl Names {
+    /// No names. Takes no memory.
+    pub fn none(alloc: Global) -> Names
+        ensures { (number : ℕ) → kept_at result number ≡ None }
+    {
+        Names {
+            first: 0,
+            list: Vec::new(alloc),
+        }
+    }
+
+    /// The names of these siblings below a root and of all below them, which are numbered in document order
+    /// from `first` on.
+    pub fn of(alloc: Global, first: u64, siblings: &[Rc<Node>]) -> Result<Names, Memory>
+        ensures first { IfOk result (λ names. names.first ≡ first) }
+        ensures names { IfOk result (λ names. names.list.items ≡ names_in root_scope (forest_of siblings.now)) }
+    {
+        let mut list = Vec::new(alloc);
+        let scope = Scope::root(alloc)?;
+        push_names(alloc, &mut list, siblings, &scope)?;
+        Ok(Names { first, list })
+    }
+
+    /// The name that is kept for this number, if there is one; it is None where the node has none.
+    pub fn get(&self, id: NodeId) -> Option<&Option<Expanded>>
+        ensures { option_map (λ name. name.now) result ≡ kept_at self.now id.number }
+    {
+        if id.number < self.first {
+            return None;
+        }
+        name_at(self.list.as_slice(), id.number - self.first)
+    }
+}
+
+// The name at this index, from 0.
+fn name_at(names: &[Option<Expanded>], index: u64) -> Option<&Option<Expanded>>
+    ensures { option_map (λ name. name.now) result ≡ slice_get names.now index }
+{
+    if index >= names.len() as u64 {
+        return None;
+    }
+    Some(&names[index as usize])
+}
+
+// Adds the names of these siblings, which stand in this scope, and of all below them.
+fn push_names(
+    alloc: Global,
+    list: &mut Vec<Option<Expanded>>,
+    siblings: &[Rc<Node>],
+    scope: &Scope,
+) -> Result<(), Memory>
+    ensures { OnOk result (list.new.items ≡ list.old.items ++ names_in scope.now (forest_of siblings.now)) }
+{
+    for sibling in siblings {
+        let mut inner = scope.copy()?;
+        enter(alloc, &mut inner, &sibling.content)?;
+        let name = content_name(alloc, &sibling.content, &inner)?;
+        list.push(name)?;
+        push_names(alloc, list, sibling.children.as_slice(), &inner)?;
+    }
+    Ok(())
+}
+
+/// The same name.
+pub fn copied(alloc: Global, name: &Option<Expanded>) -> Result<Option<Expanded>, Memory>
+    ensures { IfOk result (λ copy. copy ≡ name.now) }
+{
+    match name {
+        None => Ok(None),
+        Some(name) => {
+            let uri = name.uri().copy(alloc)?;
+            let local = name.local().copy(alloc)?;
+            Ok(Some(Expanded::new(uri, local)))
+        }
+    }
+}

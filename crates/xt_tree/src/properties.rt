@@ -1,0 +1,239 @@
+// What nodes are: their kinds, names and values.
+ghost use Rattle.std.specs.Prelude.{◌≡◌, map, IfOk, [], IsSome, Some};
+ghost use Rattle.std.specs.Option.{option_map, option_and_then, ForSome};
+ghost use Rattle.spec_document.specs.Name.{qname_of};
+ghost use Rattle.spec_document.specs.Declaration.{namespaces_in, attribute_name};
+ghost use Rattle.spec_document.specs.Place.{expanded_name, name_by, scope_at, kind_of, kind_by, string_value, string_value_by, written_by, written_name, attributes_of, namespaces_of, at_number};
+ghost use Rattle.xt_names.specs.View.{entries_of};
+ghost use Rattle.xt_tree.specs.View.{item_of, numbered_node, written_of};
+
+use crate::find::{push_texts, push_value};
+use crate::names::copied;
+use crate::part::{
+    attribute_at, attribute_name, attributes_in, content_name, content_written, namespace_at,
+};
+use crate::{Doc, NodeId, NodeRef, Part, Written};
+use spec_document::Kind;
+use std::alloc::Global;
+use std::rc::Rc;
+use xt_names::{Expanded, Namespace};
+use xt_text::{Memory, Text};
+
+impl Doc {
+    /// The kind of a node of the tree. Takes no memory.
+    pub fn kind(&self, node: &NodeRef) -> Kind
+        requires { IsSome (item_of self.now node.now) }
+        ensures { option_map kind_of (item_of self.now node.now) ≡ Some result }
+    {
+        match node.part {
+            Part::Attribute(_) => Kind::Attribute,
+            Part::Namespace(_) => Kind::Namespace,
+            Part::Itself => self.own_kind(node.node),
+        }
+    }
+
+    // The kind of the node of this number, or of the root.
+    pub(crate) fn own_kind(&self, id: NodeId) -> Kind
+        ensures { ForSome (numbered_node self.now id.number) (λ node. result ≡ kind_by node.content) }
+    {
+        match self.content(id) {
+            None => Kind::Root,
+            Some(content) => content.kind(),
+        }
+    }
+
+    /// The string-value of a node of the tree (XPath 1.0, section 5): of the root and an element the texts
+    /// below, of an attribute its value, of a namespace node its URI, of any other node its content.
+    pub fn string_value(&self, alloc: Global, node: &NodeRef) -> Result<Text, Memory>
+        requires { IsSome (item_of self.now node.now) }
+        ensures { IfOk result (λ text. option_map string_value (item_of self.now node.now) ≡ Some text) }
+    {
+        match node.part {
+            Part::Itself => self.own_value(alloc, node.node),
+            Part::Attribute(number) => self.attribute_value(alloc, node.node, number),
+            Part::Namespace(number) => self.namespace_uri(alloc, node, number),
+        }
+    }
+
+    fn own_value(&self, alloc: Global, id: NodeId) -> Result<Text, Memory>
+        ensures { IfOk result (λ text. ForSome (numbered_node self.now id.number) (λ node. text ≡ string_value_by node.content node.children)) }
+    {
+        let mut text = Text::new(alloc);
+        if self.root == id {
+            push_texts(&mut text, self.children.as_slice())?;
+            return Ok(text);
+        }
+        match self.find(id) {
+            None => Ok(text),
+            Some(node) => {
+                push_value(&mut text, node)?;
+                Ok(text)
+            }
+        }
+    }
+
+    fn attribute_value(&self, alloc: Global, id: NodeId, number: u64) -> Result<Text, Memory>
+        ensures { IfOk result (λ text. ForSome (numbered_node self.now id.number) (λ node. ForSome (at_number number (attributes_of node)) (λ a. text ≡ a.value))) }
+    {
+        match self.attribute(id, number) {
+            None => Ok(Text::new(alloc)),
+            Some(attribute) => attribute.value.copy(alloc),
+        }
+    }
+
+    // The namespaces in scope at a node. The condition that it is an element is the caller's.
+    fn namespace_uri(&self, alloc: Global, node: &NodeRef, number: u64) -> Result<Text, Memory>
+        ensures { IfOk result (λ text. ForSome (numbered_node self.now node.now.node.number) (λ found. ForSome (at_number number (namespaces_in (scope_at found))) (λ n. text ≡ n.1))) }
+    {
+        let namespaces = self.scope_of(alloc, node)?.namespaces(alloc)?;
+        match namespace_at(namespaces.as_slice(), number) {
+            None => Ok(Text::new(alloc)),
+            Some(namespace) => namespace.uri.copy(alloc),
+        }
+    }
+
+    /// The attributes of a node in their order: the first is the attribute 1 of the node. Only elements have
+    /// some.
+    pub fn attributes(&self, alloc: Global, id: NodeId) -> Result<Vec<&Written>, Memory>
+        ensures { IfOk result (λ list. ForSome (numbered_node self.now id.number) (λ node. map (λ a. written_of a.now) list.items ≡ attributes_of node)) }
+    {
+        match self.content(id) {
+            None => Ok(Vec::new(alloc)),
+            Some(content) => attributes_in(alloc, content),
+        }
+    }
+
+    // The attribute of this number of the node, where there is one.
+    pub(crate) fn attribute(&self, id: NodeId, number: u64) -> Option<&Written>
+        ensures { ForSome (numbered_node self.now id.number) (λ node. option_map (λ a. written_of a.now) result ≡ at_number number (attributes_of node)) }
+    {
+        match self.content(id) {
+            None => None,
+            Some(content) => attribute_at(content, number),
+        }
+    }
+
+    /// The namespace nodes of a node in document order: the first is the namespace node 1 of the node. Only
+    /// elements have some.
+    pub fn namespaces(&self, alloc: Global, id: NodeId) -> Result<Vec<Rc<Namespace>>, Memory>
+        ensures { IfOk result (λ list. ForSome (numbered_node self.now id.number) (λ node. entries_of list.items ≡ namespaces_of node)) }
+    {
+        match self.own_kind(id) {
+            Kind::Element => self.scope_of(alloc, &NodeRef::of(id))?.namespaces(alloc),
+            _ => Ok(Vec::new(alloc)),
+        }
+    }
+
+    /// The name of a node of the tree as it is written: of an element and an attribute the QName, of a
+    /// processing instruction its target, of a namespace node its prefix. Empty for any other node.
+    pub fn written_name(&self, alloc: Global, node: &NodeRef) -> Result<Text, Memory>
+        requires { IsSome (item_of self.now node.now) }
+        ensures { IfOk result (λ text. option_map written_name (item_of self.now node.now) ≡ Some text) }
+    {
+        match node.part {
+            Part::Itself => self.own_written(alloc, node.node),
+            Part::Attribute(number) => self.attribute_written(alloc, node.node, number),
+            Part::Namespace(number) => self.namespace_prefix(alloc, node, number),
+        }
+    }
+
+    fn own_written(&self, alloc: Global, id: NodeId) -> Result<Text, Memory>
+        ensures { IfOk result (λ text. ForSome (numbered_node self.now id.number) (λ node. text ≡ written_by node.content)) }
+    {
+        match self.content(id) {
+            None => Ok(Text::new(alloc)),
+            Some(content) => content_written(alloc, content),
+        }
+    }
+
+    fn attribute_written(&self, alloc: Global, id: NodeId, number: u64) -> Result<Text, Memory>
+        ensures { IfOk result (λ text. ForSome (numbered_node self.now id.number) (λ node. ForSome (at_number number (attributes_of node)) (λ a. text ≡ a.name))) }
+    {
+        match self.attribute(id, number) {
+            None => Ok(Text::new(alloc)),
+            Some(attribute) => attribute.name.copy(alloc),
+        }
+    }
+
+    // The namespaces in scope at a node. The condition that it is an element is the caller's.
+    fn namespace_prefix(&self, alloc: Global, node: &NodeRef, number: u64) -> Result<Text, Memory>
+        ensures { IfOk result (λ text. ForSome (numbered_node self.now node.now.node.number) (λ found. ForSome (at_number number (namespaces_in (scope_at found))) (λ n. text ≡ n.0))) }
+    {
+        let namespaces = self.scope_of(alloc, node)?.namespaces(alloc)?;
+        match namespace_at(namespaces.as_slice(), number) {
+            None => Ok(Text::new(alloc)),
+            Some(namespace) => namespace.prefix.copy(alloc),
+        }
+    }
+
+    /// The expanded name of a node of the tree (XPath 1.0, section 5). None exactly for the root, a text
+    /// and a comment, and where a prefix is not declared; a processing instruction has its target as local
+    /// part and a namespace node its prefix, both in no namespace.
+    pub fn name(&self, alloc: Global, node: &NodeRef) -> Result<Option<Expanded>, Memory>
+        requires { IsSome (item_of self.now node.now) }
+        ensures { IfOk result (λ name. option_map expanded_name (item_of self.now node.now) ≡ Some name) }
+    {
+        match node.part {
+            Part::Itself => self.own_name(alloc, node),
+            Part::Attribute(number) => self.attribute_name(alloc, node, number),
+            Part::Namespace(number) => self.namespace_name(alloc, node, number),
+        }
+    }
+
+    fn own_name(&self, alloc: Global, node: &NodeRef) -> Result<Option<Expanded>, Memory>
+        ensures { IfOk result (λ name. ForSome (numbered_node self.now node.now.node.number) (λ found. name ≡ name_by found.content (scope_at found))) }
+    {
+        match self.names.get(node.node) {
+            Some(name) => copied(alloc, name),
+            None => self.resolved_name(alloc, node),
+        }
+    }
+
+    // The same where no name is kept.
+    fn resolved_name(&self, alloc: Global, node: &NodeRef) -> Result<Option<Expanded>, Memory>
+        ensures { IfOk result (λ name. ForSome (numbered_node self.now node.now.node.number) (λ found. name ≡ name_by found.content (scope_at found))) }
+    {
+        match self.content(node.node) {
+            None => Ok(None),
+            Some(content) => {
+                let scope = self.scope_of(alloc, node)?;
+                content_name(alloc, content, &scope)
+            }
+        }
+    }
+
+    fn attribute_name(
+        &self,
+        alloc: Global,
+        node: &NodeRef,
+        number: u64,
+    ) -> Result<Option<Expanded>, Memory>
+        ensures { IfOk result (λ name. ForSome (numbered_node self.now node.now.node.number) (λ found. ForSome (at_number number (attributes_of found))
+            (λ a. name ≡ option_and_then (attribute_name (scope_at found)) (qname_of a.name)))) }
+    {
+        let scope = self.scope_of(alloc, node)?;
+        match self.attribute(node.node, number) {
+            None => Ok(None),
+            Some(attribute) => attribute_name(alloc, attribute.name.as_str(), &scope),
+        }
+    }
+
+    fn namespace_name(
+        &self,
+        alloc: Global,
+        node: &NodeRef,
+        number: u64,
+    ) -> Result<Option<Expanded>, Memory>
+        ensures { IfOk result (λ name. ForSome (numbered_node self.now node.now.node.number) (λ found. ForSome (at_number number (namespaces_in (scope_at found)))
+            (λ n. name ≡ Some (record { uri = []; local = n.0 })))) }
+    {
+        let namespaces = self.scope_of(alloc, node)?.namespaces(alloc)?;
+        match namespace_at(namespaces.as_slice(), number) {
+            None => Ok(None),
+            Some(namespace) => Ok(Some(Expanded::new(
+                Text::new(alloc),
+                namespace.prefix.copy(alloc)?,
+            ))),
+        }
+    }
+}
