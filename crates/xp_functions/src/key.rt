@@ -13,9 +13,7 @@ use crate::argument::take_first;
 use crate::name::name_meant;
 use std::alloc::Global;
 use xp_values::to_text;
-use xt_ask::{
-    Answer, Context, EvalFault, Focus, Question, World, ask_order, ask_text, copy_name,
-};
+use xt_ask::{Answer, Context, EvalFault, Focus, Question, World, ask_order, ask_text, copy_name};
 use xt_names::Expanded;
 use xt_text::Text;
 use xt_tree::{NodeRef, Value};

@@ -39,7 +39,12 @@ pub(crate) fn of_texts(
             Ok(Value::Text(back))
         }
         TextsFunction::Translate => {
-            let text = translate(alloc, text_at(texts, 0), text_at(texts, 1), text_at(texts, 2))?;
+            let text = translate(
+                alloc,
+                text_at(texts, 0),
+                text_at(texts, 1),
+                text_at(texts, 2),
+            )?;
             Ok(Value::Text(text))
         }
     }

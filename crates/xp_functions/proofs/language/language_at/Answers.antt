@@ -9,6 +9,6 @@ pub returns-in_err-text-clause-runs : goal.returns-in_err-text-clause-runs
 returns-in_err-text-clause-runs g c supply depth = exits _ c.from_residual.ensures.1 (runs_stop _ (c.in_err-text.ensures.runs supply depth))
 
 pub returns-clause-runs : goal.returns-clause-runs
-returns-clause-runs g c supply depth = 
+returns-clause-runs g c supply depth =
     let e = c.lang_matches.ensures ∙ ap (λ (l : List ℕ). is_language l (chars c.as_str-2.result.now)) c.as_str.ensures.characters ∙ ap (is_language c.in_ok-text.text) c.as_str-2.ensures.characters in
     runs_then _ (c.in_ok-text.ensures.runs supply depth) (runs_gives (ap Boolean e))

@@ -8,12 +8,12 @@ use Rattle.xp_functions.proofs.table.is_instruction.Goals as goal
 
 pub returns-then-is : goal.returns-then-is
 unfolding chars
-returns-then-is c = 
+returns-then-is c =
     let e : c.is.result ≡ bytes_eq c.args.name.now.uri xslt_uri = c.is.ensures ∙ ap (bytes_eq c.uri.result.now) xslt_uri_chars ∙ ap (λ (u : List ℕ). bytes_eq u xslt_uri) c.uri.ensures in
     let f : c.has_word.result ≡ list_any (bytes_eq c.local.result.now) instructions = c.has_word.ensures in
     and_is _ _ e c.if-is.true (f ∙ ap (λ (l : List ℕ). list_any (bytes_eq l) instructions) c.local.ensures)
 
 pub returns-else-is : goal.returns-else-is
-returns-else-is c = 
+returns-else-is c =
     let e : c.is.result ≡ bytes_eq c.args.name.now.uri xslt_uri = c.is.ensures ∙ ap (bytes_eq c.uri.result.now) xslt_uri_chars ∙ ap (λ (u : List ℕ). bytes_eq u xslt_uri) c.uri.ensures in
     and_not _ _ e c.if-is.false
