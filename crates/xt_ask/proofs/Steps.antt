@@ -3,7 +3,7 @@ use Rattle.std.proofs.lemmas.List.{at_drop_more, at_drop_all}
 use Rattle.std.proofs.Common.{◌≡◌, ℕ, ◌+◌, ◌<◌, ◌≤◌, List, [], ◌∷◌, length, drop, get_or, Result, Ok, Err, Option, Some, None, refl, sym, ap, ◌∙◌, subst}
 use Rattle.std.specs.Result.{IsErrAnd}
 use Rattle.xt_ask.specs.declared.fault.Refusal.{Refusal}
-use Rattle.spec_meaning.specs.Program.{Wanted, Given, Supply, Saw, Program, Give, Refuse, Ask, Need, then, State, asked, noted, Said, Gives, Refuses, Lacks, Ending, if_given, run}
+use Rattle.spec_meaning.specs.Program.{Given, Supply, Saw, Program, Give, Refuse, Ask, Need, then, State, asked, noted, Said, Gives, Refuses, Lacks, Ending, if_given, run}
 use Rattle.xt_tree.specs.declared.node_ref.NodeRef.{NodeRef}
 use Rattle.xt_ask.specs.declared.fault.EvalFault.{EvalFault}
 use Rattle.xt_ask.specs.declared.fault.EvalFault.TheVariants.{Memory, Refused, Wants}

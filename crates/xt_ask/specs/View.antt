@@ -1,6 +1,5 @@
 -- What questions, answers and contexts of the program stand for.
-use Rattle.std.specs.Prelude.{List, [], ◌∷◌, map, Option, None, Some}
-use Rattle.std.specs.declared.rc.Rc.{Rc}
+use Rattle.std.specs.Prelude.{List, [], ◌∷◌, map}
 use Rattle.spec_meaning.specs.Question as plain
 use Rattle.spec_meaning.specs.Program as program
 use Rattle.spec_meaning.specs.Context as context
@@ -30,7 +29,7 @@ use Rattle.xt_ask.specs.declared.fault.Refusal.{Refusal}
 use Rattle.xt_ask.specs.declared.fault.Refusal.TheVariants as refusals
 use Rattle.xt_ask.specs.declared.context.Focus.{Focus}
 use Rattle.xt_ask.specs.declared.context.Bindings.{Bindings, Bindings-F, fold-Bindings}
-use Rattle.xt_ask.specs.declared.context.Binding.{Binding, Binding-F, fold-Binding}
+use Rattle.xt_ask.specs.declared.context.Binding.{Binding-F}
 use Rattle.xt_ask.specs.declared.context.Context.{Context}
 use Rattle.xt_ask.specs.declared.context.Known.{Known}
 use Rattle.xt_ask.specs.declared.context.Supplies.{Supplies}

@@ -1,10 +1,12 @@
 // What a world answers.
 ghost use Rattle.std.specs.Prelude.{◌≡◌};
-ghost use Rattle.spec_meaning.specs.Question.{nodes_in, text_in};
-ghost use Rattle.xt_ask.specs.View.{answer_of};
+ghost use Rattle.std.specs.Bool.{Decides};
+ghost use Rattle.xt_ask.specs.View.{resolved_of};
 
 use crate::Refusal;
+use crate::alike::{all_alike, same_name_if, same_nodes, same_text_if};
 use crate::copies::{copy_name_if, copy_text_if};
+use crate::streams::same_items;
 use spec_document::Kind;
 use std::alloc::Global;
 use std::rc::Rc;
@@ -37,6 +39,18 @@ pub struct ResolvedUnit {
     pub counts: bool,
 }
 
+impl ResolvedUnit {
+    /// Whether both are the same unit, with the same templates and attribute sets. Takes no memory.
+    pub fn same(&self, other: &ResolvedUnit) -> bool
+        ensures { Decides result (resolved_of self.now ≡ resolved_of other.now) }
+    {
+        self.unit.same(&other.unit)
+            && all_alike(self.templates.as_slice(), other.templates.as_slice())
+            && all_alike(self.sets.as_slice(), other.sets.as_slice())
+            && self.counts == other.counts
+    }
+}
+
 /// An answer to a question.
 #[derive(Drop)]
 pub enum Answer {
@@ -61,9 +75,10 @@ pub enum Answer {
 }
 
 impl Answer {
-    ghost use Rattle.std.specs.Prelude.{◌≡◌, IfOk};
-    ghost use Rattle.xt_ask.specs.View.{answer_of};
+    ghost use Rattle.std.specs.Prelude.{◌≡◌, true, false, IfOk};
     ghost use Rattle.spec_meaning.specs.Question.{nodes_in, text_in};
+    ghost use Rattle.xt_ask.specs.Change.{is_copy};
+    ghost use Rattle.xt_ask.specs.View.{answer_of};
 
     /// The same answer. Copied nodes and units are shared, all else is in memory of its own.
     pub fn copy(&self, alloc: Global) -> Result<Answer, Memory>
@@ -82,6 +97,30 @@ impl Answer {
             Answer::Copied(items) => Ok(Answer::Copied(items.clone()?)),
             Answer::Resolved(unit) => Ok(Answer::Resolved(unit.clone()?)),
             Answer::Passed(value) => Ok(Answer::Passed(copy_text_if(alloc, value)?)),
+        }
+    }
+
+    /// Whether both are the same answer. Of copies it may say no though they are the same, where they are
+    /// made of other shared parts. Takes no memory.
+    pub fn same(&self, other: &Answer) -> bool
+        ensures sound { result ≡ true → answer_of self.now ≡ answer_of other.now }
+        ensures exact { is_copy (answer_of other.now) ≡ false → answer_of self.now ≡ answer_of other.now → result ≡ true }
+    {
+        match (self, other) {
+            (Answer::Gone, Answer::Gone) => true,
+            (Answer::Refused(refusal), Answer::Refused(other)) => refusal.same(other),
+            (Answer::Nodes(nodes), Answer::Nodes(others)) => {
+                same_nodes(nodes.as_slice(), others.as_slice())
+            }
+            (Answer::Text(text), Answer::Text(other)) => text.same(other),
+            (Answer::Named(kind, name, written), Answer::Named(other_kind, other, others)) => {
+                kind == other_kind && same_name_if(name, other) && written.same(others)
+            }
+            (Answer::Chosen(rule), Answer::Chosen(other)) => rule == other,
+            (Answer::Copied(items), Answer::Copied(others)) => same_items(items, others),
+            (Answer::Resolved(unit), Answer::Resolved(other)) => unit.same(other),
+            (Answer::Passed(value), Answer::Passed(other)) => same_text_if(value, other),
+            _ => false,
         }
     }
 

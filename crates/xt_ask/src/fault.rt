@@ -20,6 +20,7 @@ pub enum Refusal {
 
 impl Refusal {
     ghost use Rattle.std.specs.Prelude.{◌≡◌, IfOk};
+    ghost use Rattle.std.specs.Bool.{Decides};
     ghost use Rattle.xt_ask.specs.View.{refusal_of};
 
     /// The same refusal, in memory of its own.
@@ -29,6 +30,19 @@ impl Refusal {
         match self {
             Refusal::Here(code) => Ok(Refusal::Here(*code)),
             Refusal::At(code, place) => Ok(Refusal::At(*code, copy_place(alloc, place)?)),
+        }
+    }
+
+    /// Whether both are the same refusal. Takes no memory.
+    pub fn same(&self, other: &Refusal) -> bool
+        ensures { Decides result (refusal_of self.now ≡ refusal_of other.now) }
+    {
+        match (self, other) {
+            (Refusal::Here(code), Refusal::Here(other)) => code == other,
+            (Refusal::At(code, place), Refusal::At(other_code, other)) => {
+                code == other_code && place.same(other)
+            }
+            _ => false,
         }
     }
 }

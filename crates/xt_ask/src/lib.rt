@@ -7,15 +7,18 @@
 //! ```
 #![tactic(auto)]
 
+mod alike;
 mod answer;
 mod ask;
 mod context;
 mod copies;
 mod evaluate;
 mod fault;
+mod hold;
 mod logged;
 mod question;
 mod read;
+mod streams;
 mod world;
 
 pub use answer::{Answer, NamedSets, NamedTemplate, ResolvedUnit};
@@ -24,6 +27,7 @@ pub use context::{Binding, Bindings, Context, Focus, Known, Supplies};
 pub use copies::{copy_name, copy_test, copy_value};
 pub use evaluate::Evaluate;
 pub use fault::{EvalFault, Refusal};
+pub use hold::holds;
 pub use logged::Logged;
 pub use question::{Candidates, Given, Question, Wanted};
 pub use read::Read;
