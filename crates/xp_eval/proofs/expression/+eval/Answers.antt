@@ -1,8 +1,8 @@
-use Rattle.std.proofs.Common.{◌≡◌, ◌+◌, ◌++◌, ◌∷◌, [], List, drop, length, map, refl, sym, ap, ◌∙◌, arith}
+use Rattle.std.proofs.Common.{◌+◌, ◌++◌, ◌∷◌, [], drop, length, map, refl, sym, ◌∙◌, arith}
 use Rattle.std.proofs.lemmas.List.{map-append}
 use Rattle.spec_expression.specs.Syntax.{exprs, links, steps}
 use Rattle.spec_meaning.specs.Meaning.{meaning, values_of, chained, kept, kept_by, along, stepped}
-use Rattle.xp_syntax.specs.View.{expr_of, link_of, step_of, test_of}
+use Rattle.xp_syntax.specs.View.{expr_of, link_of, step_of}
 use Rattle.xt_tree.specs.ValueView.{value_of}
 use Rattle.spec_meaning.specs.Supplies.{at_hand}
 use Rattle.xt_ask.specs.View.{context_of, supplies_of}

@@ -1,4 +1,4 @@
-use Rattle.std.proofs.Common.{◌≡◌, ℕ, ◌≤◌, List, [], ◌∷◌, length, refl, sym, ◌∙◌, arith}
+use Rattle.std.proofs.Common.{◌≡◌, ◌≤◌, List, [], ◌∷◌, length, refl, sym, ◌∙◌, arith}
 use Rattle.spec_document.specs.declared.axis.Axis.{Axis}
 use Rattle.spec_meaning.specs.Call.{arranged}
 use Rattle.spec_meaning.specs.Operation.{in_order}
