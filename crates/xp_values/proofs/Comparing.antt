@@ -25,12 +25,15 @@ next_operand {supply = supply} {depth = depth} left xs i x {q = q} {s = s} {t = 
     subst (λ y. Continues supply depth (left (operand_of y ∷ map operand_of (drop (i + 1) xs))) s q t) (sym is)
     (next_turn (λ rest. left (map operand_of rest)) xs i x h e)
 
-abbrev pub first_pair : {X : Type 0} → (Operand NodeRef → Program NodeRef X) → (X → X → Bool) → code.Operand → (rs ls : List (Operand NodeRef)) → Program NodeRef Bool
-first_pair read test first rs ls = read (operand_of first) >>= λ x. searched read (test x) [] rs >>= λ found. after_first read test ls found
+abbrev pub first_pair : {X : Type 0} → (Operand NodeRef → Program NodeRef X) → (X → X → Bool) → code.Operand
+    → (rs ls : List (Operand NodeRef)) → Program NodeRef Bool
+first_pair read test first rs ls =
+    read (operand_of first) >>= λ x. searched read (test x) [] rs >>= λ found. after_first read test ls found
 
 -- both sides have operands
 pub pair_so : {X : Type 0} {supply : Supply NodeRef} {depth : ℕ} {s t : State NodeRef} {r : Result Bool EvalFault}
-    (read : Operand NodeRef → Program NodeRef X) (test : X → X → Bool) (ls rs : List code.Operand) (first : code.Operand) → 0 < length ls → 0 < length rs → first ≡ get_or ls 0 first
+    (read : Operand NodeRef → Program NodeRef X) (test : X → X → Bool) (ls rs : List code.Operand) (first : code.Operand)
+    → 0 < length ls → 0 < length rs → first ≡ get_or ls 0 first
     → Runs itself supply depth (first_pair read test first (map operand_of rs) (map operand_of (drop 1 ls))) s t r
     → Runs itself supply depth (some_pair read test (map operand_of ls) (map operand_of rs)) s t r
 pair_so read test [] rs first h k is e = absurd (omega (arith, h))
@@ -50,7 +53,8 @@ rest_is (x ∷ xs) =
 
 -- what is compared where it is not booleans
 pub compared_so : {supply : Supply NodeRef} {depth : ℕ} {s t : State NodeRef} {r : Result Bool EvalFault}
-    (operator : Operator) (v w : Value NodeRef) (by_texts : Bool) (ls rs : List (Operand NodeRef)) → (is_equality operator && (is_boolean v || is_boolean w)) ≡ false → goes_by_texts operator v w ≡ by_texts
+    (operator : Operator) (v w : Value NodeRef) (by_texts : Bool) (ls rs : List (Operand NodeRef))
+    → (is_equality operator && (is_boolean v || is_boolean w)) ≡ false → goes_by_texts operator v w ≡ by_texts
     → ls ≡ operands (beside w v) → rs ≡ operands (beside v w)
     → Runs itself supply depth (operands_compared operator by_texts ls rs) s t r → Runs itself supply depth (compared operator v w) s t r
 compared_so {supply = supply} {depth = depth} {s = s} {t = t} {r = r} operator v w by_texts ls rs n b l m h =
