@@ -1,13 +1,14 @@
 // What the lines so far have set, and what the next one asks.
 
-use crate::show::push_answer;
+use crate::show::{push_answer, push_code, push_held};
 use cases::{Fault, Word, behind, document, node, text_at, words_of};
 use std::alloc::Global;
 use std::rc::Rc;
 use xp_eval::eval;
 use xp_parse::{ParseFault, parse};
 use xp_syntax::Expr;
-use xt_ask::{Binding, Bindings, Context, EvalFault, Focus, Known, Supplies};
+use xt_ask::{Binding, Bindings, Context, EvalFault, Focus, Known, Logged, Read, Supplies, holds};
+use xt_base::{Code, Steps};
 use xt_names::{Expanded, Scope, XSLT_URI};
 use xt_plain::PlainWorld;
 use xt_text::{Memory, Text};
@@ -20,6 +21,8 @@ pub struct Scene {
     node: NodeRef,
     context: Context,
     supplies: Supplies,
+    // What was read for an expression.
+    reads: Vec<Read>,
 }
 
 // The root of a document, which has the number 0.
@@ -56,6 +59,7 @@ impl Scene {
                 depth: 0,
             },
             supplies: no_supplies(alloc),
+            reads: Vec::new(alloc),
         })
     }
 
@@ -67,6 +71,9 @@ impl Scene {
         }
         if line.is_empty() || line.starts_with("#") {
             return Ok(());
+        }
+        if line == "again" {
+            return self.ask_again(alloc, out);
         }
         let words = words_of(alloc, line)?;
         self.set(alloc, words.as_slice())
@@ -81,6 +88,7 @@ impl Scene {
             "let" => self.set_value(alloc, text_at(words, 1)?, text_at(words, 2)?),
             "fragment" => self.set_fragment(alloc, text_at(words, 1)?, text_at(words, 2)?),
             "global" => self.set_global(alloc, text_at(words, 1)?, text_at(words, 2)?),
+            "keep" => self.keep(alloc, text_at(words, 1)?),
             _ => Err(Fault::NoCase),
         }
     }
@@ -146,30 +154,73 @@ impl Scene {
     }
 
     // What an expression evaluates to in the document.
-    fn evaluated(
-        &self,
-        alloc: Global,
-        tree: &Expr,
-    ) -> Result<Result<Value, EvalFault>, Fault> {
+    fn evaluated(&self, alloc: Global, tree: &Expr) -> Result<Result<Value, EvalFault>, Fault> {
         match &self.document {
             None => Err(Fault::NoCase),
             Some(document) => Ok(self.evaluated_in(alloc, document, tree)),
         }
     }
 
-    fn evaluated_in(
-        &self,
-        alloc: Global,
-        document: &Doc,
-        tree: &Expr,
-    ) -> Result<Value, EvalFault> {
+    fn evaluated_in(&self, alloc: Global, document: &Doc, tree: &Expr) -> Result<Value, EvalFault> {
         let mut world = PlainWorld { alloc, document };
-        let focus = Focus {
+        eval(
+            alloc,
+            tree,
+            self.focus(),
+            &self.context,
+            &self.supplies,
+            &mut world,
+        )
+    }
+
+    fn focus(&self) -> Focus {
+        Focus {
             node: self.node,
             position: None,
             size: None,
-        };
-        eval(alloc, tree, focus, &self.context, &self.supplies, &mut world)
+        }
+    }
+
+    // Keeps what is read for an expression.
+    fn keep(&mut self, alloc: Global, text: &str) -> Result<(), Fault> {
+        let tree = self.parsed(alloc, text).map_err(|_| Fault::NoCase)?;
+        let reads = self.read(alloc, &tree)?;
+        self.reads = reads;
+        Ok(())
+    }
+
+    fn read(&self, alloc: Global, tree: &Expr) -> Result<Vec<Read>, Fault> {
+        match &self.document {
+            None => Err(Fault::NoCase),
+            Some(document) => Ok(self.read_in(alloc, document, tree)),
+        }
+    }
+
+    fn read_in(&self, alloc: Global, document: &Doc, tree: &Expr) -> Vec<Read> {
+        let mut world = Logged::new(alloc, PlainWorld { alloc, document });
+        let _ = eval(
+            alloc,
+            tree,
+            self.focus(),
+            &self.context,
+            &self.supplies,
+            &mut world,
+        );
+        world.reads
+    }
+
+    // Asks again in the present document what was read.
+    fn ask_again(&self, alloc: Global, out: &mut Text) -> Result<(), Fault> {
+        match &self.document {
+            None => Err(Fault::NoCase),
+            Some(document) => {
+                let mut world = PlainWorld { alloc, document };
+                let mut steps = Steps { ran: 0, asked: 0 };
+                let change = holds(self.reads.as_slice(), &mut world, &mut steps)?;
+                push_held(out, self.reads.len(), steps.asked, change)?;
+                Ok(())
+            }
+        }
     }
 
     fn answer(&self, alloc: Global, out: &mut Text, text: &str) -> Result<(), Fault> {
@@ -187,7 +238,7 @@ impl Scene {
 fn push_refused(alloc: Global, out: &mut Text, fault: ParseFault) -> Result<(), Fault> {
     match fault.code() {
         None => Err(Fault::Memory),
-        Some(code) => crate::show::push_code(alloc, out, xt_base::Code::Static(code)),
+        Some(code) => push_code(alloc, out, Code::Static(code)),
     }
 }
 

@@ -1,6 +1,6 @@
 // Values and refusals in a form that reads well.
 
-use cases::{Fault, push_quoted, push_reference};
+use cases::{Fault, push_number, push_quoted, push_reference};
 use std::alloc::Global;
 use xt_ask::{EvalFault, Refusal};
 use xt_base::Code;
@@ -46,7 +46,11 @@ fn push_value(alloc: Global, out: &mut Text, value: Value) -> Result<(), Memory>
             out.push_str("text ")?;
             push_quoted(out, text.as_str())
         }
-        Value::Boolean(holds) => out.push_str(if holds { "boolean true" } else { "boolean false" }),
+        Value::Boolean(holds) => out.push_str(if holds {
+            "boolean true"
+        } else {
+            "boolean false"
+        }),
         Value::Nodes(nodes) => push_nodes(out, nodes.as_slice()),
         Value::Fragment(_) => out.push_str("fragment"),
     }
@@ -59,4 +63,24 @@ fn push_nodes(out: &mut Text, nodes: &[NodeRef]) -> Result<(), Memory> {
         push_reference(out, node)?;
     }
     Ok(())
+}
+
+/// Adds how many reads there are, how many were asked again, and which is the first that has changed.
+pub fn push_held(
+    out: &mut Text,
+    reads: usize,
+    asked: u64,
+    change: Option<usize>,
+) -> Result<(), Memory> {
+    out.push_str(": reads ")?;
+    push_number(out, reads as u64)?;
+    out.push_str(", asked ")?;
+    push_number(out, asked)?;
+    match change {
+        None => out.push_str(", all hold"),
+        Some(index) => {
+            out.push_str(", changed is ")?;
+            push_number(out, index as u64)
+        }
+    }
 }

@@ -13,8 +13,8 @@ pub step_turn : {supply : Supply NodeRef} {depth : ℕ} (predicates : List NodeR
     (done ns : List NodeRef) (n : NodeRef) {q : Program NodeRef (List NodeRef)} {s t : State NodeRef}
     → Continues supply depth (stepped predicates axis test done (n ∷ ns)) s q t
     → Continues supply depth
-      (then (Ask (Step n axis test) (λ a. Give (nodes_in a))) (λ ms. then (predicates ms) (λ os. stepped predicates axis test (done ++ os) ns)))
-      s q t
+    (then (Ask (Step n axis test) (λ a. Give (nodes_in a))) (λ ms. then (predicates ms) (λ os. stepped predicates axis test (done ++ os) ns)))
+    s q t
 unfolding then
 step_turn predicates axis test done ns n h = h
 

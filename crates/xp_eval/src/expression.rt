@@ -48,7 +48,15 @@ pub fn eval<W: World>(
         }
         Expr::Chain(first, links) => {
             let value = eval(alloc, first, focus, context, supplies, world)?;
-            chained(alloc, links.as_slice(), value, focus, context, supplies, world)
+            chained(
+                alloc,
+                links.as_slice(),
+                value,
+                focus,
+                context,
+                supplies,
+                world,
+            )
         }
         Expr::Negation(signs, operand) => {
             let value = eval(alloc, operand, focus, context, supplies, world)?;
@@ -57,7 +65,14 @@ pub fn eval<W: World>(
         Expr::Filter(base, predicates) => {
             let value = eval(alloc, base, focus, context, supplies, world)?;
             let nodes = to_nodes(value)?;
-            let kept = kept_by(alloc, predicates.as_slice(), nodes, context, supplies, world)?;
+            let kept = kept_by(
+                alloc,
+                predicates.as_slice(),
+                nodes,
+                context,
+                supplies,
+                world,
+            )?;
             Ok(Value::Nodes(kept))
         }
         Expr::Root => root(alloc, focus.node, world),
@@ -238,7 +253,14 @@ fn stepped<W: World>(
     for node in nodes {
         let test = copy_test(alloc, &step.test)?;
         let found = ask_nodes(alloc, world, *node, step.axis, test)?;
-        let more = kept_by(alloc, step.predicates.as_slice(), found, context, supplies, world)?;
+        let more = kept_by(
+            alloc,
+            step.predicates.as_slice(),
+            found,
+            context,
+            supplies,
+            world,
+        )?;
         done.extend_from_slice(more.as_slice())?;
     }
     Ok(done)

@@ -11,9 +11,7 @@ ghost use Rattle.xt_ask.specs.Runs.{Runs};
 ghost use Rattle.xp_eval.specs.View.{given_in};
 
 use std::alloc::Global;
-use xt_ask::{
-    Context, EvalFault, Given, Known, Supplies, Wanted, World, copy_name, copy_value,
-};
+use xt_ask::{Context, EvalFault, Given, Known, Supplies, Wanted, World, copy_name, copy_value};
 use xt_names::Expanded;
 use xt_text::Memory;
 use xt_tree::Value;

@@ -16,7 +16,7 @@ invariant-values-loop-argument g l =
     let c = context_of l.focus l.context in
     record {
       same :
-        Continues (at_hand (supplies_of l.supplies) l.context.depth) l.context.depth
+          Continues (at_hand (supplies_of l.supplies) l.context.depth) l.context.depth
           (values_of (exprs (map expr_of (drop l.argument-index l.arguments))) c (values_in l.done)) (state l.world)
           (values_of (exprs (map expr_of l.arguments)) c []) (state l.fn.world);
       name : g.W.World.name l.world ≡ g.W.World.name l.fn.world;
@@ -28,7 +28,7 @@ invariant-chained-loop-link g l =
     let c = context_of l.focus l.context in
     record {
       same :
-        Continues (at_hand (supplies_of l.supplies) l.context.depth) l.context.depth
+          Continues (at_hand (supplies_of l.supplies) l.context.depth) l.context.depth
           (chained (links (map link_of (drop l.link-index l.further))) c (value_of l.value)) (state l.world)
           (chained (links (map link_of l.further)) c (value_of l.fn.first)) (state l.fn.world);
       name : g.W.World.name l.world ≡ g.W.World.name l.fn.world;
@@ -40,7 +40,7 @@ invariant-kept-loop-i g l =
     let p = meaning (expr_of l.predicate) in
     record {
       same : (f : Focus) →
-        Continues (at_hand (supplies_of l.supplies) l.context.depth) l.context.depth
+          Continues (at_hand (supplies_of l.supplies) l.context.depth) l.context.depth
           (kept p (context_of f l.context) (length l.nodes) (l.i + 1) l.done.items (drop l.i l.nodes)) (state l.world)
           (kept p (context_of f l.context) (length l.nodes) 1 [] l.nodes) (state l.fn.world);
       name : g.W.World.name l.world ≡ g.W.World.name l.fn.world;
@@ -51,7 +51,7 @@ invariant-kept_by-loop-predicate g l =
     let state = g.W.World.state in
     record {
       same : (f : Focus) →
-        Continues (at_hand (supplies_of l.supplies) l.context.depth) l.context.depth
+          Continues (at_hand (supplies_of l.supplies) l.context.depth) l.context.depth
           (kept_by (exprs (map expr_of (drop l.predicate-index l.predicates))) (context_of f l.context) l.rest.items) (state l.world)
           (kept_by (exprs (map expr_of l.predicates)) (context_of f l.context) l.fn.nodes.items) (state l.fn.world);
       name : g.W.World.name l.world ≡ g.W.World.name l.fn.world;
@@ -62,7 +62,7 @@ invariant-along-loop-step g l =
     let state = g.W.World.state in
     record {
       same : (f : Focus) →
-        Continues (at_hand (supplies_of l.supplies) l.context.depth) l.context.depth
+          Continues (at_hand (supplies_of l.supplies) l.context.depth) l.context.depth
           (along (steps (map step_of (drop l.step-index l.route))) (context_of f l.context) l.at.items) (state l.world)
           (along (steps (map step_of l.route)) (context_of f l.context) l.fn.nodes.items) (state l.fn.world);
       name : g.W.World.name l.world ≡ g.W.World.name l.fn.world;
@@ -74,7 +74,7 @@ invariant-stepped-loop-node g l =
     let s = step_of l.step in
     record {
       same : (f : Focus) →
-        Continues (at_hand (supplies_of l.supplies) l.context.depth) l.context.depth
+          Continues (at_hand (supplies_of l.supplies) l.context.depth) l.context.depth
           (stepped (kept_by s.predicates (context_of f l.context)) s.axis s.test l.done.items (drop l.node-index l.nodes)) (state l.world)
           (stepped (kept_by s.predicates (context_of f l.context)) s.axis s.test [] l.nodes) (state l.fn.world);
       name : g.W.World.name l.world ≡ g.W.World.name l.fn.world;
