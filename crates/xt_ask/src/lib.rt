@@ -15,6 +15,7 @@ mod copies;
 mod fault;
 mod hold;
 mod logged;
+mod pieces;
 mod question;
 mod read;
 mod streams;
