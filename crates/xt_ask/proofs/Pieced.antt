@@ -24,61 +24,61 @@ pieces-followed (stream.Message content rest) t = around Message (pieces_of cont
 pieces-followed (stream.Hole rest) t = ap (λ ps. Hole ∷ ps) (pieces-followed rest t)
 
 -- read from the right: an end opens a stream, and what an item begins with closes its content
-closed : (Stream → Stream → Stream) → List Stream → List Stream
+abbrev closed : (Stream → Stream → Stream) → List Stream → List Stream
 closed item [] = []
 closed item (content ∷ []) = []
 closed item (content ∷ rest ∷ behind) = item content rest ∷ behind
 
-before : (Stream → Stream) → List Stream → List Stream
+abbrev before : (Stream → Stream) → List Stream → List Stream
 before item [] = []
 before item (rest ∷ behind) = item rest ∷ behind
 
-read_step : Piece → List Stream → List Stream
-read_step (Element name uri namespaces) open = closed (stream.Element name uri namespaces) open
-read_step Nameless open = closed stream.Nameless open
-read_step (Attribute name uri) open = closed (stream.Attribute name uri) open
-read_step (Namespace prefix uri) open = before (stream.Namespace prefix uri) open
-read_step (Text text) open = before (stream.Text text) open
-read_step Comment open = closed stream.Comment open
-read_step (Instruction target) open = closed (stream.Instruction target) open
-read_step Message open = closed stream.Message open
-read_step Hole open = before stream.Hole open
-read_step End open = stream.Ended ∷ open
+abbrev read_step : Piece → List Stream → List Stream
+read_step (Element name uri namespaces) opened = closed (stream.Element name uri namespaces) opened
+read_step Nameless opened = closed stream.Nameless opened
+read_step (Attribute name uri) opened = closed (stream.Attribute name uri) opened
+read_step (Namespace prefix uri) opened = before (stream.Namespace prefix uri) opened
+read_step (Text text) opened = before (stream.Text text) opened
+read_step Comment opened = closed stream.Comment opened
+read_step (Instruction target) opened = closed (stream.Instruction target) opened
+read_step Message opened = closed stream.Message opened
+read_step Hole opened = before stream.Hole opened
+read_step End opened = stream.Ended ∷ opened
 
-read : List Piece → List Stream → List Stream
-read [] open = open
-read (p ∷ ps) open = read_step p (read ps open)
+abbrev read : List Piece → List Stream → List Stream
+read [] opened = opened
+read (p ∷ ps) opened = read_step p (read ps opened)
 
-read-append : (ps qs : List Piece) (open : List Stream) → read (ps ++ qs) open ≡ read ps (read qs open)
-read-append [] qs open = refl
-read-append (p ∷ ps) qs open = ap (read_step p) (read-append ps qs open)
+read-append : (ps qs : List Piece) (opened : List Stream) → read (ps ++ qs) opened ≡ read ps (read qs opened)
+read-append [] qs opened = refl
+read-append (p ∷ ps) qs opened = ap (read_step p) (read-append ps qs opened)
 
 -- a content with its end, and what stands behind it
-read_content : (content rest : Stream) (x : Stream) (open : List Stream)
-    → ((y : Stream) (o : List Stream) → read (pieces_of content) (y ∷ o) ≡ followed content y ∷ o) → read (pieces_of rest) (x ∷ open) ≡ followed rest x ∷ open
-    → read (pieces_of content ++ End ∷ pieces_of rest) (x ∷ open) ≡ content ∷ followed rest x ∷ open
-read_content content rest x open h k =
-    read-append (pieces_of content) (End ∷ pieces_of rest) (x ∷ open) ∙ ap (λ o. read (pieces_of content) (stream.Ended ∷ o)) k
-    ∙ h stream.Ended (followed rest x ∷ open) ∙ ap (λ c. c ∷ followed rest x ∷ open) (followed-Ended content)
+read_content : (content rest : Stream) (x : Stream) (opened : List Stream)
+    → ((y : Stream) (o : List Stream) → read (pieces_of content) (y ∷ o) ≡ followed content y ∷ o) → read (pieces_of rest) (x ∷ opened) ≡ followed rest x ∷ opened
+    → read (pieces_of content ++ End ∷ pieces_of rest) (x ∷ opened) ≡ content ∷ followed rest x ∷ opened
+read_content content rest x opened h k =
+    read-append (pieces_of content) (End ∷ pieces_of rest) (x ∷ opened) ∙ ap (λ o. read (pieces_of content) (stream.Ended ∷ o)) k
+    ∙ h stream.Ended (followed rest x ∷ opened) ∙ ap (λ c. c ∷ followed rest x ∷ opened) (followed-Ended content)
 
-read_back : (s x : Stream) (open : List Stream) → read (pieces_of s) (x ∷ open) ≡ followed s x ∷ open
-read_back stream.Ended x open = refl
-read_back (stream.Element name uri namespaces content rest) x open =
-    ap (closed (stream.Element name uri namespaces)) (read_content content rest x open (read_back content) (read_back rest x open))
-read_back (stream.Nameless content rest) x open = ap (closed stream.Nameless) (read_content content rest x open (read_back content) (read_back rest x open))
-read_back (stream.Attribute name uri content rest) x open =
-    ap (closed (stream.Attribute name uri)) (read_content content rest x open (read_back content) (read_back rest x open))
-read_back (stream.Namespace prefix uri rest) x open = ap (before (stream.Namespace prefix uri)) (read_back rest x open)
-read_back (stream.Text text rest) x open = ap (before (stream.Text text)) (read_back rest x open)
-read_back (stream.Comment content rest) x open = ap (closed stream.Comment) (read_content content rest x open (read_back content) (read_back rest x open))
-read_back (stream.Instruction target content rest) x open =
-    ap (closed (stream.Instruction target)) (read_content content rest x open (read_back content) (read_back rest x open))
-read_back (stream.Message content rest) x open = ap (closed stream.Message) (read_content content rest x open (read_back content) (read_back rest x open))
-read_back (stream.Hole rest) x open = ap (before stream.Hole) (read_back rest x open)
+read_back : (s x : Stream) (opened : List Stream) → read (pieces_of s) (x ∷ opened) ≡ followed s x ∷ opened
+read_back stream.Ended x opened = refl
+read_back (stream.Element name uri namespaces content rest) x opened =
+    ap (closed (stream.Element name uri namespaces)) (read_content content rest x opened (read_back content) (read_back rest x opened))
+read_back (stream.Nameless content rest) x opened = ap (closed stream.Nameless) (read_content content rest x opened (read_back content) (read_back rest x opened))
+read_back (stream.Attribute name uri content rest) x opened =
+    ap (closed (stream.Attribute name uri)) (read_content content rest x opened (read_back content) (read_back rest x opened))
+read_back (stream.Namespace prefix uri rest) x opened = ap (before (stream.Namespace prefix uri)) (read_back rest x opened)
+read_back (stream.Text text rest) x opened = ap (before (stream.Text text)) (read_back rest x opened)
+read_back (stream.Comment content rest) x opened = ap (closed stream.Comment) (read_content content rest x opened (read_back content) (read_back rest x opened))
+read_back (stream.Instruction target content rest) x opened =
+    ap (closed (stream.Instruction target)) (read_content content rest x opened (read_back content) (read_back rest x opened))
+read_back (stream.Message content rest) x opened = ap (closed stream.Message) (read_content content rest x opened (read_back content) (read_back rest x opened))
+read_back (stream.Hole rest) x opened = ap (before stream.Hole) (read_back rest x opened)
 
-first : List Stream → Stream
+abbrev first : List Stream → Stream
 first [] = stream.Ended
-first (s ∷ open) = s
+first (s ∷ opened) = s
 
 pub one_stream : (s t : Stream) → pieces_of s ≡ pieces_of t → s ≡ t
 one_stream s t e =

@@ -111,7 +111,7 @@ fn push_content<'a>(
     content: &'a Items,
     pieces: &mut Vec<Piece<'a>>,
 ) -> Result<(), Memory>
-    ensures { OnOk result (map piece_of pieces.new.items ≡ map piece_of pieces.old.items ++ piece_of first ∷ pieces_of (stream_of content.now) ++ End ∷ []) }
+    ensures { OnOk result (map piece_of pieces.new.items ≡ map piece_of pieces.old.items ++ piece_of first.entry ∷ pieces_of (stream_of content.now) ++ End ∷ []) }
 {
     pieces.push(first)?;
     push_pieces(content, pieces)?;

@@ -3,7 +3,7 @@ use Rattle.spec_meaning.specs.Stream.{all_followed}
 use Rattle.xt_tree.specs.StreamView.{single_of, stream_of}
 use Rattle.xt_ask.specs.Piece.{pieces_of}
 use Rattle.xt_ask.specs.View.{piece_of}
-use Rattle.xt_ask.proofs.pieces.+push_pieces.Given as goal
+use Rattle.xt_ask.proofs.pieces.+pieces.Given as goal
 
 -- the pieces of the items ahead are left
 abbrev pub invariant-push_pieces-loop-item : goal.invariant-push_pieces-loop-item
