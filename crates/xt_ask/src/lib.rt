@@ -18,7 +18,6 @@ mod logged;
 mod pieces;
 mod question;
 mod read;
-mod streams;
 mod world;
 
 pub use answer::{Answer, NamedSets, NamedTemplate, ResolvedUnit};

@@ -88,7 +88,11 @@ fn push_item<'a>(item: &'a Item, pieces: &mut Vec<Piece<'a>>) -> Result<(), Memo
             uri,
             namespaces,
             content,
-        } => push_content(Piece::Element(name, uri, namespaces.as_slice()), content, pieces),
+        } => push_content(
+            Piece::Element(name, uri, namespaces.as_slice()),
+            content,
+            pieces,
+        ),
         Item::Nameless { content } => push_content(Piece::Nameless, content, pieces),
         Item::Attribute { name, uri, content } => {
             push_content(Piece::Attribute(name, uri), content, pieces)
