@@ -15,9 +15,9 @@ mod copies;
 mod fault;
 mod hold;
 mod logged;
+mod pieces;
 mod question;
 mod read;
-mod streams;
 mod world;
 
 pub use answer::{Answer, NamedSets, NamedTemplate, ResolvedUnit};
