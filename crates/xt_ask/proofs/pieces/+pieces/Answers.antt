@@ -1,4 +1,4 @@
-use Rattle.std.proofs.Common.{◌≡◌, ◌+◌, ◌++◌, ◌∙◌, sym, ap, drop, map, arith}
+use Rattle.std.proofs.Common.{◌+◌, ◌++◌, ◌∙◌, sym, ap, drop, map, arith}
 use Rattle.std.proofs.lemmas.List.{at_drop_more, append_assoc}
 use Rattle.spec_meaning.specs.Stream.{all_followed}
 use Rattle.xt_tree.specs.StreamView.{single_of}
