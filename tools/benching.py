@@ -54,7 +54,7 @@ def main(benches):
         sys.exit(f'no bench {unknown[0]}; there are {", ".join(known)}')
     if not is_current():
         subprocess.run(['rt', 'run', '--', 'build', 'wide', '1'], cwd=CRATE, check=True)
-    print(f'{"bench":25} {"size":>6} {"seconds":>16} {"MiB":>13} {"a second":>9} {"ratio":>6}  outcome')
+    print(f'{"bench":27} {"size":>6} {"seconds":>16} {"MiB":>13} {"a second":>9} {"ratio":>6}  outcome')
     is_fine = True
     for name, words, size in benches:
         if wanted and name not in wanted:
@@ -63,6 +63,6 @@ def main(benches):
         high, high_memory, outcome = best(words, 2 * size)
         ratio = high / low
         is_fine = is_fine and ratio <= GREATEST_RATIO
-        print(f'{name:25} {size:6} {low:7.3f} {high:8.3f} {low_memory:6.0f} {high_memory:6.0f}'
+        print(f'{name:27} {size:6} {low:7.3f} {high:8.3f} {low_memory:6.0f} {high_memory:6.0f}'
               f' {2 * size / high:9.0f} {ratio:6.2f}  {outcome.split(": ")[-1]}', flush=True)
     sys.exit(0 if is_fine else 1)

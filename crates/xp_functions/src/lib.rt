@@ -7,8 +7,18 @@
 //! ```
 #![tactic(auto)]
 
+mod argument;
 mod call;
+mod context;
+mod key;
+mod language;
+mod name;
+mod nodes;
+mod substring;
 mod table;
+mod text;
+mod texts;
+mod value;
 
 pub use call::apply;
 pub use spec_meaning::Function;

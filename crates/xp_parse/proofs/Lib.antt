@@ -11,3 +11,6 @@ pub mod Steps
 pub mod Calls
 pub mod Texts
 pub mod Views
+pub mod Fronts
+pub mod Cuts
+pub mod Names

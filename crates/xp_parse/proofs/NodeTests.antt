@@ -18,13 +18,15 @@ any_only g.any_name = (refl, refl)
 pub any_read : {s : Scope} {ts : List Token} → Read (ReadsTest s) 11 (Star ∷ ts) AnyName ts
 any_read = record { reads = g.any_name; only = λ y ws p h. any_only p }
 
-in_namespace_only : {s : Scope} {ts ws : List Token} {p : List ℕ} {y : Test} → ReadsTest s (AnyOf p ∷ ts) y ws → (InNamespace (uri_of s (Some p)) ≡ y) × (ts ≡ ws)
+in_namespace_only : {s : Scope} {ts ws : List Token} {p : List ℕ} {y : Test} → ReadsTest s (AnyOf p ∷ ts) y ws
+    → (InNamespace (uri_of s (Some p)) ≡ y) × (ts ≡ ws)
 in_namespace_only g.in_namespace = (refl, refl)
 
 pub in_namespace_read : {s : Scope} {ts : List Token} {p : List ℕ} → Read (ReadsTest s) 11 (AnyOf p ∷ ts) (InNamespace (uri_of s (Some p))) ts
 in_namespace_read = record { reads = g.in_namespace; only = λ y ws p h. in_namespace_only p }
 
-named_only : {s : Scope} {ts ws : List Token} {q : QName} {y : Test} → type_of q ≡ None → ReadsTest s (Name q ∷ ts) y ws → (Named (expanded s q) ≡ y) × (ts ≡ ws)
+named_only : {s : Scope} {ts ws : List Token} {q : QName} {y : Test} → type_of q ≡ None → ReadsTest s (Name q ∷ ts) y ws
+    → (Named (expanded s q) ≡ y) × (ts ≡ ws)
 named_only n g.named = (refl, refl)
 named_only n (g.of_type e) = cc
 named_only n (g.instruction e) = cc
@@ -32,7 +34,8 @@ named_only n (g.instruction e) = cc
 pub named_read : {s : Scope} {ts : List Token} {q : QName} → type_of q ≡ None → Read (ReadsTest s) 11 (Name q ∷ ts) (Named (expanded s q)) ts
 named_read n = record { reads = g.named; only = λ y ws p h. named_only n p }
 
-named_alone : {s : Scope} {ts ws : List Token} {q : QName} {y : Test} → IsNotNext ts Open → ReadsTest s (Name q ∷ ts) y ws → (Named (expanded s q) ≡ y) × (ts ≡ ws)
+named_alone : {s : Scope} {ts ws : List Token} {q : QName} {y : Test} → IsNotNext ts Open → ReadsTest s (Name q ∷ ts) y ws
+    → (Named (expanded s q) ≡ y) × (ts ≡ ws)
 named_alone n g.named = (refl, refl)
 named_alone n (g.of_type e) = absurd (n.different _ refl)
 named_alone n (g.instruction e) = absurd (n.different _ refl)
@@ -40,18 +43,22 @@ named_alone n (g.instruction e) = absurd (n.different _ refl)
 pub named_read_alone : {s : Scope} {ts : List Token} {q : QName} → IsNotNext ts Open → Read (ReadsTest s) 11 (Name q ∷ ts) (Named (expanded s q)) ts
 named_read_alone n = record { reads = g.named; only = λ y ws p h. named_alone n p }
 
-of_type_only : {s : Scope} {ts ws : List Token} {q : QName} {t : NodeType} {y : Test} → type_of q ≡ Some t → ReadsTest s (Name q ∷ Open ∷ Close ∷ ts) y ws → head_rank ws < 11 → (OfType t ≡ y) × (ts ≡ ws)
+of_type_only : {s : Scope} {ts ws : List Token} {q : QName} {t : NodeType} {y : Test} → type_of q ≡ Some t → ReadsTest s (Name q ∷ Open ∷ Close ∷ ts) y ws
+    → head_rank ws < 11 → (OfType t ≡ y) × (ts ≡ ws)
 of_type_only n g.named h = absurd (omega arith)
 of_type_only n (g.of_type e) h = (cc, refl)
 
-pub of_type_read : {s : Scope} {ts : List Token} {q : QName} {t : NodeType} → type_of q ≡ Some t → Read (ReadsTest s) 11 (Name q ∷ Open ∷ Close ∷ ts) (OfType t) ts
+pub of_type_read : {s : Scope} {ts : List Token} {q : QName} {t : NodeType} → type_of q ≡ Some t
+    → Read (ReadsTest s) 11 (Name q ∷ Open ∷ Close ∷ ts) (OfType t) ts
 of_type_read n = record { reads = g.of_type n; only = λ y ws p h. of_type_only n p h }
 
-instruction_only : {s : Scope} {ts ws : List Token} {q : QName} {x : List ℕ} {y : Test} → ReadsTest s (Name q ∷ Open ∷ Literal x ∷ Close ∷ ts) y ws → head_rank ws < 11 → (Instruction x ≡ y) × (ts ≡ ws)
+instruction_only : {s : Scope} {ts ws : List Token} {q : QName} {x : List ℕ} {y : Test} → ReadsTest s (Name q ∷ Open ∷ Literal x ∷ Close ∷ ts) y ws
+    → head_rank ws < 11 → (Instruction x ≡ y) × (ts ≡ ws)
 instruction_only g.named h = absurd (omega arith)
 instruction_only (g.instruction e) h = (refl, refl)
 
-pub instruction_read : {s : Scope} {ts : List Token} {q : QName} {x : List ℕ} → type_of q ≡ Some ProcessingInstruction → Read (ReadsTest s) 11 (Name q ∷ Open ∷ Literal x ∷ Close ∷ ts) (Instruction x) ts
+pub instruction_read : {s : Scope} {ts : List Token} {q : QName} {x : List ℕ} → type_of q ≡ Some ProcessingInstruction
+    → Read (ReadsTest s) 11 (Name q ∷ Open ∷ Literal x ∷ Close ∷ ts) (Instruction x) ts
 instruction_read n = record { reads = g.instruction n; only = λ y ws p h. instruction_only p h }
 
 test_head : {s : Scope} {ts us : List Token} {t : Test} → ReadsTest s ts t us → begins_test ts ≡ true

@@ -15,31 +15,38 @@ use Rattle.xp_parse.specs.Reading.{Read, Nothing, IsNotNext, NoOperator}
 use Rattle.xp_parse.proofs.Lists.{Continues, more}
 
 -- chains of operators
-links_back : {s : Scope} {l a : Level} {ts us vs : List Token} {o : Operator} {e : Expr} {xs : List Link} → Chain l a → level_of o ≡ l → Read (Reads s a) (rank a) ts e us
-    → ReadsLinks s l a (Binary o ∷ ts) xs vs → head_rank vs < rank l → (ys : List Link) × (xs ≡ record { operator = o; operand = e } ∷ ys) × ReadsLinks s l a us ys vs
+links_back : {s : Scope} {l a : Level} {ts us vs : List Token} {o : Operator} {e : Expr} {xs : List Link} → Chain l a → level_of o ≡ l
+    → Read (Reads s a) (rank a) ts e us
+    → ReadsLinks s l a (Binary o ∷ ts) xs vs → head_rank vs < rank l
+    → (ys : List Link) × (xs ≡ record { operator = o; operand = e } ∷ ys) × ReadsLinks s l a us ys vs
 links_back c h r g.no_link q = absurd (omega (arith, ap rank h))
 links_back {s = s} {l = l} {a = a} {vs = vs} {o = o} c h r (g.further {us = ws} {e = f} {ls = ls} i p x) q =
     let d = r.only f ws p (links_stop c x q) in
     let link : Expr → List Link = λ e. record { operator = o; operand = e } ∷ ls in
     (ls, ap link (sym d.0), subst (λ (zs : List Token). ReadsLinks s l a zs ls vs) (sym d.1) x)
 
-pub link_more : {s : Scope} {l a : Level} {from ts us : List Token} {done : List Link} {o : Operator} {e : Expr} → Chain l a → level_of o ≡ l → Read (Reads s a) (rank a) ts e us
-    → Continues (ReadsLinks s l a) (rank l) from done (Binary o ∷ ts) → Continues (ReadsLinks s l a) (rank l) from (done ++ record { operator = o; operand = e } ∷ []) us
+pub link_more : {s : Scope} {l a : Level} {from ts us : List Token} {done : List Link} {o : Operator} {e : Expr} → Chain l a → level_of o ≡ l
+    → Read (Reads s a) (rank a) ts e us
+    → Continues (ReadsLinks s l a) (rank l) from done (Binary o ∷ ts)
+    → Continues (ReadsLinks s l a) (rank l) from (done ++ record { operator = o; operand = e } ∷ []) us
 link_more {s = s} {l = l} {a = a} {from = from} {ts = ts} {us = us} {done = done} {o = o} c h r k =
     more (ReadsLinks s l a) (rank l) from (Binary o ∷ ts) us done _ k (λ xs vs p. g.further h r.reads p) (λ xs vs p q. links_back c h r p q)
 
-links_none : {s : Scope} {l a : Level} {ts vs : List Token} {o : Operator} {xs : List Link} → Chain l a → level_of o ≡ l → Nothing (Reads s a) (rank a) ts → ReadsLinks s l a (Binary o ∷ ts) xs vs → head_rank vs < rank l → ⊥
+links_none : {s : Scope} {l a : Level} {ts vs : List Token} {o : Operator} {xs : List Link} → Chain l a → level_of o ≡ l → Nothing (Reads s a) (rank a) ts
+    → ReadsLinks s l a (Binary o ∷ ts) xs vs → head_rank vs < rank l → ⊥
 links_none c h n g.no_link q = omega (arith, ap rank h)
 links_none c h n (g.further {us = ws} {e = f} i p x) q = n.none f ws p (links_stop c x q)
 
-pub link_fail : {s : Scope} {l a : Level} {ts : List Token} {o : Operator} → Chain l a → level_of o ≡ l → Nothing (Reads s a) (rank a) ts → Nothing (ReadsLinks s l a) (rank l) (Binary o ∷ ts)
+pub link_fail : {s : Scope} {l a : Level} {ts : List Token} {o : Operator} → Chain l a → level_of o ≡ l → Nothing (Reads s a) (rank a) ts
+    → Nothing (ReadsLinks s l a) (rank l) (Binary o ∷ ts)
 link_fail c h n = record { none = λ y vs p q. links_none c h n p q }
 
 pub links_end : {s : Scope} {l a : Level} {ts vs : List Token} {xs : List Link} → NoOperator l ts → ReadsLinks s l a ts xs vs → (xs ≡ []) × (vs ≡ ts)
 links_end n g.no_link = (refl, refl)
 links_end n (g.further h r x) = absurd (n.none _ _ refl h)
 
-chain_only : {s : Scope} {l a : Level} {ts us vs ws : List Token} {e y : Expr} {ls : List Link} → Chain l a → Read (Reads s a) (rank a) ts e us → Read (ReadsLinks s l a) (rank l) us ls vs
+chain_only : {s : Scope} {l a : Level} {ts us vs ws : List Token} {e y : Expr} {ls : List Link} → Chain l a → Read (Reads s a) (rank a) ts e us
+    → Read (ReadsLinks s l a) (rank l) us ls vs
     → Reads s l ts y ws → head_rank ws < rank l → (chained e ls ≡ y) × (vs ≡ ws)
 chain_only {s = s} {l = l} {a = a} {ts = ts} {ls = ls} c r x (g.joined {us = zs} {vs = ws} {e = f} {ls = ms} d p z) h =
     let o = sym (chain_operand c d) in
@@ -51,10 +58,12 @@ chain_only {s = s} {l = l} {a = a} {ts = ts} {ls = ls} c r x (g.joined {us = zs}
 chain_only c r x (g.unary n p) h = elim c [ ]
 chain_only c r x (g.path p) h = elim c [ ]
 
-pub chain_read : {s : Scope} {l a : Level} {ts us vs : List Token} {e : Expr} {ls : List Link} → Chain l a → Read (Reads s a) (rank a) ts e us → Read (ReadsLinks s l a) (rank l) us ls vs → Read (Reads s l) (rank l) ts (chained e ls) vs
+pub chain_read : {s : Scope} {l a : Level} {ts us vs : List Token} {e : Expr} {ls : List Link} → Chain l a → Read (Reads s a) (rank a) ts e us
+    → Read (ReadsLinks s l a) (rank l) us ls vs → Read (Reads s l) (rank l) ts (chained e ls) vs
 chain_read c r x = record { reads = g.joined c r.reads x.reads; only = λ y ws p h. chain_only c r x p h }
 
-chain_none : {s : Scope} {l a : Level} {ts ws : List Token} {y : Expr} → Chain l a → Nothing (Reads s a) (rank a) ts → Reads s l ts y ws → head_rank ws < rank l → ⊥
+chain_none : {s : Scope} {l a : Level} {ts ws : List Token} {y : Expr} → Chain l a → Nothing (Reads s a) (rank a) ts → Reads s l ts y ws
+    → head_rank ws < rank l → ⊥
 chain_none {s = s} {l = l} {ts = ts} c n (g.joined {us = zs} {vs = ws} {e = f} {ls = ms} d p z) h =
     let o = sym (chain_operand c d) in
     n.none f zs (subst (λ (b : Level). Reads s b ts f zs) o p) (links_stop c (subst (λ (b : Level). ReadsLinks s l b zs ms ws) o z) h)
@@ -64,7 +73,8 @@ chain_none c n (g.path p) h = elim c [ ]
 pub chain_fail : {s : Scope} {l a : Level} {ts : List Token} → Chain l a → Nothing (Reads s a) (rank a) ts → Nothing (Reads s l) (rank l) ts
 chain_fail c n = record { none = λ y ws p h. chain_none c n p h }
 
-chain_none_later : {s : Scope} {l a : Level} {ts us ws : List Token} {e y : Expr} → Chain l a → Read (Reads s a) (rank a) ts e us → Nothing (ReadsLinks s l a) (rank l) us → Reads s l ts y ws → head_rank ws < rank l → ⊥
+chain_none_later : {s : Scope} {l a : Level} {ts us ws : List Token} {e y : Expr} → Chain l a → Read (Reads s a) (rank a) ts e us
+    → Nothing (ReadsLinks s l a) (rank l) us → Reads s l ts y ws → head_rank ws < rank l → ⊥
 chain_none_later {s = s} {l = l} {a = a} {ts = ts} c r n (g.joined {us = zs} {vs = ws} {e = f} {ls = ms} d p z) h =
     let o = sym (chain_operand c d) in
     let z1 = subst (λ (b : Level). ReadsLinks s l b zs ms ws) o z in
@@ -73,7 +83,8 @@ chain_none_later {s = s} {l = l} {a = a} {ts = ts} c r n (g.joined {us = zs} {vs
 chain_none_later c r n (g.unary m p) h = elim c [ ]
 chain_none_later c r n (g.path p) h = elim c [ ]
 
-pub chain_fail_later : {s : Scope} {l a : Level} {ts us : List Token} {e : Expr} → Chain l a → Read (Reads s a) (rank a) ts e us → Nothing (ReadsLinks s l a) (rank l) us → Nothing (Reads s l) (rank l) ts
+pub chain_fail_later : {s : Scope} {l a : Level} {ts us : List Token} {e : Expr} → Chain l a → Read (Reads s a) (rank a) ts e us
+    → Nothing (ReadsLinks s l a) (rank l) us → Nothing (Reads s l) (rank l) ts
 chain_fail_later c r n = record { none = λ y ws p h. chain_none_later c r n p h }
 
 -- signs
@@ -87,7 +98,8 @@ signs_to g.no_sign x (g.sign s) h = absurd (x.different _ refl)
 signs_to (g.sign r) x g.no_sign h = absurd (omega arith)
 signs_to (g.sign r) x (g.sign s) h = let i = signs_to r x s h in (ap suc i.0, i.1)
 
-unary_only : {s : Scope} {ts us vs ws : List Token} {n : ℕ} {e y : Expr} → Signs ts n us → IsNotNext us (Binary Subtract) → Read (Reads s UnionExpr) 8 us e vs → Reads s UnaryExpr ts y ws → head_rank ws < 7
+unary_only : {s : Scope} {ts us vs ws : List Token} {n : ℕ} {e y : Expr} → Signs ts n us → IsNotNext us (Binary Subtract) → Read (Reads s UnionExpr) 8 us e vs
+    → Reads s UnaryExpr ts y ws → head_rank ws < 7
     → (negated n e ≡ y) × (vs ≡ ws)
 unary_only n x r (g.joined c p z) h = elim c [ ]
 unary_only {s = s} {e = e} n x r (g.unary {vs = ws} {n = m} {e = f} k p) h =
@@ -95,16 +107,19 @@ unary_only {s = s} {e = e} n x r (g.unary {vs = ws} {n = m} {e = f} k p) h =
     let j = r.only f ws (subst (λ (ts : List Token). Reads s UnionExpr ts f ws) (sym i.1) p) (omega arith) in
     (ap (λ (q : ℕ). negated q e) i.0 ∙ ap (λ (q : Expr). negated m q) j.0, j.1)
 
-pub unary_read : {s : Scope} {ts us vs : List Token} {n : ℕ} {e : Expr} → Signs ts n us → IsNotNext us (Binary Subtract) → Read (Reads s UnionExpr) 8 us e vs → Read (Reads s UnaryExpr) 7 ts (negated n e) vs
+pub unary_read : {s : Scope} {ts us vs : List Token} {n : ℕ} {e : Expr} → Signs ts n us → IsNotNext us (Binary Subtract) → Read (Reads s UnionExpr) 8 us e vs
+    → Read (Reads s UnaryExpr) 7 ts (negated n e) vs
 unary_read n x r = record { reads = g.unary n r.reads; only = λ y ws p h. unary_only n x r p h }
 
-unary_none : {s : Scope} {ts us ws : List Token} {n : ℕ} {y : Expr} → Signs ts n us → IsNotNext us (Binary Subtract) → Nothing (Reads s UnionExpr) 8 us → Reads s UnaryExpr ts y ws → head_rank ws < 7 → ⊥
+unary_none : {s : Scope} {ts us ws : List Token} {n : ℕ} {y : Expr} → Signs ts n us → IsNotNext us (Binary Subtract) → Nothing (Reads s UnionExpr) 8 us
+    → Reads s UnaryExpr ts y ws → head_rank ws < 7 → ⊥
 unary_none n x r (g.joined c p z) h = elim c [ ]
 unary_none {s = s} n x r (g.unary {vs = ws} {e = f} k p) h =
     let i = signs_to n x k (begin_union p) in
     r.none f ws (subst (λ (ts : List Token). Reads s UnionExpr ts f ws) (sym i.1) p) (omega arith)
 
-pub unary_fail : {s : Scope} {ts us : List Token} {n : ℕ} → Signs ts n us → IsNotNext us (Binary Subtract) → Nothing (Reads s UnionExpr) 8 us → Nothing (Reads s UnaryExpr) 7 ts
+pub unary_fail : {s : Scope} {ts us : List Token} {n : ℕ} → Signs ts n us → IsNotNext us (Binary Subtract) → Nothing (Reads s UnionExpr) 8 us
+    → Nothing (Reads s UnaryExpr) 7 ts
 unary_fail n x r = record { none = λ y ws p h. unary_none n x r p h }
 
 -- paths

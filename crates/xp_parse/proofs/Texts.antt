@@ -32,13 +32,16 @@ pub deep_none : (d : ℕ) → is_deep d [] ≡ false
 unfolding is_deep
 deep_none d = refl
 
-at_tokens : (scope : Scope) (cut : Option (List Token)) (ts : List Token) (r : Result tree.Expr ExpressionRefusal) → cut ≡ Some ts → Gives scope ts r → elim cut as (λ _. Type 0) [ None ↦ Uncut r | Some us ↦ Gives scope us r ]
+at_tokens : (scope : Scope) (cut : Option (List Token)) (ts : List Token) (r : Result tree.Expr ExpressionRefusal) → cut ≡ Some ts → Gives scope ts r
+    → elim cut as (λ _. Type 0) [ None ↦ Uncut r | Some us ↦ Gives scope us r ]
 at_tokens scope cut ts r e h = subst (λ (o : Option (List Token)). elim o as (λ _. Type 0) [ None ↦ Uncut r | Some us ↦ Gives scope us r ]) (sym e) h
 
-pub parsed_some : (scope : Scope) (text : List ℕ) (ts : List Token) (result : Result Expr ParseFault) → tokens text ≡ Some ts → Given scope ts result → Parsed scope text result
+pub parsed_some : (scope : Scope) (text : List ℕ) (ts : List Token) (result : Result Expr ParseFault) → tokens text ≡ Some ts → Given scope ts result
+    → Parsed scope text result
 parsed_some scope text ts (Ok e) i h = at_tokens scope (tokens text) ts (Ok (expr_of e)) i h
 parsed_some scope text ts (Err Memory) i h = tt
 parsed_some scope text ts (Err (Refused why)) i h = at_tokens scope (tokens text) ts (Err why) i h
 
 pub parsed_none : (scope : Scope) (text : List ℕ) → tokens text ≡ None → Parsed scope text (Err (Refused Syntax))
-parsed_none scope text e = subst (λ (o : Option (List Token)). elim o as (λ _. Type 0) [ None ↦ Uncut (Err Syntax) | Some us ↦ Gives scope us (Err Syntax) ]) (sym e) tt
+parsed_none scope text e = subst (λ (o : Option (List Token)). elim o as (λ _. Type 0) [ None ↦ Uncut (Err Syntax) | Some us ↦ Gives scope us (Err Syntax) ])
+    (sym e) tt

@@ -31,5 +31,6 @@ view-Here = search (rules, the_lemmas)
 pub view-Link : (o : Operator) (e : Expr) → link_of (roll-Link (record { operator = o; operand = e })) ≡ record { operator = o; operand = expr_of e }
 view-Link o e = search (rules, the_lemmas)
 
-pub view-Step : (a : Axis) (t : Test) (v : Vec Expr Global) → step_of (roll-Step (record { axis = a; test = t; predicates = v })) ≡ record { axis = a; test = test_of t; predicates = tree.exprs (map expr_of v.items) }
+pub view-Step : (a : Axis) (t : Test) (v : Vec Expr Global)
+    → step_of (roll-Step (record { axis = a; test = t; predicates = v })) ≡ record { axis = a; test = test_of t; predicates = tree.exprs (map expr_of v.items) }
 view-Step a t v = search (rules, the_lemmas)

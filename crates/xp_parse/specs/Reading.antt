@@ -1,5 +1,6 @@
 -- What functions that read tokens answer.
 use Rattle.std.specs.Prelude.{◌≡◌, ℕ, ◌+◌, ◌<◌, Bool, true, false, not, is_some, List, ◌∷◌, ◌++◌, length, drop, map, None, Some, Result, Ok, Err}
+use Rattle.std.specs.Str.{chars}
 use Rattle.spec_expression.specs.declared.Operator.{Operator}
 use Rattle.spec_expression.specs.declared.Level.{Level}
 use Rattle.spec_expression.specs.declared.ExpressionRefusal.TheVariants.{Syntax, Depth, Number, Prefix}
@@ -40,7 +41,8 @@ Answers view P r ts us (Err (Refused Depth)) = ⊥
 Answers view P r ts us (Err (Refused Number)) = ⊥
 Answers view P r ts us (Err (Refused Prefix)) = ⊥
 
-pub record Returns {X A : Type 0} (view : X → A) (P : List Token → A → List Token → Type 0) (r : ℕ) (ts us : List Token) (result : Result X ParseFault) : Type 0 where
+pub record Returns {X A : Type 0} (view : X → A) (P : List Token → A → List Token → Type 0) (r : ℕ) (ts us : List Token) (result : Result X ParseFault) : Type
+    0 where
   pub answer : Answers view P r ts us result
 
 -- zs is front and then what P reads
@@ -129,14 +131,14 @@ pub record IsNoAxis (ts : List Token) : Type 0 where
 abbrev pub Begins : Parser → ℕ → Head → Type 0
 Begins p at (heads.Variable name) = IsNext p at (plain.Variable (name_of name))
 Begins p at heads.Group = IsNext p at plain.Open
-Begins p at (heads.Literal content) = IsNext p at (plain.Literal content.now)
+Begins p at (heads.Literal content) = IsNext p at (plain.Literal (chars content.now))
 Begins p at (heads.Number value) = IsNext p at (plain.Number value)
 Begins p at (heads.Call name) = IsNext p at (plain.Name (name_of name)) × IsNext p (at + 1) plain.Open × (type_of (name_of name) ≡ None)
 
 -- how a node test begins
 abbrev pub BeginsTest : Parser → ℕ → TestHead → Type 0
 BeginsTest p at tests.Star = IsNext p at plain.Star
-BeginsTest p at (tests.AnyOf prefix) = IsNext p at (plain.AnyOf prefix.now)
+BeginsTest p at (tests.AnyOf prefix) = IsNext p at (plain.AnyOf (chars prefix.now))
 BeginsTest p at (tests.Name name) = IsNext p at (plain.Name (name_of name))
 
 -- the name of a node type and `(` stand at a place

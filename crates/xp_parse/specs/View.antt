@@ -1,14 +1,14 @@
 -- What the tokens of the program stand for.
-use Rattle.std.specs.Option.{option_copied}
+use Rattle.std.specs.Option.{option_map}
+use Rattle.std.specs.Str.{chars}
 use Rattle.spec_document.specs.Name.{QName}
 use Rattle.spec_expression.specs.Token as plain
 use Rattle.xp_parse.specs.declared.token.Name.{Name}
 use Rattle.xp_parse.specs.declared.token.Token.{Token}
 use Rattle.xp_parse.specs.declared.token.Token.TheVariants as tokens
-use Rattle.xp_parse.specs.declared.cut.Piece.{Piece}
 
 abbrev pub name_of : Name → QName
-name_of n = record { prefix = option_copied n.prefix; local = n.local.now }
+name_of n = record { prefix = option_map (λ p. chars p.now) n.prefix; local = chars n.local.now }
 
 abbrev pub token_of : Token → plain.Token
 token_of tokens.Open = plain.Open
@@ -24,11 +24,8 @@ token_of tokens.Slash = plain.Slash
 token_of tokens.SlashSlash = plain.SlashSlash
 token_of (tokens.Binary operator) = plain.Binary operator
 token_of tokens.Star = plain.Star
-token_of (tokens.AnyOf prefix) = plain.AnyOf prefix.now
+token_of (tokens.AnyOf prefix) = plain.AnyOf (chars prefix.now)
 token_of (tokens.Name name) = plain.Name (name_of name)
 token_of (tokens.Variable name) = plain.Variable (name_of name)
-token_of (tokens.Literal content) = plain.Literal content.now
+token_of (tokens.Literal content) = plain.Literal (chars content.now)
 token_of (tokens.Number value) = plain.Number value
-
-abbrev pub piece_of : Piece → plain.Piece
-piece_of p = record { token = token_of p.token; taken = p.taken }

@@ -1,190 +1,115 @@
 // A text cut into its tokens, the longest first (XPath 1.0, section 3.7).
-ghost use Rattle.std.specs.Prelude.{ℕ, List, ◌==◌, ◌≡◌, ◌≤◌, ◌<◌, ◌∷◌, length, drop, map, IfOk, IfSome, IsTrue, ◌+◌, option_map, Some};
-ghost use Rattle.std.specs.List.{prefix_len, position_or_len};
-ghost use Rattle.spec_document.specs.Character.{is_name_part};
+ghost use Rattle.std.specs.Prelude.{ℕ, List, ◌==◌, ◌≡◌, ◌<◌, ◌&&◌, ◌||◌, ◌∷◌, [], true, false, length, drop, map, IfOk, MatchOption, option_map, Some};
+ghost use Rattle.std.specs.Str.{chars};
 ghost use Rattle.spec_expression.specs.Token as plain;
-ghost use Rattle.xp_parse.specs.View.{token_of, piece_of};
+ghost use Rattle.xp_parse.specs.Front.{IsBehind, IsLocal, Cuts, Begins, IsWord, marked};
+ghost use Rattle.xp_parse.specs.View.{token_of};
 
 use crate::build::number_of;
+use crate::front::{begins_digit, first_of, is_digit, past, split_digits, split_name};
 use crate::token::{Name, Token};
 use spec_expression::Operator;
 use std::alloc::Global;
-use xt_names::{is_name_part, is_name_start};
-use xt_text::{Memory, is_space};
+use xt_text::{Memory, is_space, split_first};
 
-/// A token at the front of a text, and how many characters it takes.
+/// A token at the front of a text, and what stands behind it.
 #[derive(Clone, Copy)]
 pub struct Piece<'a> {
     pub token: Token<'a>,
-    pub taken: usize,
+    pub rest: &'a str,
 }
 
-/// Whether it is a digit.
-fn is_digit(character: char) -> bool
-    ensures { result ≡ plain.is_digit character }
-{
-    matches!(character, '0'..='9')
-}
-
-/// How many digits stand at the front.
-fn digit_count(text: &[char]) -> usize
-    ensures within { result ≤ length text.now }
-    ensures value { result ≡ prefix_len plain.is_digit text.now }
-{
-    for (index, character) in text.iter().enumerate() {
-        if !is_digit(*character) {
-            return index;
-        }
-    }
-    text.len()
-}
-
-/// The digits at the front.
-fn digits_at(text: &[char]) -> &[char]
-    ensures value { result.now ≡ plain.digits_at text.now }
-    ensures count { length result.now ≡ prefix_len plain.is_digit text.now }
-    ensures within { length result.now ≤ length text.now }
-{
-    &text[..digit_count(text)]
-}
-
-/// How many characters at the front may follow in a name.
-fn name_parts(text: &[char]) -> usize
-    ensures within { result ≤ length text.now }
-    ensures value { result ≡ prefix_len is_name_part text.now }
-{
-    for (index, character) in text.iter().enumerate() {
-        if !is_name_part(*character) {
-            return index;
-        }
-    }
-    text.len()
-}
-
-/// The NCName at the front, the longest; empty where none begins there.
-#[tactic(auto, unfolding(spec_expression::specs::Token::name_at))]
-fn name_at(text: &[char]) -> &[char]
-    ensures value { result.now ≡ plain.name_at text.now }
-    ensures within { length result.now ≤ length text.now }
-{
-    match text {
-        [first, ..] if is_name_start(*first) => &text[..name_parts(text)],
-        _ => &[],
+impl<'a> Piece<'a> {
+    /// What stands behind the token.
+    fn behind(&self) -> &'a str
+        ensures { result.now ≡ self.now.rest.now }
+    {
+        self.rest
     }
 }
 
 /// Digits, a point, and the digits behind it, as far as they are there.
-#[tactic(auto, unfolding(spec_expression::specs::Token::number_at))]
-fn number_at(text: &[char]) -> Piece<'_>
-    ensures value { Some (piece_of result) ≡ plain.number_at text.now }
-    ensures within { result.taken ≤ length text.now }
-    ensures digits { prefix_len plain.is_digit text.now ≤ result.taken }
-    ensures point { IsTrue (plain.begins 0x2E text.now) → 0 < result.taken }
+fn number_at(text: &str) -> Piece<'_>
+    ensures { Begins result (plain.number_at (chars text.now)) (chars text.now) }
 {
-    let whole = digits_at(text);
-    let behind = &text[whole.len()..];
-    match behind {
-        ['.', decimals @ ..] => {
-            let fraction = digits_at(decimals);
+    let (whole, behind) = split_digits(text);
+    match past('.', behind) {
+        Some(decimals) => {
+            let (fraction, rest) = split_digits(decimals);
             Piece {
                 token: Token::Number(number_of(whole, fraction)),
-                taken: whole.len() + 1 + fraction.len(),
+                rest,
             }
         }
-        _ => Piece {
-            token: Token::Number(number_of(whole, &[])),
-            taken: whole.len(),
+        None => Piece {
+            token: Token::Number(number_of(whole, "")),
+            rest: behind,
         },
     }
 }
 
-/// How many characters stand before the first quote of this kind.
-fn before_quote(quote: char, text: &[char]) -> usize
-    ensures within { result ≤ length text.now }
-    ensures value { result ≡ position_or_len (λ c. c == quote) text.now }
-{
-    for (index, character) in text.iter().enumerate() {
-        if *character == quote {
-            return index;
-        }
-    }
-    text.len()
-}
-
 /// What stands up to the next quote of this kind, behind the first one.
-#[tactic(auto, unfolding(spec_expression::specs::Token::literal_at))]
-fn literal_at(quote: char, behind: &[char]) -> Option<Piece<'_>>
-    ensures value { option_map piece_of result ≡ plain.literal_at quote behind.now }
-    ensures taken { IfSome result (λ p. (0 < p.taken) × (p.taken ≤ 1 + length behind.now)) }
+fn literal_at(quote: char, behind: &str) -> Option<Piece<'_>>
+    ensures { Cuts result (plain.literal_at quote (chars behind.now)) (quote ∷ chars behind.now) }
 {
-    let end = before_quote(quote, behind);
-    if end < behind.len() {
-        Some(Piece {
-            token: Token::Literal(&behind[..end]),
-            taken: end + 2,
-        })
-    } else {
-        None
+    match split_first(behind, quote) {
+        Some((content, rest)) => Some(Piece {
+            token: Token::Literal(content),
+            rest,
+        }),
+        None => None,
     }
 }
 
-/// Behind an NCName: the local part, where a colon and an NCName follow; else empty.
-#[tactic(auto, unfolding(spec_expression::specs::Token::local_at))]
-fn local_at(behind: &[char]) -> &[char]
-    ensures value { result.now ≡ plain.local_at behind.now }
-    ensures within { 0 < length result.now → length result.now < length behind.now }
+/// Behind an NCName: the local part, where a colon and an NCName follow, and what stands behind it.
+fn local_at(behind: &str) -> Option<(&str, &str)>
+    ensures { MatchOption result (plain.local_at (chars behind.now) ≡ []) (λ local. IsLocal local.0.now local.1.now behind.now) }
 {
-    match behind {
-        [':', local @ ..] => name_at(local),
-        _ => &[],
+    match past(':', behind) {
+        Some(local) => split_name(local),
+        None => None,
     }
 }
 
 /// The name behind a `$`.
-#[tactic(auto, unfolding(spec_expression::specs::Token::variable_at))]
-fn variable_at(text: &[char]) -> Option<Piece<'_>>
-    ensures value { option_map piece_of result ≡ plain.variable_at text.now }
-    ensures taken { IfSome result (λ p. (0 < p.taken) × (p.taken ≤ 1 + length text.now)) }
+fn variable_at(text: &str) -> Option<Piece<'_>>
+    ensures { Cuts result (plain.variable_at (chars text.now)) (0x24 ∷ chars text.now) }
 {
-    let name = name_at(text);
-    if name.is_empty() {
-        return None;
+    match split_name(text) {
+        Some((name, behind)) => Some(variable_named(name, behind)),
+        None => None,
     }
-    let local = local_at(&text[name.len()..]);
-    if local.is_empty() {
-        return Some(Piece {
+}
+
+/// The variable of this name, behind which this stands.
+fn variable_named<'a>(name: &'a str, behind: &'a str) -> Piece<'a>
+    ensures { (text : List ℕ) → IsWord name.now behind.now text → Begins result (plain.variable_at text) (0x24 ∷ text) }
+{
+    match local_at(behind) {
+        Some((local, rest)) => Piece {
+            token: Token::Variable(Name {
+                prefix: Some(name),
+                local,
+            }),
+            rest,
+        },
+        None => Piece {
             token: Token::Variable(Name {
                 prefix: None,
                 local: name,
             }),
-            taken: 1 + name.len(),
-        });
+            rest: behind,
+        },
     }
-    Some(Piece {
-        token: Token::Variable(Name {
-            prefix: Some(name),
-            local,
-        }),
-        taken: 1 + name.len() + 1 + local.len(),
-    })
 }
 
 /// The operator that an NCName names behind an operand, else the name.
 #[tactic(auto, unfolding(spec_expression::specs::Token::word))]
-fn word(after_operand: bool, name: &[char]) -> Token<'_>
-    ensures { token_of result ≡ plain.word after_operand name.now }
+fn word(after_operand: bool, name: &str) -> Token<'_>
+    ensures { token_of result ≡ plain.word after_operand (chars name.now) }
 {
-    if after_operand && name == ['o', 'r'].as_slice() {
-        return Token::Binary(Operator::Or);
-    }
-    if after_operand && name == ['a', 'n', 'd'].as_slice() {
-        return Token::Binary(Operator::And);
-    }
-    if after_operand && name == ['d', 'i', 'v'].as_slice() {
-        return Token::Binary(Operator::Divide);
-    }
-    if after_operand && name == ['m', 'o', 'd'].as_slice() {
-        return Token::Binary(Operator::Modulo);
+    if after_operand {
+        return operator_or_name(name);
     }
     Token::Name(Name {
         prefix: None,
@@ -192,33 +117,61 @@ fn word(after_operand: bool, name: &[char]) -> Token<'_>
     })
 }
 
-/// `p:a`, `p:*` or an NCName alone.
-#[tactic(auto, unfolding(spec_expression::specs::Token::word_at))]
-fn word_at(after_operand: bool, text: &[char]) -> Piece<'_>
-    ensures value { Some (piece_of result) ≡ plain.word_at after_operand text.now }
-    ensures name { length (plain.name_at text.now) ≤ result.taken }
-    ensures within { result.taken ≤ length text.now }
+/// The operator that an NCName names, else the name.
+fn operator_or_name(name: &str) -> Token<'_>
+    ensures { token_of result ≡ plain.word true (chars name.now) }
 {
-    let name = name_at(text);
-    let behind = &text[name.len()..];
-    let local = local_at(behind);
-    if !local.is_empty() {
-        return Piece {
+    match name {
+        "or" => Token::Binary(Operator::Or),
+        "and" => Token::Binary(Operator::And),
+        "div" => Token::Binary(Operator::Divide),
+        "mod" => Token::Binary(Operator::Modulo),
+        _ => Token::Name(Name {
+            prefix: None,
+            local: name,
+        }),
+    }
+}
+
+/// What stands behind `:*`, where the text begins with it.
+fn past_any(text: &str) -> Option<&str>
+    ensures { MatchOption result ((plain.begins 0x3A (chars text.now) && plain.begins 0x2A (drop 1 (chars text.now))) ≡ false)
+        (λ rest. ((plain.begins 0x3A (chars text.now) && plain.begins 0x2A (drop 1 (chars text.now))) ≡ true) × (chars rest.now ≡ drop 2 (chars text.now))) }
+{
+    match past(':', text) {
+        Some(star) => past('*', star),
+        None => None,
+    }
+}
+
+/// `p:a`, `p:*` or the NCName alone, by the NCName and what stands behind it.
+fn word_at<'a>(after_operand: bool, name: &'a str, behind: &'a str) -> Piece<'a>
+    ensures { (text : List ℕ) → IsWord name.now behind.now text → Begins result (plain.word_at after_operand text) text }
+{
+    match local_at(behind) {
+        Some((local, rest)) => Piece {
             token: Token::Name(Name {
                 prefix: Some(name),
                 local,
             }),
-            taken: name.len() + 1 + local.len(),
-        };
-    }
-    match behind {
-        [':', '*', ..] => Piece {
-            token: Token::AnyOf(name),
-            taken: name.len() + 2,
+            rest,
         },
-        _ => Piece {
+        None => without_local(after_operand, name, behind),
+    }
+}
+
+/// `p:*` or the NCName alone.
+fn without_local<'a>(after_operand: bool, name: &'a str, behind: &'a str) -> Piece<'a>
+    ensures { (text : List ℕ) → IsWord name.now behind.now text → plain.local_at (chars behind.now) ≡ [] → Begins result (plain.word_at after_operand text) text }
+{
+    match past_any(behind) {
+        Some(rest) => Piece {
+            token: Token::AnyOf(name),
+            rest,
+        },
+        None => Piece {
             token: word(after_operand, name),
-            taken: name.len(),
+            rest: behind,
         },
     }
 }
@@ -265,64 +218,99 @@ fn sign_of_one(after_operand: bool, character: char) -> Option<Token<'static>>
     }
 }
 
-/// The sign at the front, the longest.
-fn sign_at(after_operand: bool, first: char, behind: &[char]) -> Option<Piece<'static>>
-    ensures value { option_map piece_of result ≡ plain.sign_at after_operand first behind.now }
-    ensures taken { IfSome result (λ p. (0 < p.taken) × (p.taken ≤ 1 + length behind.now)) }
+/// The sign of two characters at the front.
+fn long_sign_at(first: char, behind: &str) -> Option<Piece<'_>>
+    ensures { Cuts result (option_map (λ token. record { token = token; taken = 2 }) (plain.sign_of_two first (plain.first (chars behind.now)))) (first ∷ chars behind.now) }
 {
-    let second = match behind {
-        [second, ..] => *second,
-        [] => '\0',
-    };
-    if let Some(token) = sign_of_two(first, second) {
-        return Some(Piece { token, taken: 2 });
-    }
-    match sign_of_one(after_operand, first) {
-        Some(token) => Some(Piece { token, taken: 1 }),
+    match first_of(behind) {
+        Some((second, rest)) => match sign_of_two(first, second) {
+            Some(token) => Some(Piece { token, rest }),
+            None => None,
+        },
         None => None,
     }
 }
 
-/// The longest token that the text begins with.
-#[tactic(auto, unfolding(spec_expression::specs::Token::piece_at))]
-fn piece_at(after_operand: bool, first: char, text: &[char]) -> Option<Piece<'_>>
-    requires { (rest : List ℕ) × (text.now ≡ first ∷ rest) }
-    ensures value { option_map piece_of result ≡ plain.piece_at after_operand first (drop 1 text.now) }
-    ensures taken { IfSome result (λ p. (0 < p.taken) × (p.taken ≤ length text.now)) }
+/// The sign at the front, the longest.
+fn sign_at(after_operand: bool, first: char, behind: &str) -> Option<Piece<'_>>
+    ensures { Cuts result (plain.sign_at after_operand first (chars behind.now)) (first ∷ chars behind.now) }
 {
-    let behind = &text[1..];
-    let before_digit = matches!(behind, [second, ..] if is_digit(*second));
-    if is_digit(first) || (first == '.' && before_digit) {
-        return Some(number_at(text));
-    }
-    if is_name_start(first) {
-        return Some(word_at(after_operand, text));
-    }
-    match first {
-        '"' | '\'' => literal_at(first, behind),
-        '$' => variable_at(behind),
-        _ => sign_at(after_operand, first, behind),
+    match long_sign_at(first, behind) {
+        Some(piece) => Some(piece),
+        None => match sign_of_one(after_operand, first) {
+            Some(token) => Some(Piece {
+                token,
+                rest: behind,
+            }),
+            None => None,
+        },
     }
 }
 
-/// The tokens of a text. None exactly where it cannot be cut.
-pub fn tokens<'a>(alloc: Global, text: &'a [char]) -> Result<Option<Vec<Token<'a>>>, Memory>
-    ensures { IfOk result (λ cut. option_map (λ v. map token_of v.items) cut ≡ plain.tokens text.now) }
+/// Whether a number begins with this character, behind which this stands.
+fn begins_number(first: char, behind: &str) -> bool
+    ensures { result ≡ (plain.is_digit first || ((first == 0x2E) && plain.is_digit (plain.first (chars behind.now)))) }
+{
+    is_digit(first) || (first == '.' && begins_digit(behind))
+}
+
+fn is_quote(character: char) -> bool
+    ensures { result ≡ ((character == 0x22) || (character == 0x27)) }
+{
+    matches!(character, '"' | '\'')
+}
+
+/// The literal, variable or sign that begins with this character, behind which this stands.
+fn mark_at(after_operand: bool, first: char, behind: &str) -> Option<Piece<'_>>
+    ensures { Cuts result (marked after_operand first (chars behind.now)) (first ∷ chars behind.now) }
+{
+    if is_quote(first) {
+        return literal_at(first, behind);
+    }
+    if first == '$' {
+        return variable_at(behind);
+    }
+    sign_at(after_operand, first, behind)
+}
+
+/// The longest token that the text begins with, whose first character is this, with this behind it.
+fn piece_at<'a>(
+    after_operand: bool,
+    text: &'a str,
+    first: char,
+    behind: &'a str,
+) -> Option<Piece<'a>>
+    requires { IsBehind first behind.now text.now }
+    ensures { Cuts result (plain.piece_at after_operand first (chars behind.now)) (chars text.now) }
+{
+    if begins_number(first, behind) {
+        return Some(number_at(text));
+    }
+    match split_name(text) {
+        Some((name, rest)) => Some(word_at(after_operand, name, rest)),
+        None => mark_at(after_operand, first, behind),
+    }
+}
+
+/// The tokens of a text, the longest first (XPath 1.0, section 3.7), whose texts are parts of it. None exactly
+/// where it cannot be cut. Takes time in the length of the text.
+pub fn tokens<'a>(alloc: Global, text: &'a str) -> Result<Option<Vec<Token<'a>>>, Memory>
+    ensures { IfOk result (λ cut. option_map (λ v. map token_of v.items) cut ≡ plain.tokens (chars text.now)) }
 {
     let mut tokens = Vec::new(alloc);
     let mut rest = text;
     let mut after_operand = false;
-    while let [first, behind @ ..] = rest {
-        if is_space(*first) {
+    while let Some((first, behind)) = first_of(rest) {
+        if is_space(first) {
             rest = behind;
             continue;
         }
-        let Some(piece) = piece_at(after_operand, *first, rest) else {
+        let Some(piece) = piece_at(after_operand, rest, first, behind) else {
             return Ok(None);
         };
         after_operand = piece.token.ends_operand();
         tokens.push(piece.token)?;
-        rest = rest.split_at(piece.taken).1;
+        rest = piece.behind();
     }
     Ok(Some(tokens))
 }

@@ -4,19 +4,21 @@ ghost use Rattle.spec_expression.specs.Grammar as grammar;
 ghost use Rattle.spec_expression.proofs.Rank.{rank};
 ghost use Rattle.xp_syntax.specs.View.{expr_of, link_of, step_of, test_of};
 
-use crate::build::{chained, expanded, filtered, negated, node_on, stepped, text_of, uri_of};
+use crate::build::{chained, expanded, filtered, negated, node_on, stepped, uri_of};
 use crate::fault::ParseFault;
 use crate::read::{Head, Parser, TestHead, axis_of, type_of};
 use crate::token::Sign;
 use spec_document::Axis;
 use spec_expression::{ExpressionRefusal, Level, NodeType};
 use xp_syntax::{Expr, Link, Step, Test};
+use xt_text::Text;
 
 impl<'a> Parser<'_, 'a> {
     ghost use Rattle.xp_parse.specs.Reading.{left, Returns, Behind, Begins, ReadsAxis, IsNoAxis};
     ghost use Rattle.xp_parse.specs.Reading as reading;
 
-    /// An expression of this level.
+    /// The longest expression of this level that begins at a place, which moves behind it. `Refused` with
+    /// `Syntax` where none begins there, else only want of memory; the place is then of no more use.
     #[cycle(parse)]
     pub fn expression(&self, level: Level, at: &mut usize) -> Result<Expr, ParseFault>
         ensures answer { Returns expr_of (grammar.Reads self.now.scope.now level) (rank level) (left self.now at.old) (left self.now at.new) result }
@@ -146,7 +148,7 @@ impl<'a> Parser<'_, 'a> {
                 Ok(Expr::Variable(variable))
             }
             Head::Literal(content) => {
-                let text = text_of(self.alloc, content)?;
+                let text = Text::from_str(self.alloc, content)?;
                 *at += 1;
                 Ok(Expr::Literal(text))
             }
@@ -198,9 +200,10 @@ impl<'a> Parser<'_, 'a> {
         Ok(arguments)
     }
 
-    /// The predicates at a place.
+    /// The predicates from a place on, which moves behind them. `Refused` with `Syntax` where one is begun that is
+    /// none.
     #[cycle(parse)]
-    fn predicates(&self, at: &mut usize) -> Result<Vec<Expr>, ParseFault>
+    pub fn predicates(&self, at: &mut usize) -> Result<Vec<Expr>, ParseFault>
         requires { at.old ≤ length self.now.tokens.now }
         ensures answer { Returns (λ v. map expr_of v.items) (grammar.ReadsPredicates self.now.scope.now) 10 (left self.now at.old) (left self.now at.new) result }
         ensures progress { OnOk result (at.old ≤ at.new) }
@@ -280,8 +283,9 @@ impl<'a> Parser<'_, 'a> {
         })
     }
 
-    /// The axis of a step that is neither `.` nor `..`.
-    fn axis(&self, at: &mut usize) -> Result<Axis, ParseFault>
+    /// The axis of a step that is neither `.` nor `..`: `child` where none stands at the place. `Refused` with
+    /// `Syntax` where a name that is none and `::` stand there.
+    pub fn axis(&self, at: &mut usize) -> Result<Axis, ParseFault>
         requires dot { reading.IsNotNext (left self.now at.old) (reading.token_of_sign Sign.Dot) }
         requires dots { reading.IsNotNext (left self.now at.old) (reading.token_of_sign Sign.DotDot) }
         ensures ok { IfOk result (λ axis. ReadsAxis (left self.now at.old) axis (left self.now at.new)) }
@@ -304,8 +308,8 @@ impl<'a> Parser<'_, 'a> {
         }
     }
 
-    /// A node test.
-    fn test(&self, at: &mut usize) -> Result<Test, ParseFault>
+    /// The node test at a place, which moves behind it. `Refused` with `Syntax` where none stands there.
+    pub fn test(&self, at: &mut usize) -> Result<Test, ParseFault>
         ensures answer { Returns test_of (grammar.ReadsTest self.now.scope.now) 11 (left self.now at.old) (left self.now at.new) result }
         ensures progress { OnOk result (at.old < at.new) }
         ensures within { OnOk result (at.new ≤ length self.now.tokens.now) }
@@ -348,7 +352,7 @@ impl<'a> Parser<'_, 'a> {
         match node_type {
             NodeType::ProcessingInstruction => match self.target_at(*at + 2) {
                 Some(target) => {
-                    let target = text_of(self.alloc, target)?;
+                    let target = Text::from_str(self.alloc, target)?;
                     *at += 4;
                     Ok(Test::Instruction(target))
                 }

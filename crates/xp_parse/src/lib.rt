@@ -3,6 +3,9 @@
 //! `parse` answers the one tree that a text has in the grammar, or the least refusal that stands at
 //! it; which it is, `Parses` of the definitions says.
 //!
+//! `tokens` cuts a text, and a `Parser` reads what tokens are from a place on: expressions, and the parts of
+//! steps, of which patterns are made too.
+//!
 //! ```text
 //! let scope = Scope::root(alloc)?;
 //! let sum = parse(alloc, "1 + count(a//b)", &scope)?;
@@ -13,9 +16,13 @@ mod build;
 mod cut;
 mod descent;
 mod fault;
+mod front;
 mod read;
 mod text;
 mod token;
 
+pub use cut::tokens;
 pub use fault::ParseFault;
+pub use read::Parser;
 pub use text::parse;
+pub use token::{Name, Sign, Token};

@@ -1,5 +1,6 @@
 // Tokens read one after the other.
 ghost use Rattle.std.specs.Prelude.{◌≡◌, ◌+◌, MatchOption, MatchBool, [], IfSome, false};
+ghost use Rattle.std.specs.Str.{chars};
 ghost use Rattle.spec_expression.specs.Grammar as grammar;
 ghost use Rattle.spec_expression.specs.Token as plain;
 ghost use Rattle.xp_parse.specs.View.{name_of};
@@ -10,7 +11,9 @@ use spec_expression::{Level, NodeType, Operator};
 use std::alloc::Global;
 use xt_names::Scope;
 
-/// What an expression is read from: its tokens, and the namespaces in scope.
+/// Reads what tokens are, from a place on: an expression of a level, or the parts of a step. Names are expanded
+/// in the scope; an undeclared prefix counts as no namespace, and a number that is none as 0, so who reads tokens
+/// tests these by himself, as `parse` does.
 #[derive(Clone, Copy)]
 pub struct Parser<'t, 'a> {
     pub alloc: Global,
@@ -50,7 +53,7 @@ impl<'a> Parser<'_, 'a> {
     }
 
     /// The operator of this level at a place, where one stands there.
-    pub fn operator_at(&self, at: usize, level: Level) -> Option<Operator>
+    pub(crate) fn operator_at(&self, at: usize, level: Level) -> Option<Operator>
         ensures next { MatchOption result (NoOperator level (left self.now at)) (λ o. IsNext self.now at (plain.Binary o)) }
         ensures level { IfSome result (λ o. grammar.level_of o ≡ level) }
     {
@@ -61,7 +64,7 @@ impl<'a> Parser<'_, 'a> {
     }
 
     /// Whether a step begins at a place.
-    pub fn begins_step(&self, at: usize) -> bool
+    pub(crate) fn begins_step(&self, at: usize) -> bool
         ensures { result ≡ begins_step (left self.now at) }
     {
         matches!(
@@ -78,14 +81,14 @@ impl<'a> Parser<'_, 'a> {
     }
 
     /// Whether the sign `-` stands at a place.
-    pub fn minus_at(&self, at: usize) -> bool
+    pub(crate) fn minus_at(&self, at: usize) -> bool
         ensures { MatchBool result (IsNext self.now at (plain.Binary Operator.Subtract)) (IsNotNext (left self.now at) (plain.Binary Operator.Subtract)) }
     {
         matches!(self.peek(at), Some(Token::Binary(Operator::Subtract)))
     }
 
     /// How the primary expression at a place begins, where one does.
-    pub fn head_at(&self, at: usize) -> Option<Head<'a>>
+    pub(crate) fn head_at(&self, at: usize) -> Option<Head<'a>>
         ensures { MatchOption result (begins_primary (left self.now at) ≡ false) (λ head. Begins self.now at head) }
     {
         match self.peek(at) {
@@ -102,7 +105,7 @@ impl<'a> Parser<'_, 'a> {
     }
 
     /// How the node test at a place begins, where one does.
-    pub fn test_at(&self, at: usize) -> Option<TestHead<'a>>
+    pub(crate) fn test_at(&self, at: usize) -> Option<TestHead<'a>>
         ensures { MatchOption result (begins_test (left self.now at) ≡ false) (λ head. BeginsTest self.now at head) }
     {
         match self.peek(at) {
@@ -114,7 +117,7 @@ impl<'a> Parser<'_, 'a> {
     }
 
     /// The name of an axis at a place, where a name and `::` stand there.
-    pub fn axis_name_at(&self, at: usize) -> Option<Name<'a>>
+    pub(crate) fn axis_name_at(&self, at: usize) -> Option<Name<'a>>
         ensures { MatchOption result (NoAxis (left self.now at)) (λ name. IsNext self.now at (plain.Name (name_of name)) × IsNext self.now (at + 1) plain.ColonColon) }
     {
         match self.peek(at) {
@@ -125,8 +128,8 @@ impl<'a> Parser<'_, 'a> {
 
     /// The target in the parentheses of `processing-instruction`, where a literal and `)` stand at a
     /// place.
-    pub fn target_at(&self, at: usize) -> Option<&'a [char]>
-        ensures { MatchOption result (NoTarget (left self.now at)) (λ target. IsNext self.now at (plain.Literal target.now) × IsNext self.now (at + 1) plain.Close) }
+    pub(crate) fn target_at(&self, at: usize) -> Option<&'a str>
+        ensures { MatchOption result (NoTarget (left self.now at)) (λ target. IsNext self.now at (plain.Literal (chars target.now)) × IsNext self.now (at + 1) plain.Close) }
     {
         match self.peek(at) {
             Some(Token::Literal(target)) if self.next_is(at + 1, Sign::Close) => Some(target),
@@ -137,11 +140,11 @@ impl<'a> Parser<'_, 'a> {
 
 /// How a primary expression begins.
 #[derive(Clone, Copy)]
-pub enum Head<'a> {
+pub(crate) enum Head<'a> {
     Variable(Name<'a>),
     /// `(`
     Group,
-    Literal(&'a [char]),
+    Literal(&'a str),
     /// The value of a number; none where it has a fraction or is too great.
     Number(Option<u64>),
     /// The name of a function and `(`.
@@ -150,14 +153,14 @@ pub enum Head<'a> {
 
 /// How a node test begins.
 #[derive(Clone, Copy)]
-pub enum TestHead<'a> {
+pub(crate) enum TestHead<'a> {
     Star,
-    AnyOf(&'a [char]),
+    AnyOf(&'a str),
     Name(Name<'a>),
 }
 
 /// The level that an operator stands at.
-pub fn level_of(operator: Operator) -> Level
+pub(crate) fn level_of(operator: Operator) -> Level
     ensures { result ≡ grammar.level_of operator }
 {
     match operator {
@@ -173,100 +176,42 @@ pub fn level_of(operator: Operator) -> Level
 }
 
 /// The axis that a name is, where it is one.
-#[tactic(auto, unfolding(spec_expression::specs::Grammar::axis_named))]
-fn axis_named(name: &[char]) -> Option<Axis>
-    ensures { result ≡ grammar.axis_named name.now }
+fn axis_named(name: &str) -> Option<Axis>
+    ensures { result ≡ grammar.axis_named (chars name.now) }
 {
-    if name == ['a', 'n', 'c', 'e', 's', 't', 'o', 'r'].as_slice() {
-        return Some(Axis::Ancestor);
+    match name {
+        "ancestor" => Some(Axis::Ancestor),
+        "ancestor-or-self" => Some(Axis::AncestorOrSelf),
+        "attribute" => Some(Axis::Attribute),
+        "child" => Some(Axis::Child),
+        "descendant" => Some(Axis::Descendant),
+        "descendant-or-self" => Some(Axis::DescendantOrSelf),
+        "following" => Some(Axis::Following),
+        "following-sibling" => Some(Axis::FollowingSibling),
+        "namespace" => Some(Axis::Namespace),
+        "parent" => Some(Axis::Parent),
+        "preceding" => Some(Axis::Preceding),
+        "preceding-sibling" => Some(Axis::PrecedingSibling),
+        "self" => Some(Axis::Itself),
+        _ => None,
     }
-    if name
-        == [
-            'a', 'n', 'c', 'e', 's', 't', 'o', 'r', '-', 'o', 'r', '-', 's', 'e', 'l', 'f',
-        ]
-        .as_slice()
-    {
-        return Some(Axis::AncestorOrSelf);
-    }
-    if name == ['a', 't', 't', 'r', 'i', 'b', 'u', 't', 'e'].as_slice() {
-        return Some(Axis::Attribute);
-    }
-    if name == ['c', 'h', 'i', 'l', 'd'].as_slice() {
-        return Some(Axis::Child);
-    }
-    if name == ['d', 'e', 's', 'c', 'e', 'n', 'd', 'a', 'n', 't'].as_slice() {
-        return Some(Axis::Descendant);
-    }
-    if name
-        == [
-            'd', 'e', 's', 'c', 'e', 'n', 'd', 'a', 'n', 't', '-', 'o', 'r', '-', 's', 'e', 'l',
-            'f',
-        ]
-        .as_slice()
-    {
-        return Some(Axis::DescendantOrSelf);
-    }
-    if name == ['f', 'o', 'l', 'l', 'o', 'w', 'i', 'n', 'g'].as_slice() {
-        return Some(Axis::Following);
-    }
-    if name
-        == [
-            'f', 'o', 'l', 'l', 'o', 'w', 'i', 'n', 'g', '-', 's', 'i', 'b', 'l', 'i', 'n', 'g',
-        ]
-        .as_slice()
-    {
-        return Some(Axis::FollowingSibling);
-    }
-    if name == ['n', 'a', 'm', 'e', 's', 'p', 'a', 'c', 'e'].as_slice() {
-        return Some(Axis::Namespace);
-    }
-    if name == ['p', 'a', 'r', 'e', 'n', 't'].as_slice() {
-        return Some(Axis::Parent);
-    }
-    if name == ['p', 'r', 'e', 'c', 'e', 'd', 'i', 'n', 'g'].as_slice() {
-        return Some(Axis::Preceding);
-    }
-    if name
-        == [
-            'p', 'r', 'e', 'c', 'e', 'd', 'i', 'n', 'g', '-', 's', 'i', 'b', 'l', 'i', 'n', 'g',
-        ]
-        .as_slice()
-    {
-        return Some(Axis::PrecedingSibling);
-    }
-    if name == ['s', 'e', 'l', 'f'].as_slice() {
-        return Some(Axis::Itself);
-    }
-    None
 }
 
 /// The node type that a name is, where it is one.
-#[tactic(auto, unfolding(spec_expression::specs::Grammar::type_named))]
-fn type_named(name: &[char]) -> Option<NodeType>
-    ensures { result ≡ grammar.type_named name.now }
+fn type_named(name: &str) -> Option<NodeType>
+    ensures { result ≡ grammar.type_named (chars name.now) }
 {
-    if name == ['c', 'o', 'm', 'm', 'e', 'n', 't'].as_slice() {
-        return Some(NodeType::Comment);
+    match name {
+        "comment" => Some(NodeType::Comment),
+        "text" => Some(NodeType::Text),
+        "processing-instruction" => Some(NodeType::ProcessingInstruction),
+        "node" => Some(NodeType::Node),
+        _ => None,
     }
-    if name == ['t', 'e', 'x', 't'].as_slice() {
-        return Some(NodeType::Text);
-    }
-    if name == PROCESSING_INSTRUCTION.as_slice() {
-        return Some(NodeType::ProcessingInstruction);
-    }
-    if name == ['n', 'o', 'd', 'e'].as_slice() {
-        return Some(NodeType::Node);
-    }
-    None
 }
 
-const PROCESSING_INSTRUCTION: [char; 22] = [
-    'p', 'r', 'o', 'c', 'e', 's', 's', 'i', 'n', 'g', '-', 'i', 'n', 's', 't', 'r', 'u', 'c', 't',
-    'i', 'o', 'n',
-];
-
 /// The node type that a name without a prefix is.
-pub fn type_of(name: Name<'_>) -> Option<NodeType>
+pub(crate) fn type_of(name: Name<'_>) -> Option<NodeType>
     ensures { result ≡ grammar.type_of (name_of name.entry) }
 {
     match name.prefix {
@@ -276,7 +221,7 @@ pub fn type_of(name: Name<'_>) -> Option<NodeType>
 }
 
 /// The axis that a name without a prefix is.
-pub fn axis_of(name: Name<'_>) -> Option<Axis>
+pub(crate) fn axis_of(name: Name<'_>) -> Option<Axis>
     ensures { result ≡ grammar.axis_of (name_of name.entry) }
 {
     match name.prefix {

@@ -1,6 +1,6 @@
 // The tree of a text, or its least refusal.
-ghost use Rattle.std.specs.Prelude.{◌≡◌, ◌≤◌, map, IfOk};
-ghost use Rattle.std.specs.Option.{option_copied};
+ghost use Rattle.std.specs.Prelude.{◌≡◌, ◌≤◌, map};
+ghost use Rattle.std.specs.Option.{option_map};
 ghost use Rattle.std.specs.List.{list_any};
 ghost use Rattle.std.specs.Str.{chars};
 ghost use Rattle.spec_expression.specs.Token as plain;
@@ -8,16 +8,14 @@ ghost use Rattle.spec_expression.specs.Grammar as grammar;
 ghost use Rattle.xp_parse.specs.View.{token_of};
 ghost use Rattle.xp_parse.specs.Parsed.{Parsed, Given};
 
-use crate::build::resolved;
 use crate::cut;
 use crate::fault::ParseFault;
 use crate::read::Parser;
 use crate::token::Token;
 use spec_expression::{ExpressionRefusal, Level};
-use std::alloc::{AllocError, Global};
+use std::alloc::Global;
 use xp_syntax::Expr;
 use xt_names::Scope;
-use xt_text::Memory;
 
 /// How many `(` and `[` may be open at a token.
 const GREATEST_DEPTH: u64 = 64;
@@ -71,8 +69,8 @@ fn has_bad_number(tokens: &[Token<'_>]) -> bool
 }
 
 /// The prefix that a token names.
-fn prefix_in<'a>(token: &Token<'a>) -> Option<&'a [char]>
-    ensures { option_copied result ≡ grammar.prefix_in (token_of token.now) }
+fn prefix_in<'a>(token: &Token<'a>) -> Option<&'a str>
+    ensures { option_map (λ p. chars p.now) result ≡ grammar.prefix_in (token_of token.now) }
 {
     match token {
         Token::AnyOf(prefix) => Some(*prefix),
@@ -83,25 +81,25 @@ fn prefix_in<'a>(token: &Token<'a>) -> Option<&'a [char]>
 }
 
 /// Whether a token names a prefix that is not declared.
-fn is_undeclared(alloc: Global, scope: &Scope, token: &Token<'_>) -> Result<bool, Memory>
-    ensures { IfOk result (λ undeclared. undeclared ≡ grammar.is_undeclared scope.now (token_of token.now)) }
+fn is_undeclared(scope: &Scope, token: &Token<'_>) -> bool
+    ensures { result ≡ grammar.is_undeclared scope.now (token_of token.now) }
 {
     match prefix_in(token) {
-        Some(prefix) => Ok(resolved(alloc, scope, prefix)?.is_none()),
-        None => Ok(false),
+        Some(prefix) => scope.resolve(prefix).is_none(),
+        None => false,
     }
 }
 
 /// Whether a prefix is not declared.
-fn has_undeclared(alloc: Global, scope: &Scope, tokens: &[Token<'_>]) -> Result<bool, Memory>
-    ensures { IfOk result (λ undeclared. undeclared ≡ list_any (grammar.is_undeclared scope.now) (map token_of tokens.now)) }
+fn has_undeclared(scope: &Scope, tokens: &[Token<'_>]) -> bool
+    ensures { result ≡ list_any (grammar.is_undeclared scope.now) (map token_of tokens.now) }
 {
     for token in tokens {
-        if is_undeclared(alloc, scope, token)? {
-            return Ok(true);
+        if is_undeclared(scope, token) {
+            return true;
         }
     }
-    Ok(false)
+    false
 }
 
 /// The tree of tokens, or their least refusal.
@@ -124,17 +122,10 @@ fn tree(alloc: Global, scope: &Scope, tokens: &[Token<'_>]) -> Result<Expr, Pars
     if has_bad_number(tokens) {
         return Err(ParseFault::Refused(ExpressionRefusal::Number));
     }
-    if has_undeclared(alloc, scope, tokens)? {
+    if has_undeclared(scope, tokens) {
         return Err(ParseFault::Refused(ExpressionRefusal::Prefix));
     }
     Ok(expr)
-}
-
-/// The characters of a text.
-fn characters_of(alloc: Global, text: &str) -> Result<Vec<char>, AllocError>
-    ensures { IfOk result (λ v. v.items ≡ chars text.now) }
-{
-    text.chars().collect(alloc)
 }
 
 /// The expression that a text is (XPath 1.0, production 14), where the prefixes of its names stand
@@ -144,8 +135,7 @@ fn characters_of(alloc: Global, text: &str) -> Result<Vec<char>, AllocError>
 pub fn parse(alloc: Global, text: &str, scope: &Scope) -> Result<Expr, ParseFault>
     ensures { Parsed scope.now (chars text.now) result }
 {
-    let characters = characters_of(alloc, text)?;
-    match cut::tokens(alloc, characters.as_slice())? {
+    match cut::tokens(alloc, text)? {
         Some(tokens) => tree(alloc, scope, tokens.as_slice()),
         None => Err(ParseFault::Refused(ExpressionRefusal::Syntax)),
     }

@@ -8,8 +8,8 @@ use spec_expression::Operator;
 /// A name as it is written, in its parts.
 #[derive(Clone, Copy)]
 pub struct Name<'a> {
-    pub prefix: Option<&'a [char]>,
-    pub local: &'a [char],
+    pub prefix: Option<&'a str>,
+    pub local: &'a str,
 }
 
 /// A token.
@@ -31,12 +31,12 @@ pub enum Token<'a> {
     /// `*` as a name test.
     Star,
     /// `p:*`.
-    AnyOf(&'a [char]),
+    AnyOf(&'a str),
     Name(Name<'a>),
     /// `$` and a name.
     Variable(Name<'a>),
     /// What stands between the quotes.
-    Literal(&'a [char]),
+    Literal(&'a str),
     /// The value of a number; none where it has a fraction or is too great.
     Number(Option<u64>),
 }

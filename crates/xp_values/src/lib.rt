@@ -9,7 +9,9 @@
 
 mod comparison;
 mod convert;
+mod operand;
 mod operation;
+mod stream_text;
 
 pub use comparison::compare;
 pub use convert::{count, given, to_boolean, to_nodes, to_number, to_text};

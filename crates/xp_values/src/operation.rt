@@ -1,16 +1,17 @@
 // What operators make of two values (XPath 1.0, sections 3.3 to 3.5).
-ghost use Rattle.std.specs.Prelude.{◌≡◌, ℕ};
+ghost use Rattle.std.specs.Prelude.{◌≡◌, ℕ, ◌&&◌, ◌||◌};
 ghost use Rattle.xt_base.specs.Fault.{Gives};
 ghost use Rattle.spec_meaning.specs.Program.{Supply};
+ghost use Rattle.spec_meaning.specs.Convert as convert;
 ghost use Rattle.spec_meaning.specs.Operation as operation;
 ghost use Rattle.xt_tree.specs.ValueView.{value_of};
 ghost use Rattle.xt_tree.specs.declared.node_ref.NodeRef.{NodeRef};
 ghost use Rattle.xt_ask.specs.Runs.{Runs};
 
-use crate::to_boolean;
+use crate::{compare, given, to_boolean, to_nodes, to_number};
 use spec_expression::Operator;
 use std::alloc::Global;
-use xt_ask::{EvalFault, World};
+use xt_ask::{EvalFault, World, ask_order};
 use xt_base::{Num, NumFault};
 use xt_tree::Value;
 
@@ -49,6 +50,79 @@ pub fn combine<W: World>(
     ensures runs { (supply : Supply NodeRef) → (depth : ℕ) → Runs value_of supply depth (operation.combined operator (value_of left) (value_of right)) (W.state world.old) (W.state world.new) result }
     ensures name { W.name world.new ≡ W.name world.old }
 {
-    let _ = (alloc, operator, left, right, world);
-    Err(EvalFault::Memory)
+    match operator {
+        Operator::Or => Ok(Value::Boolean(is_either(&left, &right))),
+        Operator::And => Ok(Value::Boolean(are_both(&left, &right))),
+        Operator::Union => unite(alloc, left, right, world),
+        Operator::Equal => comparison(alloc, operator, &left, &right, world),
+        Operator::NotEqual => comparison(alloc, operator, &left, &right, world),
+        Operator::Less => comparison(alloc, operator, &left, &right, world),
+        Operator::LessOrEqual => comparison(alloc, operator, &left, &right, world),
+        Operator::Greater => comparison(alloc, operator, &left, &right, world),
+        Operator::GreaterOrEqual => comparison(alloc, operator, &left, &right, world),
+        Operator::Add => arithmetic(alloc, operator, &left, &right, world),
+        Operator::Subtract => arithmetic(alloc, operator, &left, &right, world),
+        Operator::Multiply => arithmetic(alloc, operator, &left, &right, world),
+        Operator::Divide => arithmetic(alloc, operator, &left, &right, world),
+        Operator::Modulo => arithmetic(alloc, operator, &left, &right, world),
+    }
+}
+
+fn is_either(left: &Value, right: &Value) -> bool
+    ensures { result ≡ (convert.to_boolean (value_of left.now) || convert.to_boolean (value_of right.now)) }
+{
+    to_boolean(left) || to_boolean(right)
+}
+
+fn are_both(left: &Value, right: &Value) -> bool
+    ensures { result ≡ (convert.to_boolean (value_of left.now) && convert.to_boolean (value_of right.now)) }
+{
+    to_boolean(left) && to_boolean(right)
+}
+
+// The nodes of both, in document order.
+fn unite<W: World>(
+    alloc: Global,
+    left: Value,
+    right: Value,
+    world: &mut W,
+) -> Result<Value, EvalFault>
+    ensures runs { (supply : Supply NodeRef) → (depth : ℕ) → Runs value_of supply depth (operation.united (value_of left) (value_of right)) (W.state world.old) (W.state world.new) result }
+    ensures name { W.name world.new ≡ W.name world.old }
+{
+    let mut nodes = to_nodes(left)?;
+    let more = to_nodes(right)?;
+    nodes.extend_from_slice(more.as_slice())?;
+    let ordered = ask_order(alloc, world, nodes)?;
+    Ok(Value::Nodes(ordered))
+}
+
+fn comparison<W: World>(
+    alloc: Global,
+    operator: Operator,
+    left: &Value,
+    right: &Value,
+    world: &mut W,
+) -> Result<Value, EvalFault>
+    ensures runs { (supply : Supply NodeRef) → (depth : ℕ) → Runs value_of supply depth (operation.comparison operator (value_of left.now) (value_of right.now)) (W.state world.old) (W.state world.new) result }
+    ensures name { W.name world.new ≡ W.name world.old }
+{
+    let compares = compare(alloc, operator, left, right, world)?;
+    Ok(Value::Boolean(compares))
+}
+
+fn arithmetic<W: World>(
+    alloc: Global,
+    operator: Operator,
+    left: &Value,
+    right: &Value,
+    world: &mut W,
+) -> Result<Value, EvalFault>
+    ensures runs { (supply : Supply NodeRef) → (depth : ℕ) → Runs value_of supply depth (operation.arithmetic operator (value_of left.now) (value_of right.now)) (W.state world.old) (W.state world.new) result }
+    ensures name { W.name world.new ≡ W.name world.old }
+{
+    let first = to_number(alloc, left, world)?;
+    let second = to_number(alloc, right, world)?;
+    let number = given(compute(operator, first, second))?;
+    Ok(Value::Number(number))
 }

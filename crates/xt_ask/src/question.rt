@@ -112,6 +112,8 @@ impl Wanted {
 
 impl Given {
     ghost use Rattle.std.specs.Prelude.{◌≡◌, IfOk};
+    ghost use Rattle.spec_meaning.specs.Program.{value_in};
+    ghost use Rattle.xt_tree.specs.ValueView.{value_of};
     ghost use Rattle.xt_ask.specs.View.{given_of};
 
     /// The same. A fragment is shared.
@@ -121,6 +123,16 @@ impl Given {
         match self {
             Given::Counted(number) => Ok(Given::Counted(*number)),
             Given::Valued(value) => Ok(Given::Valued(copy_value(alloc, value)?)),
+        }
+    }
+
+    /// The value of a global, and the empty text where a number was given. Takes no memory.
+    pub fn into_value(self, alloc: Global) -> Value
+        ensures { value_of result ≡ value_in (given_of self) }
+    {
+        match self {
+            Given::Valued(value) => value,
+            Given::Counted(_) => Value::Text(Text::new(alloc)),
         }
     }
 }

@@ -1,6 +1,6 @@
 // Bodies of lines of a shape and a size.
 
-use std::alloc::{AllocError, Global};
+use std::alloc::Global;
 use xt_build::{BuildFault, Built, Line, build, lines};
 use xt_names::Scope;
 use xt_text::Memory;
@@ -72,7 +72,8 @@ fn body(alloc: Global, shape: &str, size: u64) -> Result<Vec<Line>, Memory> {
 }
 
 fn push(alloc: Global, body: &mut Vec<Line>, line: &str) -> Result<(), Memory> {
-    body.push(Line::new(alloc, line.as_bytes())?)?;
+    let line = Line::new(alloc, line.as_bytes())?;
+    body.push(line)?;
     Ok(())
 }
 
@@ -131,7 +132,7 @@ fn ends(state: u64, depth: u64) -> u64 {
 fn push_nested(alloc: Global, body: &mut Vec<Line>, size: u64) -> Result<(), Memory> {
     for index in 0..size {
         push(alloc, body, "(a")?;
-        push(alloc, body, declaration(alloc, index)?.as_str())?;
+        push_declaration(alloc, body, index)?;
     }
     for _ in 0..size {
         push(alloc, body, ")a")?;
@@ -139,13 +140,14 @@ fn push_nested(alloc: Global, body: &mut Vec<Line>, size: u64) -> Result<(), Mem
     Ok(())
 }
 
-fn declaration(alloc: Global, index: u64) -> Result<String, AllocError> {
-    format!(in alloc; "Axmlns:p{index} urn:{index}")
+fn push_declaration(alloc: Global, body: &mut Vec<Line>, index: u64) -> Result<(), Memory> {
+    let line = format!(in alloc; "Axmlns:p{index} urn:{index}")?;
+    push(alloc, body, line.as_str())
 }
 
 fn push_attributes(alloc: Global, body: &mut Vec<Line>, size: u64) -> Result<(), Memory> {
     for index in 0..size {
-        push(alloc, body, declaration(alloc, index)?.as_str())?;
+        push_declaration(alloc, body, index)?;
         let line = format!(in alloc; "Ap{index}:x 1")?;
         push(alloc, body, line.as_str())?;
     }
@@ -154,7 +156,7 @@ fn push_attributes(alloc: Global, body: &mut Vec<Line>, size: u64) -> Result<(),
 
 fn push_scopes(alloc: Global, body: &mut Vec<Line>, size: u64) -> Result<(), Memory> {
     for index in 0..size {
-        push(alloc, body, declaration(alloc, index)?.as_str())?;
+        push_declaration(alloc, body, index)?;
     }
     for _ in 0..size {
         for line in ["(q:a", "Axmlns:q urn:q", ")q:a"] {

@@ -8,7 +8,8 @@ use xt_text::Memory;
 /// Whether the text has a tree.
 pub fn outcome(alloc: Global, shape: &str, size: u64) -> Result<String, Memory> {
     let text = text(alloc, shape, size)?;
-    match parse(alloc, text.as_str(), &Scope::root(alloc)?) {
+    let scope = Scope::root(alloc)?;
+    match parse(alloc, text.as_str(), &scope) {
         Ok(_) => Ok(String::from_str(alloc, "tree")?),
         Err(fault) => match fault.code() {
             None => Err(Memory),

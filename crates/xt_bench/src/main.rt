@@ -27,7 +27,10 @@ use xt_text::Memory;
 fn main(rt: HostRuntime) -> io::Result<()> {
     let alloc = rt.alloc();
     let words: Vec<String> = env::args(&rt)?.collect(alloc)?;
-    let benches = words.as_slice().get(1..).unwrap_or(&[]);
+    let benches = match words.as_slice() {
+        [_, benches @ ..] => benches,
+        [] => &[],
+    };
     for bench in benches.chunks(3) {
         if let [bench, shape, size] = bench {
             let size = size.as_str().parse::<u64>().unwrap_or(0);

@@ -1,12 +1,9 @@
 // A world that looks everything up.
-ghost use Rattle.std.specs.Prelude.{◌≡◌, IfOk, IsSome, None};
+ghost use Rattle.std.specs.Prelude.{◌≡◌, IfOk, None};
 ghost use Rattle.spec_document.specs.Order.{entries_of};
-ghost use Rattle.spec_document.specs.Place.{written_name};
 ghost use Rattle.spec_meaning.specs.Question as question;
-ghost use Rattle.std.specs.Option.{option_map};
 ghost use Rattle.xp_syntax.specs.View.{test_of};
 ghost use Rattle.xt_ask.specs.View.{answer_of, question_of};
-ghost use Rattle.xt_tree.specs.View.{item_of};
 ghost use Rattle.xt_plain.specs.View.{truth_of};
 
 use crate::identifier::identifier;
@@ -18,6 +15,7 @@ use xt_text::{Memory, Text};
 use xt_tree::{Doc, NodeRef};
 
 /// A document, of whose tree everything is true and of keys, stylesheets and parameters nothing.
+#[derive(Drop)]
 pub struct PlainWorld<'a> {
     pub alloc: Global,
     pub document: &'a Doc,
@@ -91,16 +89,8 @@ fn named(alloc: Global, document: &Doc, node: &NodeRef) -> Result<Answer, Memory
     }
     let kind = document.kind(node);
     let name = document.name(alloc, node)?;
-    let written = written_name(alloc, document, node)?;
+    let written = document.written_name(alloc, node)?;
     Ok(Answer::Named(kind, name, written))
-}
-
-// The name as it is written. A stub, which always answers want of memory: it goes as soon as xt_tree tells names so.
-fn written_name(_alloc: Global, document: &Doc, node: &NodeRef) -> Result<Text, Memory>
-    requires { IsSome (item_of document.now node.now) }
-    ensures { IfOk result (λ text. option_map written_name (item_of document.now node.now) ≡ Some text) }
-{
-    Err(Memory)
 }
 
 fn place(alloc: Global, document: &Doc, node: &NodeRef) -> Result<Answer, Memory>

@@ -1,14 +1,11 @@
 // Documents, and siblings that are to stand in one.
-ghost use Rattle.std.specs.Prelude.{ℕ, List, ◌≡◌, ◌==◌, ◌+◌, ◌<◌, ◌≤◌, map, IfOk, OnOk, OnErr, ◌∷◌, [], MatchOption, IsSome, is_some, Some, None};
+ghost use Rattle.std.specs.Prelude.{◌≡◌, ◌+◌, ◌<◌, ◌≤◌, IfOk, OnOk, OnErr};
 ghost use Rattle.std.specs.Option.{option_map, option_and_then, ForSome};
 ghost use Rattle.spec_document.specs.Numbering.{number_limit};
 ghost use Rattle.spec_document.specs.Forest.{followed, height, numbered, size};
 ghost use Rattle.spec_document.specs.NodeFaults.{greatest_depth};
-ghost use Rattle.spec_document.specs.Name.{qname_of};
-ghost use Rattle.spec_document.specs.Declaration.{namespaces_in, attribute_name};
-ghost use Rattle.spec_document.specs.Place.{TreeNode, expanded_name, name_by, node_at, scope_at, kind_of, kind_by, string_value, string_value_by, attributes_of, namespaces_of, at_number};
-ghost use Rattle.xt_names.specs.View.{entries_of};
-ghost use Rattle.xt_tree.specs.View.{itself, IsPlaceOf, IsWayTo, item_of, numbered_node, written_of, content_of, forest_of, tree_of, first_tree};
+ghost use Rattle.spec_document.specs.Place.{TreeNode, node_at};
+ghost use Rattle.xt_tree.specs.View.{itself, item_of, numbered_node, content_of, forest_of, tree_of, first_tree};
 ghost use Rattle.xt_tree.specs.Numbers.{IsNumbered};
 ghost use Rattle.spec_document.specs.Forest as spec;
 

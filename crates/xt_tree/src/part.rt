@@ -6,7 +6,7 @@ ghost use Rattle.spec_document.specs.Name.{qname_of};
 ghost use Rattle.spec_document.specs.Declaration as spec;
 ghost use Rattle.std.specs.List.{filter};
 ghost use Rattle.spec_document.specs.Declaration.{is_declaration, declared_all, within};
-ghost use Rattle.spec_document.specs.Place.{at_number, attributes_in, name_by};
+ghost use Rattle.spec_document.specs.Place.{at_number, attributes_in, name_by, written_by};
 ghost use Rattle.xt_names.specs.View.{entry_of, entries_of};
 ghost use Rattle.xt_tree.specs.View.{written_of, content_of};
 
@@ -98,6 +98,17 @@ pub fn namespace_at(namespaces: &[Rc<Namespace>], number: u64) -> Option<&Namesp
         left = left.saturating_sub(1);
     }
     None
+}
+
+/// The name of a node of the tree with this content as it is written; empty where it has none.
+pub fn content_written(alloc: Global, content: &Content) -> Result<Text, Memory>
+    ensures { IfOk result (λ name. name ≡ written_by (Some (content_of content.now))) }
+{
+    match content {
+        Content::Element { name, .. } => name.copy(alloc),
+        Content::Instruction { target, .. } => target.copy(alloc),
+        Content::Text { .. } | Content::Comment { .. } => Ok(Text::new(alloc)),
+    }
 }
 
 /// The expanded name of a node of the tree with this content, which stands with its declarations in this

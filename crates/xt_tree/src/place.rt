@@ -1,11 +1,8 @@
 // Where nodes stand, and the namespaces in scope there.
-ghost use Rattle.std.specs.Prelude.{ℕ, List, ◌≡◌, ◌==◌, ◌+◌, ◌<◌, ◌≤◌, map, IfOk, OnOk, OnErr, ◌∷◌, [], MatchOption, IsSome, is_some, Some, None};
-ghost use Rattle.std.specs.Option.{option_map, option_and_then, ForSome};
-ghost use Rattle.spec_document.specs.Name.{qname_of};
-ghost use Rattle.spec_document.specs.Declaration.{namespaces_in, attribute_name};
-ghost use Rattle.spec_document.specs.Place.{TreeNode, expanded_name, name_by, node_at, scope_at, kind_of, kind_by, string_value, string_value_by, attributes_of, namespaces_of, at_number};
-ghost use Rattle.xt_names.specs.View.{entries_of};
-ghost use Rattle.xt_tree.specs.View.{itself, IsPlaceOf, IsWayTo, item_of, numbered_node, written_of, content_of, forest_of, tree_of};
+ghost use Rattle.std.specs.Prelude.{ℕ, List, ◌≡◌, IfOk, IsSome, is_some, Some};
+ghost use Rattle.std.specs.Option.{option_map, ForSome};
+ghost use Rattle.spec_document.specs.Place.{node_at, scope_at, attributes_of, namespaces_of, at_number};
+ghost use Rattle.xt_tree.specs.View.{IsPlaceOf, IsWayTo, item_of, numbered_node};
 
 use crate::find::{lead, sibling_at};
 use crate::part::{enter, namespace_at};

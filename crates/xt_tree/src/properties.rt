@@ -1,15 +1,17 @@
 // What nodes are: their kinds, names and values.
-ghost use Rattle.std.specs.Prelude.{ℕ, List, ◌≡◌, ◌==◌, ◌+◌, ◌<◌, ◌≤◌, map, IfOk, OnOk, OnErr, ◌∷◌, [], MatchOption, IsSome, is_some, Some, None};
+ghost use Rattle.std.specs.Prelude.{◌≡◌, map, IfOk, [], IsSome, Some};
 ghost use Rattle.std.specs.Option.{option_map, option_and_then, ForSome};
 ghost use Rattle.spec_document.specs.Name.{qname_of};
 ghost use Rattle.spec_document.specs.Declaration.{namespaces_in, attribute_name};
-ghost use Rattle.spec_document.specs.Place.{TreeNode, expanded_name, name_by, node_at, scope_at, kind_of, kind_by, string_value, string_value_by, attributes_of, namespaces_of, at_number};
+ghost use Rattle.spec_document.specs.Place.{expanded_name, name_by, scope_at, kind_of, kind_by, string_value, string_value_by, written_by, written_name, attributes_of, namespaces_of, at_number};
 ghost use Rattle.xt_names.specs.View.{entries_of};
-ghost use Rattle.xt_tree.specs.View.{itself, IsPlaceOf, IsWayTo, item_of, numbered_node, written_of, content_of, forest_of, tree_of};
+ghost use Rattle.xt_tree.specs.View.{item_of, numbered_node, written_of};
 
 use crate::find::{push_texts, push_value};
 use crate::names::copied;
-use crate::part::{attribute_at, attribute_name, attributes_in, content_name, namespace_at};
+use crate::part::{
+    attribute_at, attribute_name, attributes_in, content_name, content_written, namespace_at,
+};
 use crate::{Doc, NodeId, NodeRef, Part, Written};
 use spec_document::Kind;
 use std::alloc::Global;
@@ -119,6 +121,48 @@ impl Doc {
         match self.own_kind(id) {
             Kind::Element => self.scope_of(alloc, &NodeRef::of(id))?.namespaces(alloc),
             _ => Ok(Vec::new(alloc)),
+        }
+    }
+
+    /// The name of a node of the tree as it is written: of an element and an attribute the QName, of a
+    /// processing instruction its target, of a namespace node its prefix. Empty for any other node.
+    pub fn written_name(&self, alloc: Global, node: &NodeRef) -> Result<Text, Memory>
+        requires { IsSome (item_of self.now node.now) }
+        ensures { IfOk result (λ text. option_map written_name (item_of self.now node.now) ≡ Some text) }
+    {
+        match node.part {
+            Part::Itself => self.own_written(alloc, node.node),
+            Part::Attribute(number) => self.attribute_written(alloc, node.node, number),
+            Part::Namespace(number) => self.namespace_prefix(alloc, node, number),
+        }
+    }
+
+    fn own_written(&self, alloc: Global, id: NodeId) -> Result<Text, Memory>
+        ensures { IfOk result (λ text. ForSome (numbered_node self.now id.number) (λ node. text ≡ written_by node.content)) }
+    {
+        match self.content(id) {
+            None => Ok(Text::new(alloc)),
+            Some(content) => content_written(alloc, content),
+        }
+    }
+
+    fn attribute_written(&self, alloc: Global, id: NodeId, number: u64) -> Result<Text, Memory>
+        ensures { IfOk result (λ text. ForSome (numbered_node self.now id.number) (λ node. ForSome (at_number number (attributes_of node)) (λ a. text ≡ a.name))) }
+    {
+        match self.attribute(id, number) {
+            None => Ok(Text::new(alloc)),
+            Some(attribute) => attribute.name.copy(alloc),
+        }
+    }
+
+    // The namespaces in scope at a node. The condition that it is an element is the caller's.
+    fn namespace_prefix(&self, alloc: Global, node: &NodeRef, number: u64) -> Result<Text, Memory>
+        ensures { IfOk result (λ text. ForSome (numbered_node self.now node.now.node.number) (λ found. ForSome (at_number number (namespaces_in (scope_at found))) (λ n. text ≡ n.0))) }
+    {
+        let namespaces = self.scope_of(alloc, node)?.namespaces(alloc)?;
+        match namespace_at(namespaces.as_slice(), number) {
+            None => Ok(Text::new(alloc)),
+            Some(namespace) => namespace.prefix.copy(alloc),
         }
     }
 

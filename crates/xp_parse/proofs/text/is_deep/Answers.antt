@@ -28,4 +28,5 @@ loop-token-preserved c =
 pub returns : goal.returns
 returns c =
     let d = c.loop-token.depth in
-    sym (c.loop-token.invariant.same ∙ at_drop_all (λ (l : List Token). is_deep d (map token_of l)) c.args.tokens.now c.loop-token.token-index (omega arith) ∙ deep_none d)
+    sym (c.loop-token.invariant.same ∙ at_drop_all (λ (l : List Token). is_deep d (map token_of l)) c.args.tokens.now c.loop-token.token-index (omega arith)
+    ∙ deep_none d)

@@ -1,4 +1,4 @@
-use Rattle.std.proofs.Common.{◌≡◌, List, Option, Some, Vec, Global, map, ap, sym, ◌∙◌}
+use Rattle.std.proofs.Common.{List, Option, Some, Vec, Global, map, ap, sym, ◌∙◌}
 use Rattle.std.specs.Prelude.{option_map}
 use Rattle.std.specs.Str.{chars}
 use Rattle.spec_expression.specs.Token as plain
@@ -11,15 +11,11 @@ use Rattle.xp_parse.proofs.text.parse.Goals as goal
 pub returns-in-Some : goal.returns-in-Some
 returns-in-Some c =
     let seen : Option (Vec Token Global) → Option (List plain.Token) = λ o. option_map (λ v. map token_of v.items) o in
-    let slice : c.as_slice.result.now ≡ chars c.args.text.now = c.as_slice.ensures.value ∙ c.in_ok-characters.ensures in
-    let cut : seen c.in_ok-tokens.field-0 ≡ tokens c.as_slice.result.now = c.in_ok-tokens.ensures in
     let all : List Token → Option (List plain.Token) = λ l. Some (map token_of l) in
-    parsed_some c.args.scope.now (chars c.args.text.now) (map token_of c.as_slice-in-Some.result.now) c.tree.result
-    (sym (ap tokens slice) ∙ sym cut ∙ ap seen c.in-Some.is ∙ ap all (sym c.as_slice-in-Some.ensures.value)) c.tree.ensures
+    parsed_some c.args.scope.now (chars c.args.text.now) (map token_of c.as_slice.result.now) c.tree.result
+    (sym c.in_ok-tokens.ensures ∙ ap seen c.in-Some.is ∙ ap all (sym c.as_slice.ensures.value)) c.tree.ensures
 
-pub returns : goal.returns
-returns c =
+pub returns-in-None : goal.returns-in-None
+returns-in-None c =
     let seen : Option (Vec Token Global) → Option (List plain.Token) = λ o. option_map (λ v. map token_of v.items) o in
-    let slice : c.as_slice.result.now ≡ chars c.args.text.now = c.as_slice.ensures.value ∙ c.in_ok-characters.ensures in
-    let cut : seen c.in_ok-tokens.field-0 ≡ tokens c.as_slice.result.now = c.in_ok-tokens.ensures in
-    parsed_none c.args.scope.now (chars c.args.text.now) (sym (ap tokens slice) ∙ sym cut ∙ ap seen c.in-None.is)
+    parsed_none c.args.scope.now (chars c.args.text.now) (sym c.in_ok-tokens.ensures ∙ ap seen c.in-None.is)

@@ -61,7 +61,8 @@ decreases-unary-loop-at l = length l.self.tokens.now - l.at
 
 abbrev pub invariant-arguments-loop-at : goal.invariant-arguments-loop-at
 invariant-arguments-loop-at l = record {
-  so_far : Growing (ReadsMore l.self.scope.now) 13 (left l.self l.initial.at) (map expr_of l.initial.arguments.items) (map expr_of l.arguments.items) (left l.self l.at);
+  so_far : Growing (ReadsMore l.self.scope.now) 13 (left l.self l.initial.at) (map expr_of l.initial.arguments.items) (map expr_of l.arguments.items)
+      (left l.self l.at);
   later : l.fn.at < l.at;
   within : l.at ≤ length l.self.tokens.now;
 }
@@ -81,7 +82,8 @@ decreases-predicates-loop-at l = length l.self.tokens.now - l.at
 
 abbrev pub invariant-steps-loop-at : goal.invariant-steps-loop-at
 invariant-steps-loop-at l = record {
-  so_far : Growing (ReadsSteps l.self.scope.now) 9 (left l.self l.initial.at) (map step_of l.initial.steps.items) (map step_of l.steps.items) (left l.self l.at);
+  so_far : Growing (ReadsSteps l.self.scope.now) 9 (left l.self l.initial.at) (map step_of l.initial.steps.items) (map step_of l.steps.items)
+      (left l.self l.at);
   later : l.fn.at ≤ l.at;
   within : l.at ≤ length l.self.tokens.now;
 }

@@ -17,7 +17,8 @@ returns-in-Some-axis_of-clause-ok c =
     let q = name_of c.in-Some.name in
     let n : IsNext c.args.self.now c.args.at.now (Name q) × IsNext c.args.self.now (c.args.at.now + 1) ColonColon = c.in-Some.ensures in
     let a : Some c.in-Some-axis_of.axis ≡ axis_of q = c.in-Some-axis_of.ensures in
-    subst (λ (ts : List Token). ReadsAxis ts c.in-Some-axis_of.axis (left c.args.self.now (c.args.at.now + 2))) (sym (next_two c.args.self.now c.args.at.now (Name q) ColonColon n.0 n.1)) (named (sym a))
+    subst (λ (ts : List Token). ReadsAxis ts c.in-Some-axis_of.axis (left c.args.self.now (c.args.at.now + 2)))
+    (sym (next_two c.args.self.now c.args.at.now (Name q) ColonColon n.0 n.1)) (named (sym a))
 
 pub returns-in-None-clause-ok : goal.returns-in-None-clause-ok
 returns-in-None-clause-ok c =

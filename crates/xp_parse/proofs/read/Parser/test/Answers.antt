@@ -1,4 +1,5 @@
 use Rattle.std.proofs.Common.{◌≡◌, ℕ, ◌+◌, List, Some, refl, ap, sym, subst, ◌∙◌}
+use Rattle.std.specs.Str.{chars}
 use Rattle.spec_document.specs.Name.{Expanded}
 use Rattle.spec_expression.specs.Token.{Name, Star, AnyOf, Open}
 use Rattle.spec_expression.specs.Syntax.{InNamespace, Named}
@@ -14,14 +15,16 @@ use Rattle.xp_parse.proofs.read.Parser.test.Goals.{in_default-via-in-Some+else-n
 
 pub returns-in-Some-Star-clause-answer : goal.returns-in-Some-Star-clause-answer
 returns-in-Some-Star-clause-answer c =
-    let n : IsNext c.args.self.now c.args.at.now Star = subst (λ (h : TestHead). BeginsTest c.args.self.now c.args.at.now h) c.in-Some-Star.field-0-is c.in-Some-Star.ensures in
+    let n : IsNext c.args.self.now c.args.at.now Star =
+    subst (λ (h : TestHead). BeginsTest c.args.self.now c.args.at.now h) c.in-Some-Star.field-0-is c.in-Some-Star.ensures in
     found refl (at_read n any_read)
 
 pub returns-in_ok-uri-in-Some-AnyOf-clause-answer : goal.returns-in_ok-uri-in-Some-AnyOf-clause-answer
 returns-in_ok-uri-in-Some-AnyOf-clause-answer c =
     let p = c.args.self.now in
-    let x = c.in-Some-AnyOf.prefix.now in
-    let n : IsNext p c.args.at.now (AnyOf x) = subst (λ (h : TestHead). BeginsTest c.args.self.now c.args.at.now h) c.in-Some-AnyOf.field-0-is c.in-Some-AnyOf.ensures in
+    let x = chars c.in-Some-AnyOf.prefix.now in
+    let n : IsNext p c.args.at.now (AnyOf x) =
+    subst (λ (h : TestHead). BeginsTest c.args.self.now c.args.at.now h) c.in-Some-AnyOf.field-0-is c.in-Some-AnyOf.ensures in
     let e : c.in_ok-uri-in-Some-AnyOf.uri ≡ uri_of p.scope.now (Some x) = c.in_ok-uri-in-Some-AnyOf.ensures in
     found (ap (λ (y : List ℕ). InNamespace y) e) (at_read n in_namespace_read)
 
@@ -29,7 +32,8 @@ pub returns-in_ok-name-in_default-clause-answer : goal.returns-in_ok-name-in_def
 returns-in_ok-name-in_default-clause-answer c =
     let p = c.args.self.now in
     let q = name_of c.in-Some-Name.name in
-    let n : IsNext p c.args.at.now (Name q) = subst (λ (h : TestHead). BeginsTest c.args.self.now c.args.at.now h) c.in-Some-Name.field-0-is c.in-Some-Name.ensures in
+    let n : IsNext p c.args.at.now (Name q) =
+    subst (λ (h : TestHead). BeginsTest c.args.self.now c.args.at.now h) c.in-Some-Name.field-0-is c.in-Some-Name.ensures in
     let e : c.in_ok-name-in_default.name ≡ expanded p.scope.now q = c.in_ok-name-in_default.ensures in
     found (ap (λ (y : Expanded). Named y) e) (elim c.in_default.branch [
       | in_default-via-in-Some+else-next_is w ↦ let o : IsNotNext (left p (c.args.at.now + 1)) Open = w.if-next_is.ensures in at_read n (named_read_alone o)

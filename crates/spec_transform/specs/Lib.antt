@@ -1,0 +1,3 @@
+pub mod Reading
+pub mod Content
+pub mod Outcome

@@ -1,0 +1,11 @@
+use Rattle.std.proofs.Common.{refl}
+use Rattle.spec_meaning.specs.Program.{Position, Size, Counted, count_in}
+use Rattle.spec_meaning.specs.Convert.{counted}
+use Rattle.xp_functions.proofs.Within.{needs}
+use Rattle.xp_functions.proofs.context.position.Goals as goal
+
+pub returns-in-Some-clause-runs : goal.returns-in-Some-clause-runs
+returns-in-Some-clause-runs g c = rw c.in-Some.is (c.count.ensures _ _ _)
+
+pub returns-in_ok-see-in-None-clause-runs : goal.returns-in_ok-see-in-None-clause-runs
+returns-in_ok-see-in-None-clause-runs g c = rw c.in-None.is (needs Position (Counted c.args.supplies.now.position) (λ x. counted (count_in x)) refl (c.in_ok-see-in-None.ensures {u = tt}).seen (c.count-in-None.ensures _ _ _))

@@ -1,0 +1,8 @@
+use Rattle.xt_ask.proofs.Steps.{runs_then, runs_stop, exits}
+use Rattle.xp_functions.proofs.key.of_text_of.Goals as goal
+
+pub returns-in_err-text-clause-runs : goal.returns-in_err-text-clause-runs
+returns-in_err-text-clause-runs g c supply depth = exits _ c.from_residual.ensures.1 (runs_stop _ (c.in_err-text.ensures.runs supply depth))
+
+pub returns-clause-runs : goal.returns-clause-runs
+returns-clause-runs g c supply depth = runs_then _ (c.in_ok-text.ensures.runs supply depth) (c.nodes_of_key.ensures.runs supply depth)

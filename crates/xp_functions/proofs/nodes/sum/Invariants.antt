@@ -1,0 +1,15 @@
+use Rattle.std.proofs.Common.{◌≡◌, ℕ, pos, drop}
+use Rattle.spec_expression.specs.Number.{Whole}
+use Rattle.spec_meaning.specs.Program.{Supply}
+use Rattle.spec_meaning.specs.Call.{summed}
+use Rattle.xt_tree.specs.declared.node_ref.NodeRef.{NodeRef}
+use Rattle.xt_ask.specs.Runs.{Continues}
+use Rattle.xp_functions.proofs.nodes.sum.Given as goal
+
+abbrev pub invariant-loop-node : goal.invariant-loop-node
+invariant-loop-node g l =
+    let state = g.W.World.state in
+    record {
+      same : (supply : Supply NodeRef) (depth : ℕ) → Continues supply depth (summed l.total (drop l.node-index l.nodes)) (state l.world) (summed (Whole (pos 0)) l.nodes) (state l.fn.world);
+      name : g.W.World.name l.world ≡ g.W.World.name l.fn.world;
+    }

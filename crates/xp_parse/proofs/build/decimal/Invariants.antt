@@ -1,6 +1,0 @@
-use Rattle.std.proofs.Common.{◌≡◌, ◌+◌, take, min}
-use Rattle.spec_expression.specs.Number.{decimal, greatest}
-use Rattle.xp_parse.proofs.build.decimal.Given as goal
-
-abbrev pub invariant-loop-digit : goal.invariant-loop-digit
-invariant-loop-digit l = l.number ≡ min (decimal (take l.digit-index l.digits)) (greatest + 1)

@@ -1,0 +1,45 @@
+// The texts of fragments (XSLT 1.0, section 11.1).
+ghost use Rattle.std.specs.Prelude.{◌≡◌, ◌++◌, IfOk, OnOk};
+ghost use Rattle.spec_meaning.specs.Stream.{texts_of};
+ghost use Rattle.xt_tree.specs.StreamView.{single_of, stream_of};
+
+use std::alloc::Global;
+use xt_text::{Memory, Text};
+use xt_tree::{Fragment, Item, Items};
+
+/// The string-value of the fragment's root: the texts in elements and beside them.
+pub(crate) fn text_of(alloc: Global, fragment: &Fragment) -> Result<Text, Memory>
+    ensures { IfOk result (λ text. text ≡ texts_of fragment.now) }
+{
+    let mut text = Text::new(alloc);
+    push_texts(&mut text, fragment.items())?;
+    Ok(text)
+}
+
+#[cycle(push)]
+fn push_texts(text: &mut Text, items: &Items) -> Result<(), Memory>
+    ensures { OnOk result (text.new ≡ text.old ++ texts_of (stream_of items.now)) }
+{
+    for item in items.list() {
+        push_item(text, item)?;
+    }
+    Ok(())
+}
+
+#[cycle(push)]
+fn push_item(text: &mut Text, item: &Item) -> Result<(), Memory>
+    ensures { OnOk result (text.new ≡ text.old ++ texts_of (single_of item.now)) }
+{
+    match item {
+        Item::Element { content, .. } => push_texts(text, content),
+        Item::Nameless { content } => push_texts(text, content),
+        Item::Text(more) => text.push_str(more.as_str()),
+        Item::Part(items) => push_texts(text, items),
+        Item::Attribute { .. } => Ok(()),
+        Item::Namespace(_) => Ok(()),
+        Item::Comment { .. } => Ok(()),
+        Item::Instruction { .. } => Ok(()),
+        Item::Message { .. } => Ok(()),
+        Item::Hole => Ok(()),
+    }
+}
