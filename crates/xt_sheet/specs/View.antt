@@ -1,0 +1,46 @@
+-- What contents stand for, and what a module is read as.
+use Rattle.std.specs.Prelude.{◌≡◌, ℕ, List, [], ◌∷◌, map, Result, Ok, Err}
+use Rattle.spec_document.specs.Forest.{Plain}
+use Rattle.spec_transform.specs.Reading.{Reading, Reads}
+use Rattle.spec_transform.specs.Content as plain
+use Rattle.spec_transform.specs.Content.{Fault, stylesheet_of}
+use Rattle.xp_syntax.specs.View.{expr_of}
+use Rattle.xt_sheet.specs.declared.content.Content.{Content, Content-F, fold-Content}
+use Rattle.xt_sheet.specs.declared.content.Instruction.{Instruction, Instruction-F, fold-Instruction}
+use Rattle.xt_sheet.specs.declared.module.SheetFault.{SheetFault}
+use Rattle.xt_sheet.specs.declared.module.SheetFault.TheVariants as faults
+
+-- one content, and others after it
+abbrev pub followed : plain.Content → plain.Content → plain.Content
+followed plain.Ended others = others
+followed (plain.Words text rest) others = plain.Words text (followed rest others)
+followed (plain.Literal name content rest) others = plain.Literal name content (followed rest others)
+followed (plain.ValueOf path select rest) others = plain.ValueOf path select (followed rest others)
+
+abbrev pub all_followed : List plain.Content → plain.Content
+all_followed [] = plain.Ended
+all_followed (content ∷ contents) = followed content (all_followed contents)
+
+-- an instruction as a content of its own
+abbrev pub content_step : Content-F plain.Content plain.Content → plain.Content
+content_step c = all_followed c.instructions.items
+
+abbrev pub instruction_step : Instruction-F plain.Content plain.Content → plain.Content
+instruction_step (Instruction-F.Words text) = plain.Words text plain.Ended
+instruction_step (Instruction-F.Literal name content) = plain.Literal name content plain.Ended
+instruction_step (Instruction-F.ValueOf path select) = plain.ValueOf path (expr_of select) plain.Ended
+
+abbrev pub content_of : Content → plain.Content
+content_of = fold-Content plain.Content plain.Content content_step instruction_step
+
+abbrev pub instruction_of : Instruction → plain.Content
+instruction_of = fold-Instruction plain.Content plain.Content content_step instruction_step
+
+-- what a call answers is what a reading comes to; of want of memory it says nothing
+abbrev pub Answers : {A X : Type 0} → (X → A) → Reading (Result A Fault) → Result X SheetFault → Type 0
+Answers view reading (Ok x) = Reads reading (Ok (view x))
+Answers view reading (Err (faults.Refused code path)) = Reads reading (Err (record { code = code; path = path }))
+Answers view reading (Err faults.Memory) = Unit {0}
+
+pub record ReadsModule (module_nodes : Plain) (result : Result Content SheetFault) : Type 0 where
+  pub so : Answers content_of (stylesheet_of 1 module_nodes) result

@@ -1,0 +1,13 @@
+//! Stylesheet modules: what the template of a module says, or the first static refusal. The stylesheets that
+//! are taken so far have one template for the root, of texts, literal elements and xsl:value-of.
+//!
+//! ```text
+//! let content = read(alloc, &module)?;      // S10 to S16, S90 at an element
+//! ```
+#![tactic(auto)]
+
+mod content;
+mod module;
+
+pub use content::{Content, Instruction};
+pub use module::{SheetFault, read};
