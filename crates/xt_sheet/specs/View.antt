@@ -31,10 +31,10 @@ instruction_step (Instruction-F.Literal name content) = plain.Literal name conte
 instruction_step (Instruction-F.ValueOf path select) = plain.ValueOf path (expr_of select) plain.Ended
 
 abbrev pub content_of : Content → plain.Content
-content_of = fold-Content plain.Content plain.Content content_step instruction_step
+content_of = fold-Content plain.Content plain.Content instruction_step content_step
 
 abbrev pub instruction_of : Instruction → plain.Content
-instruction_of = fold-Instruction plain.Content plain.Content content_step instruction_step
+instruction_of = fold-Instruction plain.Content plain.Content instruction_step content_step
 
 -- what a call answers is what a reading comes to; of want of memory it says nothing
 abbrev pub Answers : {A X : Type 0} → (X → A) → Reading (Result A Fault) → Result X SheetFault → Type 0
