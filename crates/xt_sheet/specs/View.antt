@@ -1,14 +1,15 @@
 -- What contents stand for, and what a module is read as.
-use Rattle.std.specs.Prelude.{◌≡◌, ℕ, List, [], ◌∷◌, map, Result, Ok, Err}
+use Rattle.std.specs.Prelude.{◌≡◌, ℕ, List, [], ◌∷◌, map, Option, None, Some, Result, Ok, Err}
 use Rattle.spec_document.specs.Forest.{Plain}
+use Rattle.spec_expression.specs.declared.code.StaticCode.{StaticCode}
 use Rattle.spec_transform.specs.Reading.{Reading, Reads}
 use Rattle.spec_transform.specs.Content as plain
 use Rattle.spec_transform.specs.Content.{Fault, stylesheet_of}
 use Rattle.xp_syntax.specs.View.{expr_of}
 use Rattle.xt_sheet.specs.declared.content.Content.{Content, Content-F, fold-Content}
 use Rattle.xt_sheet.specs.declared.content.Instruction.{Instruction, Instruction-F, fold-Instruction}
-use Rattle.xt_sheet.specs.declared.module.SheetFault.{SheetFault}
-use Rattle.xt_sheet.specs.declared.module.SheetFault.TheVariants as faults
+use Rattle.xt_sheet.specs.declared.fault.SheetFault.{SheetFault}
+use Rattle.xt_sheet.specs.declared.fault.SheetFault.TheVariants as faults
 
 -- one content, and others after it
 abbrev pub followed : plain.Content → plain.Content → plain.Content
@@ -41,6 +42,23 @@ abbrev pub Answers : {A X : Type 0} → (X → A) → Reading (Result A Fault) �
 Answers view reading (Ok x) = Reads reading (Ok (view x))
 Answers view reading (Err (faults.Refused code path)) = Reads reading (Err (record { code = code; path = path }))
 Answers view reading (Err faults.Memory) = Unit {0}
+
+-- the same as a record, by which the answers of functions are told
+pub record IsAnswer {A X : Type 0} (view : X → A) (reading : Reading (Result A Fault)) (result : Result X SheetFault) : Type 0 where
+  pub so : Answers view reading result
+
+-- a refusal of this code at this path, unless memory ran out
+abbrev pub IsAt : StaticCode → List ℕ → SheetFault → Type 0
+IsAt code path (faults.Refused c p) = (c ≡ code) × (p ≡ path)
+IsAt code path faults.Memory = Unit {0}
+
+-- instructions in their order, and one that may be there, as contents
+abbrev pub instructions_of : List Instruction → plain.Content
+instructions_of list = all_followed (map instruction_of list)
+
+abbrev pub said : Option Instruction → plain.Content
+said None = plain.Ended
+said (Some instruction) = instruction_of instruction
 
 pub record ReadsModule (module_nodes : Plain) (result : Result Content SheetFault) : Type 0 where
   pub so : Answers content_of (stylesheet_of 1 module_nodes) result

@@ -6,8 +6,13 @@
 //! ```
 #![tactic(auto)]
 
+mod body;
 mod content;
+mod element;
+mod expression;
+mod fault;
 mod module;
 
 pub use content::{Content, Instruction};
-pub use module::{SheetFault, read};
+pub use fault::SheetFault;
+pub use module::read;

@@ -1,0 +1,5 @@
+pub mod Counts
+pub mod Labels
+pub mod Siblings
+pub mod Steps
+pub mod Words
