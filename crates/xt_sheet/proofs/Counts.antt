@@ -1,5 +1,5 @@
 -- How many arguments there are, and what a look-up of a function says.
-use Rattle.std.proofs.Common.{◌≡◌, ℕ, ◌+◌, Bool, true, false, List, [], ◌∷◌, length, map, Option, None, Some, Result, refl, sym, ap, ◌∙◌}
+use Rattle.std.proofs.Common.{◌≡◌, ℕ, Bool, true, false, List, [], ◌∷◌, length, map, Option, None, Some, Result, refl, arith}
 use Rattle.std.specs.Result.{is_err}
 use Rattle.spec_document.specs.Name.{Expanded}
 use Rattle.spec_expression.specs.Syntax.{exprs}
@@ -12,7 +12,7 @@ use Rattle.xp_syntax.specs.declared.expr.Expr.{Expr}
 
 pub count_is : (xs : List Expr) → length xs ≡ count_of (exprs (map expr_of xs))
 count_is [] = refl
-count_is (x ∷ xs) = ap (λ n. 1 + n) (count_is xs)
+count_is (x ∷ xs) = omega (arith, count_is xs)
 
 pub no_function : (o : Option Function) → is_err (found_or_refused o) ≡ elim o [ None ↦ true | Some function ↦ false ]
 no_function None = refl

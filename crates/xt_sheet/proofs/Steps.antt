@@ -1,5 +1,6 @@
 -- How readings follow one another, and how answers of functions that read are put together.
-use Rattle.std.proofs.Common.{◌≡◌, ℕ, List, Result, Ok, Err, refl, sym, ap, ◌∙◌, subst}
+use Rattle.std.proofs.Common.{◌≡◌, ℕ, ◌+◌, ◌<◌, ◌≤◌, List, [], ◌∷◌, length, drop, get_or, Result, Ok, Err, refl, sym, ap, ◌∙◌, subst}
+use Rattle.std.proofs.lemmas.List.{at_drop_more, at_drop_all}
 use Rattle.std.specs.Result.{IsErrAnd}
 use Rattle.spec_expression.specs.declared.code.StaticCode.{StaticCode}
 use Rattle.spec_document.specs.Scope.{Scope}
@@ -109,3 +110,11 @@ answers_from {X = X} {v = v} {p = p} {q = q} {r = r} c h = record { so = go r h.
     go (Ok x) a = c.so (Ok (v x)) a
     go (Err (Refused code path)) a = c.so (Err (record { code = code; path = path })) a
     go (Err Memory) a = tt
+
+-- the next turn of a loop over a list, and what is left after the last
+pub next_turn : {A E : Type 0} (left : List E → Reading A) (xs : List E) (i : ℕ) (x : E) {q : Reading A} → i < length xs → Continues (left (drop i xs)) q
+    → Continues (left (get_or xs i x ∷ drop (i + 1) xs)) q
+next_turn left xs i x {q = q} h c = subst (λ p. Continues p q) (at_drop_more left xs i x h) c
+
+pub last_turn : {A E : Type 0} (left : List E → Reading A) (xs : List E) (i : ℕ) {q : Reading A} → length xs ≤ i → Continues (left (drop i xs)) q → Continues (left []) q
+last_turn left xs i {q = q} h c = subst (λ p. Continues p q) (at_drop_all left xs i h) c

@@ -36,12 +36,12 @@ abbrev pub only_of : List spec.Written → Option spec.Written
 only_of (a ∷ []) = Some a
 only_of _ = None
 
--- the attributes of the stylesheet, and its name
-abbrev pub are_stylesheet_attributes : List spec.Written → Bool
-are_stylesheet_attributes attributes = is_version (others attributes) && list_all (λ a. bytes_eq a.value xslt_uri) (filter is_declaration attributes)
+-- the name of the stylesheet with its version, and with its declarations
+abbrev pub has_version : Option Expanded → List spec.Written → Bool
+has_version name attributes = (is_language (codes "stylesheet") name || is_language (codes "transform") name) && is_version (others attributes)
 
 abbrev pub is_stylesheet : Option Expanded → List spec.Written → Bool
-is_stylesheet name attributes = (is_language (codes "stylesheet") name || is_language (codes "transform") name) && are_stylesheet_attributes attributes
+is_stylesheet name attributes = has_version name attributes && list_all (λ a. bytes_eq a.value xslt_uri) (filter is_declaration attributes)
 
 -- ---- Readings of one node
 

@@ -1,7 +1,7 @@
 // The content of the template.
 ghost use Rattle.std.specs.Prelude.{◌≡◌, ◌++◌, ◌∷◌, [], IfOk, OnOk, Ok, map};
 ghost use Rattle.spec_transform.specs.Content as spec;
-ghost use Rattle.spec_transform.specs.Reading.{Parse};
+ghost use Rattle.spec_transform.specs.Reading.{Done, Parse};
 ghost use Rattle.xp_syntax.specs.View.{expr_of};
 ghost use Rattle.xt_sheet.specs.Element.{alone, kind_of, value_reading, words_reading};
 ghost use Rattle.xt_sheet.specs.View.{IsAnswer, content_of, followed, instructions_of, said};
@@ -117,7 +117,7 @@ fn words(alloc: Global, text: &Text) -> Result<Option<Instruction>, SheetFault>
 }
 
 fn literal(alloc: Global, name: &Text, content: Content) -> Result<Option<Instruction>, SheetFault>
-    ensures { IfOk result (λ o. said o ≡ spec.Literal name.now (content_of content) spec.Ended) }
+    ensures { IsAnswer said (Done (Ok (spec.Literal name.now (content_of content) spec.Ended))) result }
 {
     let name = name.copy(alloc)?;
     Ok(Some(Instruction::Literal(name, content)))

@@ -6,7 +6,7 @@ ghost use Rattle.std.specs.Str.{chars};
 ghost use Rattle.spec_document.specs.Declaration as declaration;
 ghost use Rattle.spec_document.specs.Scope.{root_scope, xslt_uri};
 ghost use Rattle.spec_transform.specs.Content as spec;
-ghost use Rattle.xt_sheet.specs.Element.{are_stylesheet_attributes, is_empty, is_ignored, is_match, is_stylesheet, only_of, others};
+ghost use Rattle.xt_sheet.specs.Element.{has_version, is_empty, is_ignored, is_match, is_stylesheet, only_of, others};
 ghost use Rattle.xt_tree.specs.View.{content_of, forest_of, written_of};
 
 use std::alloc::Global;
@@ -168,7 +168,7 @@ pub(crate) fn scope_inside(alloc: Global, attributes: &[Written]) -> Result<Scop
 pub(crate) fn is_stylesheet(name: &Option<Expanded>, attributes: &[Written]) -> bool
     ensures { result ≡ is_stylesheet name.now (map written_of attributes.now) }
 {
-    names_stylesheet(name) && are_stylesheet_attributes(attributes)
+    has_version(name, attributes) && declare_the_language(attributes)
 }
 
 fn names_stylesheet(name: &Option<Expanded>) -> bool
@@ -177,10 +177,10 @@ fn names_stylesheet(name: &Option<Expanded>) -> bool
     is_stylesheet_name(name) || is_transform_name(name)
 }
 
-fn are_stylesheet_attributes(attributes: &[Written]) -> bool
-    ensures { result ≡ are_stylesheet_attributes (map written_of attributes.now) }
+fn has_version(name: &Option<Expanded>, attributes: &[Written]) -> bool
+    ensures { result ≡ has_version name.now (map written_of attributes.now) }
 {
-    is_version(attributes) && declare_the_language(attributes)
+    names_stylesheet(name) && is_version(attributes)
 }
 
 // Whether the only attribute that is no declaration is the version.
