@@ -1,11 +1,9 @@
 -- How many arguments there are, and what a look-up of a function says.
-use Rattle.std.proofs.Common.{◌≡◌, ℕ, Bool, true, false, List, [], ◌∷◌, length, map, Option, None, Some, Result, refl, arith}
+use Rattle.std.proofs.Common.{◌≡◌, true, false, List, [], ◌∷◌, length, map, Option, None, Some, refl, arith}
 use Rattle.std.specs.Result.{is_err}
-use Rattle.spec_document.specs.Name.{Expanded}
 use Rattle.spec_expression.specs.Syntax.{exprs}
-use Rattle.spec_meaning.specs.Function.{function_of}
 use Rattle.spec_meaning.specs.declared.function.Function.{Function}
-use Rattle.spec_transform.specs.Content.{count_of, is_unknown}
+use Rattle.spec_transform.specs.Content.{count_of}
 use Rattle.xp_functions.specs.Found.{found_or_refused}
 use Rattle.xp_syntax.specs.View.{expr_of}
 use Rattle.xp_syntax.specs.declared.expr.Expr.{Expr}

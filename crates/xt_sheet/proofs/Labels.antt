@@ -1,5 +1,5 @@
 -- What a module is read as is the same where labels are forgotten.
-use Rattle.std.proofs.Common.{◌≡◌, ℕ, ◌+◌, Bool, true, false, ◌&&◌, cond, List, [], ◌∷◌, ◌++◌, Option, None, Some, Result, Ok, Err, codes, refl}
+use Rattle.std.proofs.Common.{◌≡◌, ℕ, ◌+◌, ◌&&◌, cond, List, [], ◌∷◌, ◌++◌, None, Some, Ok, codes, refl}
 use Rattle.spec_document.specs.Declaration.{declared_all}
 use Rattle.spec_document.specs.Forest.{Written, Element, Text, Comment, Instruction, Forest, Empty, Node, plain}
 use Rattle.spec_document.specs.Scope.{Scope, root_scope}
@@ -18,9 +18,9 @@ counts_none-plain (Node label (Instruction target text) children siblings) = cou
 select_at-plain : {L : Type 0} (scope : Scope) (path : List ℕ) (attributes : List Written) (children : Forest L)
     → select_at scope path attributes (plain children) ≡ select_at scope path attributes children
 select_at-plain scope path attributes children = λ i. elim (only_value (codes "select") attributes) [
-    | None ↦ refused_at path code.NotYet
-    | Some text ↦ cond (counts_none-plain children i) (Parse scope text (select_by path)) (refused_at path code.NotYet)
-  ]
+  | None ↦ refused_at path code.NotYet
+  | Some text ↦ cond (counts_none-plain children i) (Parse scope text (select_by path)) (refused_at path code.NotYet)
+]
 
 content_of-plain : {L : Type 0} (scope : Scope) (path : List ℕ) (position : ℕ) (f : Forest L) → content_of scope path position (plain f) ≡ content_of scope path position f
 content_of-plain scope path position Empty = refl
@@ -30,12 +30,12 @@ content_of-plain scope path position (Node label (Comment text) children sibling
 content_of-plain scope path position (Node label (Instruction target text) children siblings) = content_of-plain scope path (position + 1) siblings
 content_of-plain scope path position (Node label (Element name attributes) children siblings) =
     λ i. cond (is_language (codes "value-of") (name_in scope name))
-        (reading_on (select_at-plain scope (path ++ position ∷ []) attributes children i)
-        (λ e. reading_on (content_of-plain scope path (position + 1) siblings i) (λ rest. Done (Ok (ValueOf (path ++ position ∷ []) e rest)))))
-        (cond (is_literal scope name attributes)
-        (reading_on (content_of-plain scope (path ++ position ∷ []) 1 children i)
-        (λ content. reading_on (content_of-plain scope path (position + 1) siblings i) (λ rest. Done (Ok (Literal name content rest)))))
-        (refused_at (path ++ position ∷ []) code.NotYet))
+    (reading_on (select_at-plain scope (path ++ position ∷ []) attributes children i)
+    (λ e. reading_on (content_of-plain scope path (position + 1) siblings i) (λ rest. Done (Ok (ValueOf (path ++ position ∷ []) e rest)))))
+    (cond (is_literal scope name attributes)
+    (reading_on (content_of-plain scope (path ++ position ∷ []) 1 children i)
+    (λ content. reading_on (content_of-plain scope path (position + 1) siblings i) (λ rest. Done (Ok (Literal name content rest)))))
+    (refused_at (path ++ position ∷ []) code.NotYet))
 
 template_in-plain : {L : Type 0} (scope : Scope) (path : List ℕ) (position : ℕ) (f : Forest L) → template_in scope path position (plain f) ≡ template_in scope path position f
 template_in-plain scope path position Empty = refl
@@ -45,8 +45,8 @@ template_in-plain scope path position (Node label (Comment text) children siblin
 template_in-plain scope path position (Node label (Instruction target text) children siblings) = template_in-plain scope path (position + 1) siblings
 template_in-plain scope path position (Node label (Element name attributes) children siblings) =
     λ i. cond (counts_none-plain siblings i)
-        (cond (is_template scope name attributes) (content_of-plain scope (path ++ position ∷ []) 1 children i) (refused_at (path ++ position ∷ []) code.NotYet))
-        (refused_at path code.NotYet)
+    (cond (is_template scope name attributes) (content_of-plain scope (path ++ position ∷ []) 1 children i) (refused_at (path ++ position ∷ []) code.NotYet))
+    (refused_at path code.NotYet)
 
 pub stylesheet_of-plain : {L : Type 0} (position : ℕ) (f : Forest L) → stylesheet_of position (plain f) ≡ stylesheet_of position f
 stylesheet_of-plain position Empty = refl

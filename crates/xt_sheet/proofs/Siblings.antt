@@ -1,5 +1,5 @@
 -- What siblings say: one after another.
-use Rattle.std.proofs.Common.{◌≡◌, ℕ, ◌+◌, Bool, true, false, cond, List, [], ◌∷◌, ◌++◌, map, Option, None, Some, Result, Ok, Err, bytes_eq, codes, refl, sym, ap, ◌∙◌, subst}
+use Rattle.std.proofs.Common.{◌≡◌, ℕ, ◌+◌, Bool, true, false, cond, List, [], ◌∷◌, ◌++◌, map, Result, Ok, Err, codes, refl, sym, ap, ◌∙◌, subst}
 use Rattle.spec_document.specs.Forest as spec
 use Rattle.spec_document.specs.Scope.{Scope}
 use Rattle.spec_transform.specs.Content.{Content, Ended, Words, Literal, ValueOf, Fault, content_of, is_language, is_literal, is_white, name_in, refused_at, select_at, stylesheet_of}
@@ -80,6 +80,7 @@ element_is scope path position label name attributes children =
   where
     here : List ℕ
     here = path ++ position ∷ []
+
     by : (b c : Bool) → element_reading (cond b kinds.ValueOf (cond c kinds.Literal kinds.Other)) scope here name attributes children
         ≡ cond b (value_reading scope here attributes children)
         (cond c (reading_on (content_of scope here 1 children) (λ content. Done (Ok (Literal name content Ended)))) (refused_at here code.NotYet))
@@ -124,12 +125,16 @@ turn scope path position done first tree trees {q = q} c h = record { so = go }
   where
     others : Reading (Result Content Fault)
     others = content_of scope path (position + 1) (forest trees)
+
     k : Content → Reading (Result Content Fault)
     k rest = Done (Ok (followed done rest))
+
     inner : reading_on (before_rest others first) k ≡ before_rest others (followed done first)
     inner = on_on others (λ rest. Done (Ok (followed first rest))) k ∙ (λ i. reading_on others (λ rest. Done (Ok (sym (followed_followed done first rest) i))))
+
     whole : reading_on (content_of scope path position (forest (tree ∷ trees))) k ≡ reading_on (content_of scope path position (alone tree)) (λ f. reading_on (before_rest others f) k)
     whole = ap (λ p. reading_on p k) (first_and_rest scope path position tree.number tree.content tree.children (forest trees)) ∙ on_on (content_of scope path position (alone tree)) (before_rest others) k
+
     go : (a : Result Content Fault) → Reads (before_rest others (followed done first)) a → Reads q a
     go a r =
         c.so a (subst (λ p. Reads p a) (sym whole) (on_ok (content_of scope path position (alone tree)) (λ f. reading_on (before_rest others f) k) first a h

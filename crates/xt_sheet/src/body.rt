@@ -74,7 +74,13 @@ fn instruction_at(
             let kind = kind_of(alloc, scope, name, attributes.as_slice())?;
             let here = below(alloc, path, position)?;
             match kind {
-                Kind::ValueOf => value_of(alloc, scope, here, attributes.as_slice(), node.children()),
+                Kind::ValueOf => value_of(
+                    alloc,
+                    scope,
+                    here,
+                    attributes.as_slice(),
+                    node.children(),
+                ),
                 Kind::Literal => {
                     let content = content_of(alloc, scope, &here, node.children())?;
                     literal(alloc, name, content)

@@ -134,7 +134,14 @@ fn template_at(
     match node.content() {
         NodeContent::Element { name, attributes } => {
             let here = below(alloc, path, position)?;
-            template_by(alloc, scope, &here, name, attributes.as_slice(), node.children())
+            template_by(
+                alloc,
+                scope,
+                &here,
+                name,
+                attributes.as_slice(),
+                node.children(),
+            )
         }
         NodeContent::Text { .. } => Err(fault(alloc, path, StaticCode::NotYet)),
         NodeContent::Comment { .. } => Err(fault(alloc, path, StaticCode::NotYet)),

@@ -1,5 +1,4 @@
-use Rattle.std.proofs.Common.{◌≡◌, ◌+◌, drop, map, refl, sym, ap, ◌∙◌, subst, arith}
-use Rattle.spec_document.specs.Forest as spec
+use Rattle.std.proofs.Common.{◌+◌, drop, map, refl, sym, ap, ◌∙◌, subst, arith}
 use Rattle.spec_transform.specs.Content.{content_of}
 use Rattle.xt_sheet.specs.Element.{value_reading}
 use Rattle.xt_sheet.specs.View.{instructions_of, said}
@@ -36,7 +35,7 @@ content_of-loop-i-preserved t c =
     let here = rw (← c.index-siblings-i.is) at next in
     let heard = rw c.deref.ensures at c.in_ok-instruction.ensures in
     subst (λ said_so_far. Continues (before_rest (content_of scope path (c.loop-i.i + 1 + 1) (forest_of (drop (c.loop-i.i + 1) c.args.siblings.now))) said_so_far)
-        (content_of scope path 1 (forest_of c.args.siblings.now)))
+    (content_of scope path 1 (forest_of c.args.siblings.now)))
     (sym c.in_ok-push.ensures)
     (turn scope path (c.loop-i.i + 1) done (said c.in_ok-instruction.instruction) (tree_of c.index-siblings-i.result.value)
     (map (λ n. tree_of n.value) (drop (c.loop-i.i + 1) c.args.siblings.now)) here heard.so)

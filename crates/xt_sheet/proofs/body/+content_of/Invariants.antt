@@ -1,4 +1,4 @@
-use Rattle.std.proofs.Common.{◌≡◌, ◌+◌, drop}
+use Rattle.std.proofs.Common.{◌+◌, drop}
 use Rattle.spec_transform.specs.Content.{content_of}
 use Rattle.xt_sheet.specs.View.{instructions_of}
 use Rattle.xt_sheet.proofs.Siblings.{before_rest}

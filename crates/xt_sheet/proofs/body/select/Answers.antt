@@ -1,4 +1,4 @@
-use Rattle.std.proofs.Common.{◌∙◌, ap, sym, subst, Ok, Err}
+use Rattle.std.proofs.Common.{subst, Ok, Err}
 use Rattle.spec_expression.specs.Grammar.{Parses}
 use Rattle.xp_syntax.specs.View.{expr_of}
 use Rattle.xt_sheet.specs.View.{IsAt}

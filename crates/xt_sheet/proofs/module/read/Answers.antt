@@ -1,6 +1,5 @@
-use Rattle.std.proofs.Common.{◌∙◌, ap, sym, subst}
+use Rattle.std.proofs.Common.{◌∙◌, ap, sym}
 use Rattle.spec_transform.specs.Content.{stylesheet_of}
-use Rattle.xt_sheet.specs.View.{IsAnswer, content_of}
 use Rattle.xt_sheet.proofs.Labels.{stylesheet_of-plain}
 use Rattle.xt_sheet.proofs.Steps.{answers_as}
 use Rattle.xt_sheet.proofs.module.read.Goals as goal

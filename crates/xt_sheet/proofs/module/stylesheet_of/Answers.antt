@@ -1,10 +1,9 @@
-use Rattle.std.proofs.Common.{◌∙◌, ◌+◌, ◌∷◌, [], drop, map, sym, ap, arith}
+use Rattle.std.proofs.Common.{◌∙◌, ◌+◌, drop, sym, arith}
 use Rattle.std.proofs.lemmas.List.{at_drop_more}
 use Rattle.spec_transform.specs.Content.{stylesheet_of}
-use Rattle.xt_sheet.specs.Element.{is_element}
 use Rattle.xt_sheet.proofs.Siblings.{at_document_element}
 use Rattle.xt_sheet.proofs.Steps.{answers_as}
-use Rattle.xt_tree.specs.View.{forest, forest_of, tree_of}
+use Rattle.xt_tree.specs.View.{forest_of, tree_of}
 use Rattle.xt_sheet.proofs.module.stylesheet_of.Goals as goal
 
 pub returns-then-is_element : goal.returns-then-is_element
