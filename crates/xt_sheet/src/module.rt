@@ -57,6 +57,7 @@ impl<T: Drop> From<AllocFailed<T>> for SheetFault {
 pub fn read(alloc: Global, module: &Doc) -> Result<Content, SheetFault>
     ensures { ReadsModule (plain module.now.nodes) result }
 {
-    let _ = (alloc, module);
+    let _ = Path::new(alloc);
+    let _ = module.root();
     Err(SheetFault::Memory)
 }
