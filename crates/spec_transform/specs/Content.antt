@@ -133,9 +133,9 @@ select_by path (Ok e) = if calls_unknown e then refused_at path code.BadFunction
 -- xsl:value-of without content, whose only attribute is select
 abbrev pub select_at : {L : Type 0} → Scope → List ℕ → List Written → Forest L → Reading (Result Expr Fault)
 select_at scope path attributes children = elim (only_value (codes "select") attributes) [
-    | None ↦ refused_at path code.NotYet
-    | Some text ↦ if counts_none children then Parse scope text (select_by path) else refused_at path code.NotYet
-  ]
+  | None ↦ refused_at path code.NotYet
+  | Some text ↦ if counts_none children then Parse scope text (select_by path) else refused_at path code.NotYet
+]
 
 abbrev pub is_literal : Scope → List ℕ → List Written → Bool
 is_literal scope name attributes = is_in_no_namespace (name_in scope name) && (length attributes == 0)
@@ -150,10 +150,10 @@ content_of scope path position (Node label (Instruction target text) children si
 content_of scope path position (Node label (Element name attributes) children siblings) =
     if is_language (codes "value-of") (name_in scope name)
     then reading_on (select_at scope (path ++ position ∷ []) attributes children)
-        (λ e. reading_on (content_of scope path (position + 1) siblings) (λ rest. Done (Ok (ValueOf (path ++ position ∷ []) e rest))))
+    (λ e. reading_on (content_of scope path (position + 1) siblings) (λ rest. Done (Ok (ValueOf (path ++ position ∷ []) e rest))))
     else (if is_literal scope name attributes
     then reading_on (content_of scope (path ++ position ∷ []) 1 children)
-        (λ content. reading_on (content_of scope path (position + 1) siblings) (λ rest. Done (Ok (Literal name content rest))))
+    (λ content. reading_on (content_of scope path (position + 1) siblings) (λ rest. Done (Ok (Literal name content rest))))
     else refused_at (path ++ position ∷ []) code.NotYet)
 
 -- ---- the template: xsl:template whose only attribute is match, of value `/`
