@@ -1,7 +1,6 @@
 -- The lines of trees, text by text and element by element.
-use Rattle.std.proofs.Common.{◌≡◌, ◌∙◌, refl, sym, ap, ℕ, List, [], ◌∷◌, ◌++◌, map, append_assoc}
+use Rattle.std.proofs.Common.{◌≡◌, ◌∙◌, refl, sym, ap, ℕ, List, [], ◌∷◌, ◌++◌, append_assoc}
 use Rattle.std.proofs.lemmas.List.{append-nil, map-append}
-use Rattle.spec_document.specs.declared.event.Event.{Event}
 use Rattle.spec_document.specs.declared.event.Event.TheVariants as event
 use Rattle.spec_document.specs.Pyx.{Line, line_of}
 use Rattle.spec_document.specs.Forest.{Element, Text, Comment, Instruction, Plain, Empty, Node, with_text, written, lines_of}
