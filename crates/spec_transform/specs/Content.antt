@@ -25,6 +25,11 @@ pub data Content : Type 0 where
   Literal : (name : List ℕ) → (content rest : Content) → Content
   ValueOf : (path : List ℕ) → (select : Expr) → (rest : Content) → Content
 
+-- the stylesheet that a module is: the namespaces in scope at its elements, which declare none of their own, and its template's content
+pub record Stylesheet : Type 0 where
+  pub scope : Scope
+  pub content : Content
+
 -- a static refusal, and the element where it stands
 pub record Fault : Type 0 where
   pub code : StaticCode
@@ -183,11 +188,16 @@ is_stylesheet name attributes =
     && is_version (filter (λ a. not (is_declaration a)) attributes)
     && list_all (λ a. bytes_eq a.value xslt_uri) (filter is_declaration attributes)
 
--- the content of the template of a module: siblings at its top, the first of which has this position
-abbrev pub stylesheet_of : {L : Type 0} → ℕ → Forest L → Reading (Result Content Fault)
+abbrev pub with_scope : Scope → Reading (Result Content Fault) → Reading (Result Stylesheet Fault)
+with_scope scope reading = reading_on reading (λ content. Done (Ok (record { scope = scope; content = content })))
+
+-- the stylesheet that a module is: siblings at its top, the first of which has this position
+abbrev pub stylesheet_of : {L : Type 0} → ℕ → Forest L → Reading (Result Stylesheet Fault)
 stylesheet_of position Empty = refused_at (position ∷ []) code.NotYet
 stylesheet_of position (Node label (Text text) children siblings) = stylesheet_of (position + 1) siblings
 stylesheet_of position (Node label (Comment text) children siblings) = stylesheet_of (position + 1) siblings
 stylesheet_of position (Node label (Instruction target text) children siblings) = stylesheet_of (position + 1) siblings
 stylesheet_of position (Node label (Element name attributes) children siblings) =
-    if is_stylesheet name attributes then template_in (declared_all attributes root_scope) (position ∷ []) 1 children else refused_at (position ∷ []) code.NotYet
+    if is_stylesheet name attributes
+    then with_scope (declared_all attributes root_scope) (template_in (declared_all attributes root_scope) (position ∷ []) 1 children)
+    else refused_at (position ∷ []) code.NotYet
