@@ -5,7 +5,7 @@ use Rattle.spec_document.specs.Forest.{Written, Element, Text, Comment, Instruct
 use Rattle.spec_document.specs.Scope.{Scope, root_scope}
 use Rattle.spec_expression.specs.declared.code.StaticCode.TheVariants as code
 use Rattle.spec_transform.specs.Content.{Words, Literal, ValueOf, content_of, counts_none, is_language, is_literal, is_stylesheet, is_template, is_white, name_in}
-use Rattle.spec_transform.specs.Content.{only_value, refused_at, select_at, select_by, stylesheet_of, template_in}
+use Rattle.spec_transform.specs.Content.{only_value, refused_at, select_at, select_by, stylesheet_of, template_in, with_scope}
 use Rattle.spec_transform.specs.Reading.{Done, Parse, reading_on}
 
 counts_none-plain : {L : Type 0} (f : Forest L) → counts_none (plain f) ≡ counts_none f
@@ -54,4 +54,4 @@ stylesheet_of-plain position (Node label (Text text) children siblings) = styles
 stylesheet_of-plain position (Node label (Comment text) children siblings) = stylesheet_of-plain (position + 1) siblings
 stylesheet_of-plain position (Node label (Instruction target text) children siblings) = stylesheet_of-plain (position + 1) siblings
 stylesheet_of-plain position (Node label (Element name attributes) children siblings) =
-    λ i. cond (is_stylesheet name attributes) (template_in-plain (declared_all attributes root_scope) (position ∷ []) 1 children i) (refused_at (position ∷ []) code.NotYet)
+    λ i. cond (is_stylesheet name attributes) (with_scope (declared_all attributes root_scope) (template_in-plain (declared_all attributes root_scope) (position ∷ []) 1 children i)) (refused_at (position ∷ []) code.NotYet)

@@ -7,7 +7,7 @@ use Rattle.spec_document.specs.Name.{Expanded}
 use Rattle.spec_document.specs.Scope.{Scope, root_scope, xslt_uri}
 use Rattle.spec_expression.specs.declared.code.StaticCode.TheVariants as code
 use Rattle.spec_transform.specs.Content.{Content, Ended, Words, ValueOf, Fault, is_language, is_literal, is_template, is_version, is_white, name_in, only_value}
-use Rattle.spec_transform.specs.Content.{content_of, refused_at, select_at, template_in}
+use Rattle.spec_transform.specs.Content.{Stylesheet, content_of, refused_at, select_at, template_in, with_scope}
 use Rattle.spec_transform.specs.Reading.{Reading, Done, reading_on}
 use Rattle.xt_sheet.specs.declared.body.Kind.{Kind}
 use Rattle.xt_sheet.specs.declared.body.Kind.TheVariants as kinds
@@ -68,12 +68,13 @@ abbrev pub value_reading : {L : Type 0} → Scope → List ℕ → List spec.Wri
 value_reading scope path attributes children = reading_on (select_at scope path attributes children) (λ e. Done (Ok (ValueOf path e Ended)))
 
 -- the document element, and the template
-abbrev pub stylesheet_by : {L : Type 0} → List ℕ → List ℕ → List spec.Written → spec.Forest L → Reading (Result Content Fault)
+abbrev pub stylesheet_by : {L : Type 0} → List ℕ → List ℕ → List spec.Written → spec.Forest L → Reading (Result Stylesheet Fault)
 stylesheet_by path name attributes children =
-    if is_stylesheet (name_in (declared_all attributes root_scope) name) attributes then template_in (declared_all attributes root_scope) path 1 children
+    if is_stylesheet (name_in (declared_all attributes root_scope) name) attributes
+    then with_scope (declared_all attributes root_scope) (template_in (declared_all attributes root_scope) path 1 children)
     else refused_at path code.NotYet
 
-abbrev pub stylesheet_at : {L : Type 0} → List ℕ → spec.Content → spec.Forest L → Reading (Result Content Fault)
+abbrev pub stylesheet_at : {L : Type 0} → List ℕ → spec.Content → spec.Forest L → Reading (Result Stylesheet Fault)
 stylesheet_at path (spec.Element name attributes) children = stylesheet_by path name attributes children
 stylesheet_at path (spec.Text text) children = refused_at path code.NotYet
 stylesheet_at path (spec.Comment text) children = refused_at path code.NotYet

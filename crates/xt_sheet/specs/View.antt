@@ -8,6 +8,7 @@ use Rattle.spec_transform.specs.Content.{Fault, stylesheet_of}
 use Rattle.xp_syntax.specs.View.{expr_of}
 use Rattle.xt_sheet.specs.declared.content.Content.{Content, Content-F, fold-Content}
 use Rattle.xt_sheet.specs.declared.content.Instruction.{Instruction, Instruction-F, fold-Instruction}
+use Rattle.xt_sheet.specs.declared.content.Stylesheet.{Stylesheet}
 use Rattle.xt_sheet.specs.declared.fault.SheetFault.{SheetFault}
 use Rattle.xt_sheet.specs.declared.fault.SheetFault.TheVariants as faults
 
@@ -60,5 +61,8 @@ abbrev pub said : Option Instruction → plain.Content
 said None = plain.Ended
 said (Some instruction) = instruction_of instruction
 
-pub record ReadsModule (module_nodes : Plain) (result : Result Content SheetFault) : Type 0 where
-  pub so : Answers content_of (stylesheet_of 1 module_nodes) result
+abbrev pub sheet_of : Stylesheet → plain.Stylesheet
+sheet_of s = record { scope = s.scope; content = content_of s.content }
+
+pub record ReadsModule (module_nodes : Plain) (result : Result Stylesheet SheetFault) : Type 0 where
+  pub so : Answers sheet_of (stylesheet_of 1 module_nodes) result

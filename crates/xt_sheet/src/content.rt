@@ -1,6 +1,16 @@
-// What the template of a module says.
+// What a module is read as.
 use xp_syntax::Expr;
+use xt_names::Scope;
 use xt_text::{Path, Text};
+
+/// What a module is read as.
+#[derive(Drop)]
+pub struct Stylesheet {
+    /// The namespaces in scope at each of its elements, which declare none of their own.
+    pub scope: Scope,
+    /// What its template says.
+    pub content: Content,
+}
 
 /// A content: instructions in their order.
 #[cycle(content)]

@@ -1,8 +1,8 @@
-//! Stylesheet modules: what the template of a module says, or the first static refusal. The stylesheets that
+//! Stylesheet modules: the stylesheet that a module is, or the first static refusal. The stylesheets that
 //! are taken so far have one template for the root, of texts, literal elements and xsl:value-of.
 //!
 //! ```text
-//! let content = read(alloc, &module)?;      // S10 to S16, S90 at an element
+//! let stylesheet = read(alloc, &module)?;      // S10 to S16, S90 at an element
 //! ```
 #![tactic(auto)]
 
@@ -13,6 +13,6 @@ mod expression;
 mod fault;
 mod module;
 
-pub use content::{Content, Instruction};
+pub use content::{Content, Instruction, Stylesheet};
 pub use fault::SheetFault;
 pub use module::read;

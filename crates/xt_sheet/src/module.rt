@@ -1,17 +1,17 @@
-// The template of a module.
+// The stylesheet that a module is.
 ghost use Rattle.std.specs.Prelude.{◌≡◌, ◌∷◌, [], IfOk, map};
 ghost use Rattle.spec_document.specs.Forest.{plain};
 ghost use Rattle.spec_expression.specs.declared.code.StaticCode.TheVariants as codes;
 ghost use Rattle.spec_transform.specs.Content as spec;
 ghost use Rattle.xt_sheet.specs.Element.{is_element, is_stylesheet, stylesheet_at, stylesheet_by, template_at, template_by};
-ghost use Rattle.xt_sheet.specs.View.{IsAnswer, ReadsModule, content_of};
+ghost use Rattle.xt_sheet.specs.View.{IsAnswer, ReadsModule, content_of, sheet_of};
 ghost use Rattle.xt_tree.specs.View.{forest_of, tree_of, written_of};
 ghost use Rattle.xt_tree.specs.View as nodes;
 
 use crate::body::content_of;
 use crate::element::{counts_none, is_ignored, is_stylesheet, is_template, name_in, scope_inside};
 use crate::fault::{below, fault};
-use crate::{Content, SheetFault};
+use crate::{Content, SheetFault, Stylesheet};
 use spec_expression::StaticCode;
 use std::alloc::Global;
 use std::rc::Rc;
@@ -19,17 +19,17 @@ use xt_names::Scope;
 use xt_text::{Memory, Path, Text};
 use xt_tree::{Content as NodeContent, Doc, Node, Written};
 
-/// What the template of the module says. S10, S12, S13, S14 and S16 as its select has them, S90 where an
+/// The stylesheet that the module is. S10, S12, S13, S14 and S16 as its select has them, S90 where an
 /// element is none that is taken.
-pub fn read(alloc: Global, document: &Doc) -> Result<Content, SheetFault>
+pub fn read(alloc: Global, document: &Doc) -> Result<Stylesheet, SheetFault>
     ensures { ReadsModule (plain document.now.nodes) result }
 {
     stylesheet_of(alloc, document.children())
 }
 
-// The content of the template of a module with these siblings at its top.
-fn stylesheet_of(alloc: Global, siblings: &[Rc<Node>]) -> Result<Content, SheetFault>
-    ensures { IsAnswer content_of (spec.stylesheet_of 1 (forest_of siblings.now)) result }
+// The stylesheet of a module with these siblings at its top.
+fn stylesheet_of(alloc: Global, siblings: &[Rc<Node>]) -> Result<Stylesheet, SheetFault>
+    ensures { IsAnswer sheet_of (spec.stylesheet_of 1 (forest_of siblings.now)) result }
 {
     for (i, sibling) in siblings.iter().enumerate() {
         if is_element(sibling.content()) {
@@ -40,8 +40,8 @@ fn stylesheet_of(alloc: Global, siblings: &[Rc<Node>]) -> Result<Content, SheetF
 }
 
 // There is no document element at this position.
-fn no_stylesheet(alloc: Global, position: u64) -> Result<Content, SheetFault>
-    ensures { IsAnswer content_of (spec.refused_at (position ∷ []) codes.NotYet) result }
+fn no_stylesheet(alloc: Global, position: u64) -> Result<Stylesheet, SheetFault>
+    ensures { IsAnswer sheet_of (spec.refused_at (position ∷ []) codes.NotYet) result }
 {
     let here = top(alloc, position)?;
     Err(fault(alloc, &here, StaticCode::NotYet))
@@ -56,9 +56,9 @@ fn top(alloc: Global, position: u64) -> Result<Path, Memory>
     Ok(path)
 }
 
-// The content of the template below the document element, which has this position.
-fn stylesheet_at(alloc: Global, position: u64, node: &Node) -> Result<Content, SheetFault>
-    ensures { IsAnswer content_of (stylesheet_at (position ∷ []) (tree_of node.now).content (tree_of node.now).children) result }
+// The stylesheet that the document element is, which has this position.
+fn stylesheet_at(alloc: Global, position: u64, node: &Node) -> Result<Stylesheet, SheetFault>
+    ensures { IsAnswer sheet_of (stylesheet_at (position ∷ []) (tree_of node.now).content (tree_of node.now).children) result }
 {
     match node.content() {
         NodeContent::Element { name, attributes } => {
@@ -77,15 +77,28 @@ fn stylesheet_by(
     name: &Text,
     attributes: &[Written],
     children: &[Rc<Node>],
-) -> Result<Content, SheetFault>
-    ensures { IsAnswer content_of (stylesheet_by path.now name.now (map written_of attributes.now) (forest_of children.now)) result }
+) -> Result<Stylesheet, SheetFault>
+    ensures { IsAnswer sheet_of (stylesheet_by path.now name.now (map written_of attributes.now) (forest_of children.now)) result }
 {
     let scope = scope_inside(alloc, attributes)?;
     if is_stylesheet_in(alloc, &scope, name, attributes)? {
-        template_in(alloc, &scope, path, children)
+        with_scope(alloc, scope, path, children)
     } else {
         Err(fault(alloc, path, StaticCode::NotYet))
     }
+}
+
+// The stylesheet with this scope, whose template is among these children of the element at this path.
+fn with_scope(
+    alloc: Global,
+    scope: Scope,
+    path: &Path,
+    children: &[Rc<Node>],
+) -> Result<Stylesheet, SheetFault>
+    ensures { IsAnswer sheet_of (spec.with_scope scope (spec.template_in scope path.now 1 (forest_of children.now))) result }
+{
+    let content = template_in(alloc, &scope, path, children)?;
+    Ok(Stylesheet { scope, content })
 }
 
 // Whether an element with this scope inside is the stylesheet.
