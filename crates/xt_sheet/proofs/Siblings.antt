@@ -4,7 +4,7 @@ use Rattle.spec_document.specs.Forest as spec
 use Rattle.spec_document.specs.Scope.{Scope}
 use Rattle.spec_transform.specs.Content.{Content, Ended, Words, Literal, ValueOf, Fault, content_of, is_language, is_literal, is_white, name_in, refused_at, select_at, stylesheet_of}
 use Rattle.spec_transform.specs.Reading.{Reading, Done, Reads, reading_on, reading_then}
-use Rattle.xt_sheet.specs.Element.{alone, is_element, kind_of, stylesheet_at, value_reading, words_reading}
+use Rattle.xt_sheet.specs.Element.{alone, is_element, kind_of, stylesheet_at, stylesheet_by, value_reading, words_reading}
 use Rattle.xt_sheet.specs.declared.body.Kind.{Kind}
 use Rattle.xt_sheet.specs.declared.body.Kind.TheVariants as kinds
 use Rattle.spec_expression.specs.declared.code.StaticCode.TheVariants as code
@@ -106,6 +106,12 @@ pub at_text : {X : Type 0} {v : X → Content} (scope : Scope) (path : List ℕ)
 unfolding reading_then
 at_text scope path position tree text content =
     answers_as (λ i. content_of scope path position (spec.Node tree.number (content i) tree.children spec.Empty))
+
+pub at_stylesheet : (here : List ℕ) (position : ℕ) (name : List ℕ) (xs ys : List Written) (f g : spec.Forest ℕ) (content : spec.Content)
+    → here ≡ position ∷ [] → xs ≡ ys → f ≡ g → spec.Element name (map written_of ys) ≡ content
+    → stylesheet_by here name (map written_of xs) f ≡ stylesheet_at (position ∷ []) content g
+at_stylesheet here position name xs ys f g content is_here attributes children is =
+    (λ i. stylesheet_by (is_here i) name (map written_of (attributes i)) (children i)) ∙ (λ i. stylesheet_at (position ∷ []) (is i) g)
 
 pub at_document_element : (position label : ℕ) (content : spec.Content) (children siblings : spec.Forest ℕ) → is_element content ≡ true
     → stylesheet_at (position ∷ []) content children ≡ stylesheet_of position (spec.Node label content children siblings)
