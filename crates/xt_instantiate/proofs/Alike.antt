@@ -4,7 +4,6 @@ use Rattle.spec_meaning.specs.Question.{Answer, text_in}
 use Rattle.spec_meaning.specs.Value.{Value}
 use Rattle.spec_meaning.specs.Convert.{first_text, to_text}
 use Rattle.spec_meaning.specs.Program.{Program, Said, Gives, then}
-use Rattle.spec_meaning.specs.Stream.{Stream}
 use Rattle.spec_meaning.specs.Context.{Context}
 use Rattle.spec_meaning.specs.Related.{Each, none, more, texts, Answers, gone, refused, some_nodes, some_text, named, chosen, copied, some_unit, passed}
 use Rattle.spec_meaning.specs.Related.{Values, number, text, boolean, nodes, fragment, Contexts, Match, gives, refuses, asks, needs, Outcomes, both_give, both_refuse, both_lack}

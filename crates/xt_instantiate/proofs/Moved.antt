@@ -1,14 +1,13 @@
 -- What is refused at an element's expression is refused at the element.
-use Rattle.std.proofs.Common.{◌≡◌, ◌∙◌, refl, sym, ap, ℕ, List, Option, None, Some, Result, Ok, Err}
+use Rattle.std.proofs.Common.{◌≡◌, ◌∙◌, refl, sym, ap, ℕ, List, Option, None, Some, Ok, Err}
 use Rattle.spec_document.specs.Name.{Expanded}
 use Rattle.spec_meaning.specs.Program.{Given, Supply, Saw, Program, Give, Refuse, Ask, Need, State, asked, noted, Said, Gives, Refuses, Lacks, Ending, if_given, run}
 use Rattle.spec_transform.specs.Outcome.{located, moved}
 use Rattle.xt_tree.specs.declared.node_ref.NodeRef.{NodeRef}
-use Rattle.xt_ask.specs.declared.fault.EvalFault.{EvalFault}
-use Rattle.xt_ask.specs.declared.fault.EvalFault.TheVariants.{Memory, Refused, Wants}
+use Rattle.xt_ask.specs.declared.fault.EvalFault.TheVariants.{Refused, Wants}
 use Rattle.xt_ask.specs.declared.fault.Refusal as code
 use Rattle.xt_ask.specs.View.{refusal_of}
-use Rattle.xt_ask.specs.Runs.{Runs, RunsSo}
+use Rattle.xt_ask.specs.Runs.{Runs}
 
 abbrev pub said_at : {A : Type 0} → List ℕ → Said A → Said A
 said_at path (Gives value) = Gives value
@@ -46,7 +45,6 @@ refuses_located {supply = supply} {depth = depth} path {p = p} {s = s} {t = t} e
       so = run-located supply depth path p s ∙ ap (ended_at path) h.so
           ∙ ap (λ w. record { said = Refuses w; state = t }) (sym e);
     }
-
 
 pub lacks_located : {A X : Type 0} {v : X → A} {supply : Supply NodeRef} {depth : ℕ} (path : List ℕ) {p : Program NodeRef A} {s t : State NodeRef} {name : Expanded}
     → Runs v supply depth p s t (Err (Wants name)) → Runs v supply depth (located path p) s t (Err (Wants name))

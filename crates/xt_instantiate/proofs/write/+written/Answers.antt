@@ -1,4 +1,4 @@
-use Rattle.std.proofs.Common.{◌≡◌, ◌+◌, drop, map, sym, refl, ap, ◌∙◌, arith}
+use Rattle.std.proofs.Common.{◌+◌, drop, map, sym, refl, ap, ◌∙◌, arith}
 use Rattle.spec_meaning.specs.Stream as stream
 use Rattle.spec_transform.specs.Outcome.{written_by}
 use Rattle.xt_tree.specs.StreamView.{stream_of}
