@@ -6,7 +6,8 @@ use Rattle.spec_meaning.specs.Convert.{first_text, to_text}
 use Rattle.spec_meaning.specs.Program.{Program, Said, Gives, then}
 use Rattle.spec_meaning.specs.Context.{Context}
 use Rattle.spec_meaning.specs.Related.{Each, none, more, texts, Answers, gone, refused, some_nodes, some_text, named, chosen, copied, some_unit, passed}
-use Rattle.spec_meaning.specs.Related.{Values, number, text, boolean, nodes, fragment, Contexts, Match, gives, refuses, asks, needs, Outcomes, both_give, both_refuse, both_lack}
+use Rattle.spec_meaning.specs.Related.{Values, number, text, boolean, nodes, fragment, Contexts, Match, gives, refuses, asks, needs}
+use Rattle.spec_meaning.specs.Related.{Outcomes, both_give, both_refuse, both_lack}
 use Rattle.spec_meaning.proofs.Matching.{Same, then_match, meaning_match}
 use Rattle.spec_transform.specs.Content.{Content, Ended, Words, Literal, ValueOf}
 use Rattle.spec_transform.specs.Outcome.{located, written_by}

@@ -1,16 +1,21 @@
 -- What a content writes, and what another writes after it.
-use Rattle.std.proofs.Common.{◌≡◌, ◌∙◌, refl, sym, ap, ℕ, List, []}
+use Rattle.std.proofs.Common.{◌≡◌, ◌∙◌, refl, sym, ap, subst, ℕ, ◌+◌, ◌<◌, List, [], length, drop, get_or, map}
 use Rattle.spec_meaning.specs.Stream.{Stream, Ended, Element, Text, followed}
-use Rattle.spec_meaning.specs.Program.{Program, Give, Refuse, Ask, Need, then}
+use Rattle.spec_meaning.specs.Program.{Program, Give, Refuse, Ask, Need, then, State, Supply}
 use Rattle.spec_meaning.specs.Context.{Context}
 use Rattle.spec_meaning.specs.Convert.{to_text}
 use Rattle.spec_meaning.specs.Meaning.{meaning}
 use Rattle.spec_transform.specs.Content as plain
 use Rattle.spec_transform.specs.Content.{Content}
 use Rattle.spec_transform.specs.Outcome.{located, written_by}
+use Rattle.xt_sheet.specs.declared.content.Instruction.{Instruction}
 use Rattle.xt_sheet.specs.View as sheet
+use Rattle.xt_sheet.specs.View.{instruction_of}
+use Rattle.xt_tree.specs.declared.node_ref.NodeRef.{NodeRef}
 use Rattle.xt_tree.proofs.Streams.{followed-followed}
-use Rattle.xp_functions.proofs.Within.{then_then}
+use Rattle.xt_ask.specs.Runs.{Continues}
+use Rattle.xt_ask.proofs.Steps.{next_turn}
+use Rattle.xp_functions.proofs.Within.{then_then, continues_as}
 
 pub then_give : {N A : Type 0} (p : Program N A) → then p (λ x. Give x) ≡ p
 unfolding then
@@ -47,7 +52,8 @@ wrapped {N = N} f is p q =
         ∙ sym (given_then (f s) (λ u. After u q))
 
 -- the same after another program
-wrapped_after : {N A : Type 0} (o : Program N A) (f : A → Stream → Stream) → ((x : A) (s t : Stream) → followed (f x s) t ≡ f x (followed s t)) → (p q : Program N Stream)
+wrapped_after : {N A : Type 0} (o : Program N A) (f : A → Stream → Stream) → ((x : A) (s t : Stream) → followed (f x s) t ≡ f x (followed s t))
+    → (p q : Program N Stream)
     → then o (λ x. then (then p (λ s. After s q)) (λ s. Give (f x s))) ≡ then (then o (λ x. then p (λ s. Give (f x s)))) (λ s. After s q)
 wrapped_after {N = N} {A = A} o f is p q =
     let inner : (λ (x : A). then (then p (λ s. After s q)) (λ s. Give (f x s))) ≡ (λ (x : A). then (then p (λ s. Give (f x s))) (λ s. After s q)) =
@@ -67,8 +73,8 @@ written-followed {N = N} (plain.ValueOf path select rest) b c =
     ap (λ (p : Program N Stream). then o (λ text. then p (λ s. Give (Text text s)))) (written-followed rest b c)
     ∙ wrapped_after o (λ text. Text text) (λ text s t. refl) (written_by rest c) (written_by b c)
 
--- a turn: what was written, then what this content writes, and then the rest
-pub written_turn : {N : Type 0} (done : Stream) (a b : Content) (c : Context N)
+-- what was written, then what this content writes, and then the rest
+written_turn : {N : Type 0} (done : Stream) (a b : Content) (c : Context N)
     → After done (written_by (sheet.followed a b) c) ≡ then (written_by a c) (λ s. After (followed done s) (written_by b c))
 written_turn {N = N} done a b c =
     let inner : (λ (s : Stream). After done (After s (written_by b c))) ≡ (λ (s : Stream). After (followed done s) (written_by b c)) = λ i s. one s i in
@@ -89,3 +95,16 @@ written_turn {N = N} done a b c =
 -- at the start nothing was written
 pub starts : {N : Type 0} (done : Stream) {a b : Content} (c : Context N) → done ≡ Ended → b ≡ a → After done (written_by a c) ≡ written_by b c
 starts {N = N} done {a = a} c e h = ap (λ d. After d (written_by a c)) e ∙ then_give (written_by a c) ∙ ap (λ x. written_by x c) (sym h)
+
+-- the next turn of the loop: what is left to write begins with what the instruction at hand writes
+pub next_instruction : {supply : Supply NodeRef} {depth : ℕ} (done : Stream) (c : Context NodeRef) (xs : List Instruction) (i : ℕ) (x : Instruction)
+    {q : Program NodeRef Stream} {s t : State NodeRef} → i < length xs → x ≡ get_or xs i x
+    → Continues supply depth (After done (written_by (sheet.all_followed (map instruction_of (drop i xs))) c)) s q t
+    → Continues supply depth
+    (then (written_by (instruction_of x) c) (λ w. After (followed done w) (written_by (sheet.all_followed (map instruction_of (drop (i + 1) xs))) c)))
+    s q t
+next_instruction {supply = supply} {depth = depth} done c xs i x {q = q} {s = s} {t = t} h is e =
+    let rest = sheet.all_followed (map instruction_of (drop (i + 1) xs)) in
+    continues_as (written_turn done (instruction_of x) rest c)
+    (subst (λ y. Continues supply depth (After done (written_by (sheet.followed (instruction_of y) rest) c)) s q t) (sym is)
+    (next_turn (λ ys. After done (written_by (sheet.all_followed (map instruction_of ys)) c)) xs i x h e))

@@ -1,7 +1,8 @@
 -- What is refused at an element's expression is refused at the element.
 use Rattle.std.proofs.Common.{◌≡◌, ◌∙◌, refl, sym, ap, ℕ, List, Option, None, Some, Ok, Err}
 use Rattle.spec_document.specs.Name.{Expanded}
-use Rattle.spec_meaning.specs.Program.{Given, Supply, Saw, Program, Give, Refuse, Ask, Need, State, asked, noted, Said, Gives, Refuses, Lacks, Ending, if_given, run}
+use Rattle.spec_meaning.specs.Program.{Given, Supply, Saw, Program, Give, Refuse, Ask, Need, State, asked, noted}
+use Rattle.spec_meaning.specs.Program.{Said, Gives, Refuses, Lacks, Ending, if_given, run}
 use Rattle.spec_transform.specs.Outcome.{located, moved}
 use Rattle.xt_tree.specs.declared.node_ref.NodeRef.{NodeRef}
 use Rattle.xt_ask.specs.declared.fault.EvalFault.TheVariants.{Refused, Wants}
@@ -26,7 +27,8 @@ run-located supply depth path (Ask q next) s = run-located supply depth path (ne
 run-located {N = N} supply depth path (Need w next) s = go (supply w) (λ v. run-located supply depth path (next v) (noted (Saw w depth v) s))
   where
     go : (o : Option (Given N))
-        → ((v : Given N) → run supply depth (located path (next v)) (noted (Saw w depth v) s) ≡ ended_at path (run supply depth (next v) (noted (Saw w depth v) s)))
+        → ((v : Given N)
+        → run supply depth (located path (next v)) (noted (Saw w depth v) s) ≡ ended_at path (run supply depth (next v) (noted (Saw w depth v) s)))
         → if_given (λ v. run supply depth (located path (next v)) (noted (Saw w depth v) s)) (record { said = Lacks w; state = s }) o
         ≡ ended_at path (if_given (λ v. run supply depth (next v) (noted (Saw w depth v) s)) (record { said = Lacks w; state = s }) o)
     go None h = refl
@@ -46,7 +48,8 @@ refuses_located {supply = supply} {depth = depth} path {p = p} {s = s} {t = t} e
           ∙ ap (λ w. record { said = Refuses w; state = t }) (sym e);
     }
 
-pub lacks_located : {A X : Type 0} {v : X → A} {supply : Supply NodeRef} {depth : ℕ} (path : List ℕ) {p : Program NodeRef A} {s t : State NodeRef} {name : Expanded}
+pub lacks_located : {A X : Type 0} {v : X → A} {supply : Supply NodeRef} {depth : ℕ} (path : List ℕ) {p : Program NodeRef A} {s t : State NodeRef}
+    {name : Expanded}
     → Runs v supply depth p s t (Err (Wants name)) → Runs v supply depth (located path p) s t (Err (Wants name))
 lacks_located {supply = supply} {depth = depth} path {p = p} {s = s} h =
     record { so = run-located supply depth path p s ∙ ap (ended_at path) h.so }
