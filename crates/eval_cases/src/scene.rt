@@ -216,7 +216,7 @@ impl Scene {
             Some(document) => {
                 let mut world = PlainWorld { alloc, document };
                 let mut steps = Steps { ran: 0, asked: 0 };
-                let change = holds(self.reads.as_slice(), &mut world, &mut steps)?;
+                let change = holds(alloc, self.reads.as_slice(), &mut world, &mut steps)?;
                 push_held(out, self.reads.len(), steps.asked, change)?;
                 Ok(())
             }

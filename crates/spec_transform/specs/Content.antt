@@ -25,6 +25,11 @@ pub data Content : Type 0 where
   Literal : (name : List ℕ) → (content rest : Content) → Content
   ValueOf : (path : List ℕ) → (select : Expr) → (rest : Content) → Content
 
+-- the stylesheet that a module is: the namespaces in scope at its elements, which declare none of their own, and its template's content
+pub record Stylesheet : Type 0 where
+  pub scope : Scope
+  pub content : Content
+
 -- a static refusal, and the element where it stands
 pub record Fault : Type 0 where
   pub code : StaticCode
@@ -133,9 +138,9 @@ select_by path (Ok e) = if calls_unknown e then refused_at path code.BadFunction
 -- xsl:value-of without content, whose only attribute is select
 abbrev pub select_at : {L : Type 0} → Scope → List ℕ → List Written → Forest L → Reading (Result Expr Fault)
 select_at scope path attributes children = elim (only_value (codes "select") attributes) [
-    | None ↦ refused_at path code.NotYet
-    | Some text ↦ if counts_none children then Parse scope text (select_by path) else refused_at path code.NotYet
-  ]
+  | None ↦ refused_at path code.NotYet
+  | Some text ↦ if counts_none children then Parse scope text (select_by path) else refused_at path code.NotYet
+]
 
 abbrev pub is_literal : Scope → List ℕ → List Written → Bool
 is_literal scope name attributes = is_in_no_namespace (name_in scope name) && (length attributes == 0)
@@ -150,10 +155,10 @@ content_of scope path position (Node label (Instruction target text) children si
 content_of scope path position (Node label (Element name attributes) children siblings) =
     if is_language (codes "value-of") (name_in scope name)
     then reading_on (select_at scope (path ++ position ∷ []) attributes children)
-        (λ e. reading_on (content_of scope path (position + 1) siblings) (λ rest. Done (Ok (ValueOf (path ++ position ∷ []) e rest))))
+    (λ e. reading_on (content_of scope path (position + 1) siblings) (λ rest. Done (Ok (ValueOf (path ++ position ∷ []) e rest))))
     else (if is_literal scope name attributes
     then reading_on (content_of scope (path ++ position ∷ []) 1 children)
-        (λ content. reading_on (content_of scope path (position + 1) siblings) (λ rest. Done (Ok (Literal name content rest))))
+    (λ content. reading_on (content_of scope path (position + 1) siblings) (λ rest. Done (Ok (Literal name content rest))))
     else refused_at (path ++ position ∷ []) code.NotYet)
 
 -- ---- the template: xsl:template whose only attribute is match, of value `/`
@@ -183,11 +188,16 @@ is_stylesheet name attributes =
     && is_version (filter (λ a. not (is_declaration a)) attributes)
     && list_all (λ a. bytes_eq a.value xslt_uri) (filter is_declaration attributes)
 
--- the content of the template of a module: siblings at its top, the first of which has this position
-abbrev pub stylesheet_of : {L : Type 0} → ℕ → Forest L → Reading (Result Content Fault)
+abbrev pub with_scope : Scope → Reading (Result Content Fault) → Reading (Result Stylesheet Fault)
+with_scope scope reading = reading_on reading (λ content. Done (Ok (record { scope = scope; content = content })))
+
+-- the stylesheet that a module is: siblings at its top, the first of which has this position
+abbrev pub stylesheet_of : {L : Type 0} → ℕ → Forest L → Reading (Result Stylesheet Fault)
 stylesheet_of position Empty = refused_at (position ∷ []) code.NotYet
 stylesheet_of position (Node label (Text text) children siblings) = stylesheet_of (position + 1) siblings
 stylesheet_of position (Node label (Comment text) children siblings) = stylesheet_of (position + 1) siblings
 stylesheet_of position (Node label (Instruction target text) children siblings) = stylesheet_of (position + 1) siblings
 stylesheet_of position (Node label (Element name attributes) children siblings) =
-    if is_stylesheet name attributes then template_in (declared_all attributes root_scope) (position ∷ []) 1 children else refused_at (position ∷ []) code.NotYet
+    if is_stylesheet name attributes
+    then with_scope (declared_all attributes root_scope) (template_in (declared_all attributes root_scope) (position ∷ []) 1 children)
+    else refused_at (position ∷ []) code.NotYet

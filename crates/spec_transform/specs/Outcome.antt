@@ -1,6 +1,6 @@
 -- What a stylesheet makes of a source: the tree that its content writes, or the first refusal.
 use Rattle.std.specs.Prelude.{◌≡◌, ℕ, List, [], ◌∷◌, Option, None, Some, Result, Ok, Err}
-use Rattle.spec_document.specs.Scope.{Scope, root_scope}
+use Rattle.spec_document.specs.Scope.{Scope}
 use Rattle.spec_document.specs.Forest.{Element, Forest, Empty, Node, Document, Plain, with_text}
 use Rattle.spec_document.specs.Place.{Itself, Place}
 use Rattle.spec_expression.specs.declared.code.Code.{Code}
@@ -12,11 +12,12 @@ use Rattle.spec_meaning.specs.Stream.{Stream}
 use Rattle.spec_meaning.specs.Question.{Refusal, Here, At}
 use Rattle.spec_meaning.specs.Program.{Program, Give, Refuse, Ask, Need, ◌>>=◌, Said, Gives, Refuses, Lacks, Supply, outcome_of}
 use Rattle.spec_meaning.specs.Context.{Context}
+use Rattle.spec_meaning.specs.Supplies.{at_hand}
 use Rattle.spec_meaning.specs.Convert.{to_text}
 use Rattle.spec_meaning.specs.Meaning.{meaning}
 use Rattle.spec_meaning.specs.Truth.{truth_at_places}
 use Rattle.spec_transform.specs.Reading.{Reads}
-use Rattle.spec_transform.specs.Content.{Content, Ended, Words, Literal, ValueOf, Fault, stylesheet_of}
+use Rattle.spec_transform.specs.Content.{Content, Ended, Words, Literal, ValueOf, Stylesheet, Fault, stylesheet_of}
 
 -- why there is no result: a code, and the element of the module where it stands
 pub record Refused : Type 0 where
@@ -60,18 +61,19 @@ shaped (stream.Message content rest) = shaped rest
 shaped (stream.Hole rest) = shaped rest
 
 -- ---- the whole
-abbrev pub at_the_root : Context Place
-at_the_root = record {
+abbrev pub at_the_root : Scope → Context Place
+at_the_root scope = record {
   node = record { positions = []; ending = Itself };
   current = record { positions = []; ending = Itself };
   position = Some 1;
   size = Some 1;
   bindings = [];
-  scope = root_scope;
+  scope = scope;
 }
 
+-- no global is given
 abbrev pub nothing_given : {N : Type 0} → Supply N
-nothing_given wanted = None
+nothing_given = at_hand (record { position = 1; size = 1; globals = [] }) 0
 
 abbrev pub document_of : Plain → Document (Unit {0})
 document_of nodes = record { root = tt; nodes = nodes }
@@ -83,10 +85,11 @@ result_by (Refuses (At code place)) = Err (record { code = Dynamic code; path = 
 result_by (Refuses (Here code)) = Err (record { code = Dynamic code; path = [] })
 result_by (Lacks wanted) = Ok Empty
 
-abbrev pub result_of : Plain → Result Content Fault → Result Plain Refused
+abbrev pub result_of : Plain → Result Stylesheet Fault → Result Plain Refused
 result_of source (Err fault) = Err (record { code = Static fault.code; path = fault.path })
-result_of source (Ok content) = result_by (outcome_of (truth_at_places (document_of source)) nothing_given (written_by content at_the_root))
+result_of source (Ok sheet) =
+    result_by (outcome_of (truth_at_places (document_of source)) nothing_given (written_by sheet.content (at_the_root sheet.scope)))
 
 -- the result of a module on a source, or why there is none
 abbrev pub Transforms : (main source : Plain) → Result Plain Refused → Type 0
-Transforms main source result = (content : Result Content Fault) × Reads (stylesheet_of 1 main) content × (result ≡ result_of source content)
+Transforms main source result = (sheet : Result Stylesheet Fault) × Reads (stylesheet_of 1 main) sheet × (result ≡ result_of source sheet)

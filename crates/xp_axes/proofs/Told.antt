@@ -1,7 +1,6 @@
 -- No two nodes of a document have one name, where its numbers are distinct.
-use Rattle.std.proofs.Common.{◌≡◌, ◌<◌, ℕ, ◌+◌, ◌==◌, Bool, true, false, cond, List, [], ◌∷◌, ◌++◌, refl, sym, ap, ◌∙◌, subst, arith, eq-eqb}
+use Rattle.std.proofs.Common.{◌≡◌, ◌<◌, ℕ, ◌+◌, ◌==◌, Bool, true, false, List, [], ◌∷◌, ◌++◌, refl, sym, ap, ◌∙◌, arith, eq-eqb}
 use Rattle.std.specs.Prelude.{◌&&◌, ◌||◌, not}
-use Rattle.std.specs.List.{list_any, list_all}
 use Rattle.std.proofs.lemmas.Bool.{and_parts}
 use Rattle.std.proofs.lemmas.Bool.Decides.{Decides-eqb}
 use Rattle.std.proofs.lemmas.List.Folds.{list_any-append}
@@ -11,7 +10,6 @@ use Rattle.spec_document.specs.Place.{attributes_of, namespaces_of}
 use Rattle.spec_document.specs.Order.{Entry, namespace_entries, attribute_entries, own_entries, entries_in, entries_of}
 use Rattle.spec_meaning.specs.Naming.{AllDiffer, AreApart}
 use Rattle.xt_tree.specs.Numbers.{are_distinct, IsNumbered}
-use Rattle.xt_tree.specs.declared.node_ref.NodeRef.{NodeRef}
 use Rattle.xt_tree.specs.declared.node_ref.Part.{Part}
 use Rattle.xt_tree.specs.declared.node_ref.Part.TheVariants as part
 use Rattle.xt_tree.proofs.Distinct.{is_among, or_left, or_right, not_false, apart, distinct_parts, not_before}

@@ -1,11 +1,13 @@
 -- Comparisons of operands, step by step.
-use Rattle.std.proofs.Common.{◌≡◌, ◌∙◌, refl, ap, ℕ, ◌+◌, ◌-◌, ◌<◌, ◌&&◌, ◌||◌, take, List, [], ◌∷◌, length, map, drop, get_or, sym, subst, arith, Bool, false, Result}
+use Rattle.std.proofs.Common.{◌≡◌, ◌∙◌, refl, ap, ℕ, ◌+◌, ◌-◌, ◌<◌, ◌&&◌, ◌||◌, List, [], ◌∷◌, length, map, take, drop, get_or}
+use Rattle.std.proofs.Common.{sym, subst, arith, Bool, false, Result}
 use Rattle.std.specs.Prelude.{◌==◌, if◌then◌else◌}
 use Rattle.std.proofs.Math.Seq.{take-length}
 use Rattle.spec_expression.specs.declared.Operator.{Operator}
 use Rattle.spec_meaning.specs.Value.{Value}
 use Rattle.spec_meaning.specs.Convert.{to_boolean}
-use Rattle.spec_meaning.specs.Compare.{Operand, operands, beside, is_equality, is_boolean, goes_by_texts, booleans_satisfy, operands_compared, compared, searched, after_first, some_pair}
+use Rattle.spec_meaning.specs.Compare.{Operand, operands, beside, is_equality, is_boolean, goes_by_texts, booleans_satisfy}
+use Rattle.spec_meaning.specs.Compare.{operands_compared, compared, searched, after_first, some_pair}
 use Rattle.spec_meaning.specs.Program.{Program, Give, State, Supply, ◌>>=◌}
 use Rattle.xt_tree.specs.declared.node_ref.NodeRef.{NodeRef}
 use Rattle.xt_ask.specs.declared.fault.EvalFault.{EvalFault}
@@ -15,21 +17,29 @@ use Rattle.xp_values.specs.declared.operand.Operand as code
 use Rattle.xp_values.specs.OperandView.{operand_of}
 
 -- what is left to do begins with the operand at hand
-pub next_operand : {A : Type 0} {supply : Supply NodeRef} {depth : ℕ} (left : List (Operand NodeRef) → Program NodeRef A) (xs : List code.Operand) (i : ℕ) (x : code.Operand)
-    {q : Program NodeRef A} {s t : State NodeRef} → i < length xs → x ≡ get_or xs i x → Continues supply depth (left (map operand_of (drop i xs))) s q t
+pub next_operand : {A : Type 0} {supply : Supply NodeRef} {depth : ℕ} (left : List (Operand NodeRef) → Program NodeRef A)
+    (xs : List code.Operand) (i : ℕ) (x : code.Operand) {q : Program NodeRef A} {s t : State NodeRef}
+    → i < length xs → x ≡ get_or xs i x → Continues supply depth (left (map operand_of (drop i xs))) s q t
     → Continues supply depth (left (operand_of x ∷ map operand_of (drop (i + 1) xs))) s q t
 next_operand {supply = supply} {depth = depth} left xs i x {q = q} {s = s} {t = t} h is e =
-    subst (λ y. Continues supply depth (left (operand_of y ∷ map operand_of (drop (i + 1) xs))) s q t) (sym is) (next_turn (λ rest. left (map operand_of rest)) xs i x h e)
+    subst (λ y. Continues supply depth (left (operand_of y ∷ map operand_of (drop (i + 1) xs))) s q t) (sym is)
+    (next_turn (λ rest. left (map operand_of rest)) xs i x h e)
 
--- the first operands of both sides
-pub pair_so : {X : Type 0} {supply : Supply NodeRef} {depth : ℕ} {s t : State NodeRef} {r : Result Bool EvalFault} (read : Operand NodeRef → Program NodeRef X) (test : X → X → Bool)
-    (ls rs : List code.Operand) (first : code.Operand) → 0 < length ls → 0 < length rs → first ≡ get_or ls 0 first
-    → Runs itself supply depth (read (operand_of first) >>= λ x. searched read (test x) [] (map operand_of rs) >>= λ found. after_first read test (map operand_of (drop 1 ls)) found) s t r
+abbrev pub first_pair : {X : Type 0} → (Operand NodeRef → Program NodeRef X) → (X → X → Bool) → code.Operand
+    → (rs ls : List (Operand NodeRef)) → Program NodeRef Bool
+first_pair read test first rs ls =
+    read (operand_of first) >>= λ x. searched read (test x) [] rs >>= λ found. after_first read test ls found
+
+-- both sides have operands
+pub pair_so : {X : Type 0} {supply : Supply NodeRef} {depth : ℕ} {s t : State NodeRef} {r : Result Bool EvalFault}
+    (read : Operand NodeRef → Program NodeRef X) (test : X → X → Bool) (ls rs : List code.Operand) (first : code.Operand)
+    → 0 < length ls → 0 < length rs → first ≡ get_or ls 0 first
+    → Runs itself supply depth (first_pair read test first (map operand_of rs) (map operand_of (drop 1 ls))) s t r
     → Runs itself supply depth (some_pair read test (map operand_of ls) (map operand_of rs)) s t r
 pair_so read test [] rs first h k is e = absurd (omega (arith, h))
 pair_so read test (l ∷ ls) [] first h k is e = absurd (omega (arith, k))
 pair_so {supply = supply} {depth = depth} {s = s} {t = t} {r = r} read test (l ∷ ls) (m ∷ rs) first h k is e =
-    subst (λ o. Runs itself supply depth (read (operand_of o) >>= λ x. searched read (test x) [] (map operand_of (m ∷ rs)) >>= λ found. after_first read test (map operand_of ls) found) s t r) is e
+    subst (λ o. Runs itself supply depth (first_pair read test o (map operand_of (m ∷ rs)) (map operand_of ls)) s t r) is e
 
 pub some_from_test : {E : Type 0} (xs : List E) {b : Bool} → b ≡ (length xs == 0) → b ≡ false → 0 < length xs
 some_from_test [] e n = absurd (cc)
@@ -42,8 +52,9 @@ rest_is (x ∷ xs) =
     ap (λ n. take n xs) shorter ∙ take-length xs
 
 -- what is compared where it is not booleans
-pub compared_so : {supply : Supply NodeRef} {depth : ℕ} {s t : State NodeRef} {r : Result Bool EvalFault} (operator : Operator) (v w : Value NodeRef) (by_texts : Bool)
-    (ls rs : List (Operand NodeRef)) → (is_equality operator && (is_boolean v || is_boolean w)) ≡ false → goes_by_texts operator v w ≡ by_texts
+pub compared_so : {supply : Supply NodeRef} {depth : ℕ} {s t : State NodeRef} {r : Result Bool EvalFault}
+    (operator : Operator) (v w : Value NodeRef) (by_texts : Bool) (ls rs : List (Operand NodeRef))
+    → (is_equality operator && (is_boolean v || is_boolean w)) ≡ false → goes_by_texts operator v w ≡ by_texts
     → ls ≡ operands (beside w v) → rs ≡ operands (beside v w)
     → Runs itself supply depth (operands_compared operator by_texts ls rs) s t r → Runs itself supply depth (compared operator v w) s t r
 compared_so {supply = supply} {depth = depth} {s = s} {t = t} {r = r} operator v w by_texts ls rs n b l m h =

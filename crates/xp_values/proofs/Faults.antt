@@ -15,7 +15,8 @@ given_is (Ok number) answer h = sym h
 given_is (Err fault) answer h = sym h
 
 -- what is given of a result is what is given of the defined answer
-pub given_so : {supply : Supply NodeRef} {depth : ℕ} {s t : State NodeRef} {x : Result Number EvalFault} (r : Result Number NumFault) (answer : Result Number Fault)
-    → Gives r answer → Runs itself supply depth (given (result_of r)) s t x → Runs itself supply depth (given answer) s t x
+pub given_so : {supply : Supply NodeRef} {depth : ℕ} {s t : State NodeRef} {x : Result Number EvalFault}
+    (r : Result Number NumFault) (answer : Result Number Fault) → Gives r answer
+    → Runs itself supply depth (given (result_of r)) s t x → Runs itself supply depth (given answer) s t x
 given_so {supply = supply} {depth = depth} {s = s} {t = t} {x = x} r answer h k =
     subst (λ a. Runs itself supply depth (given a) s t x) (given_is r answer h) k

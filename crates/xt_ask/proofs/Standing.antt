@@ -3,7 +3,7 @@ use Rattle.std.proofs.Common.{◌≡◌, ℕ, zero, suc, ◌<◌, ◌≤◌, ◌
 use Rattle.spec_meaning.specs.Question.{Question, Answer}
 use Rattle.spec_meaning.specs.Program.{Read, Asked, Saw}
 use Rattle.xt_tree.specs.declared.node_ref.NodeRef.{NodeRef}
-use Rattle.xt_ask.specs.Change.{Stands, AllStand, MayChange, FirstMayChange, asked_by, asked_in}
+use Rattle.xt_ask.specs.Change.{Stands, AllStand, Changes, FirstChanges, asked_by, asked_in}
 
 pub stand_more : {X : Type 0} (truth : Question NodeRef → Answer NodeRef) (f : X → Read NodeRef) (xs : List X) (i : ℕ) (x : X) → i < length xs → x ≡ get_or xs i x
     → Stands truth (f x) → AllStand truth (map f (take i xs)) → AllStand truth (map f (take (suc i) xs))
@@ -12,9 +12,9 @@ stand_more truth f (y ∷ ys) zero x lt at s h = let P : _ → Type 0 = λ z. St
 stand_more truth f (y ∷ ys) (suc i) x lt at s h = (h.0, stand_more truth f ys i x (omega arith) at s h.1)
 
 pub change_at : {X : Type 0} (truth : Question NodeRef → Answer NodeRef) (f : X → Read NodeRef) (xs : List X) (i : ℕ) (x : X) → i < length xs → x ≡ get_or xs i x
-    → MayChange truth (f x) → FirstMayChange truth (drop i (map f xs))
+    → Changes truth (f x) → FirstChanges truth (drop i (map f xs))
 change_at truth f [] i x lt at c = absurd (omega arith)
-change_at truth f (y ∷ ys) zero x lt at c = let P : _ → Type 0 = λ z. MayChange truth (f z) in subst P at c
+change_at truth f (y ∷ ys) zero x lt at c = let P : _ → Type 0 = λ z. Changes truth (f z) in subst P at c
 change_at truth f (y ∷ ys) (suc i) x lt at c = change_at truth f ys i x (omega arith) at c
 
 pub take-map : {X Y : Type 0} (f : X → Y) (xs : List X) (i : ℕ) → map f (take i xs) ≡ take i (map f xs)

@@ -1,6 +1,6 @@
 -- Reads that are asked again.
-use Rattle.std.specs.Prelude.{◌≡◌, ℕ, ◌+◌, List, [], ◌∷◌, take, drop, Option, Some, None, Bool, true, false}
-use Rattle.spec_meaning.specs.Question.{Question, Answer, Copied}
+use Rattle.std.specs.Prelude.{◌≡◌, ℕ, ◌+◌, List, [], ◌∷◌, take, drop, Option, Some, None}
+use Rattle.spec_meaning.specs.Question.{Question, Answer}
 use Rattle.spec_meaning.specs.Program.{Read, Asked, Saw}
 
 -- the question has its answer still; what was seen of the run is not asked of a world
@@ -12,26 +12,18 @@ abbrev pub AllStand : {N : Type 0} → (Question N → Answer N) → List (Read 
 AllStand truth [] = Unit {0}
 AllStand truth (read ∷ reads) = Stands truth read × AllStand truth reads
 
-abbrev pub is_copy : {N : Type 0} → Answer N → Bool
-is_copy (Copied stream) = true
-is_copy _ = false
+-- it has another answer now
+abbrev pub Changes : {N : Type 0} → (Question N → Answer N) → Read N → Type 0
+Changes truth read = Stands truth read → ⊥
 
-abbrev pub is_of_copy : {N : Type 0} → Read N → Bool
-is_of_copy (Asked question answer) = is_copy answer
-is_of_copy (Saw wanted depth given) = false
+abbrev pub FirstChanges : {N : Type 0} → (Question N → Answer N) → List (Read N) → Type 0
+FirstChanges truth [] = ⊥
+FirstChanges truth (read ∷ reads) = Changes truth read
 
--- the question has another answer now, or its answer is a copy
-abbrev pub MayChange : {N : Type 0} → (Question N → Answer N) → Read N → Type 0
-MayChange truth read = is_of_copy read ≡ false → Stands truth read → ⊥
-
-abbrev pub FirstMayChange : {N : Type 0} → (Question N → Answer N) → List (Read N) → Type 0
-FirstMayChange truth [] = ⊥
-FirstMayChange truth (read ∷ reads) = MayChange truth read
-
--- none: all stand; else all before it stand, and it does not, unless it is of a copy
+-- none: all stand; else all before it stand, and it does not
 abbrev pub IsFirstChange : {N : Type 0} → (Question N → Answer N) → List (Read N) → Option ℕ → Type 0
 IsFirstChange truth reads None = AllStand truth reads
-IsFirstChange truth reads (Some i) = AllStand truth (take i reads) × FirstMayChange truth (drop i reads)
+IsFirstChange truth reads (Some i) = AllStand truth (take i reads) × FirstChanges truth (drop i reads)
 
 -- how many of the reads are asked
 abbrev pub asked_by : {N : Type 0} → Read N → ℕ

@@ -23,6 +23,10 @@ use Rattle.xt_ask.specs.declared.answer.NamedSets.{NamedSets}
 use Rattle.xt_ask.specs.declared.answer.ResolvedUnit.{ResolvedUnit}
 use Rattle.xt_ask.specs.declared.answer.Answer.{Answer}
 use Rattle.xt_ask.specs.declared.answer.Answer.TheVariants as answers
+use Rattle.xt_names.specs.View.{entry_of}
+use Rattle.xt_ask.specs.Piece as flat
+use Rattle.xt_ask.specs.declared.pieces.Piece.{Piece}
+use Rattle.xt_ask.specs.declared.pieces.Piece.TheVariants as pieces
 use Rattle.xt_ask.specs.declared.read.Read.{Read}
 use Rattle.xt_ask.specs.declared.read.Read.TheVariants as reads
 use Rattle.xt_ask.specs.declared.fault.Refusal.{Refusal}
@@ -86,6 +90,18 @@ given_of (given.Valued value) = program.Valued (value_of value)
 abbrev pub read_of : Read → program.Read NodeRef
 read_of (reads.Asked question answer) = program.Asked (question_of question) (answer_of answer)
 read_of (reads.Saw wanted depth given) = program.Saw (wanted_of wanted) depth (given_of given)
+
+abbrev pub piece_of : Piece → flat.Piece
+piece_of (pieces.Element name uri namespaces) = flat.Element name.now uri.now (map entry_of namespaces.now)
+piece_of pieces.Nameless = flat.Nameless
+piece_of (pieces.Attribute name uri) = flat.Attribute name.now uri.now
+piece_of (pieces.Namespace namespace) = flat.Namespace namespace.now.prefix namespace.now.uri
+piece_of (pieces.Text text) = flat.Text text.now
+piece_of pieces.Comment = flat.Comment
+piece_of (pieces.Instruction target) = flat.Instruction target.now
+piece_of pieces.Message = flat.Message
+piece_of pieces.Hole = flat.Hole
+piece_of pieces.End = flat.End
 
 -- variables, innermost first
 abbrev pub bindings_step : Bindings-F (List (context.Bound NodeRef)) (List (context.Bound NodeRef)) → List (context.Bound NodeRef)

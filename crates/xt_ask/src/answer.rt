@@ -6,7 +6,7 @@ ghost use Rattle.xt_ask.specs.View.{resolved_of};
 use crate::Refusal;
 use crate::alike::{all_alike, same_name_if, same_nodes, same_text_if};
 use crate::copies::{copy_name_if, copy_text_if};
-use crate::streams::same_items;
+use crate::pieces::same_streams;
 use spec_document::Kind;
 use std::alloc::Global;
 use std::rc::Rc;
@@ -75,9 +75,9 @@ pub enum Answer {
 }
 
 impl Answer {
-    ghost use Rattle.std.specs.Prelude.{◌≡◌, true, false, IfOk};
+    ghost use Rattle.std.specs.Prelude.{◌≡◌, IfOk};
+    ghost use Rattle.std.specs.Bool.{Decides};
     ghost use Rattle.spec_meaning.specs.Question.{nodes_in, text_in};
-    ghost use Rattle.xt_ask.specs.Change.{is_copy};
     ghost use Rattle.xt_ask.specs.View.{answer_of};
 
     /// The same answer. Copied nodes and units are shared, all else is in memory of its own.
@@ -100,27 +100,25 @@ impl Answer {
         }
     }
 
-    /// Whether both are the same answer. Of copies it may say no though they are the same, where they are
-    /// made of other shared parts. Takes no memory.
-    pub fn same(&self, other: &Answer) -> bool
-        ensures sound { result ≡ true → answer_of self.now ≡ answer_of other.now }
-        ensures exact { is_copy (answer_of other.now) ≡ false → answer_of self.now ≡ answer_of other.now → result ≡ true }
+    /// Whether both are the same answer. Only for copies does it take memory.
+    pub fn same(&self, alloc: Global, other: &Answer) -> Result<bool, Memory>
+        ensures { IfOk result (λ b. Decides b (answer_of self.now ≡ answer_of other.now)) }
     {
         match (self, other) {
-            (Answer::Gone, Answer::Gone) => true,
-            (Answer::Refused(refusal), Answer::Refused(other)) => refusal.same(other),
+            (Answer::Gone, Answer::Gone) => Ok(true),
+            (Answer::Refused(refusal), Answer::Refused(other)) => Ok(refusal.same(other)),
             (Answer::Nodes(nodes), Answer::Nodes(others)) => {
-                same_nodes(nodes.as_slice(), others.as_slice())
+                Ok(same_nodes(nodes.as_slice(), others.as_slice()))
             }
-            (Answer::Text(text), Answer::Text(other)) => text.same(other),
+            (Answer::Text(text), Answer::Text(other)) => Ok(text.same(other)),
             (Answer::Named(kind, name, written), Answer::Named(other_kind, other, others)) => {
-                kind == other_kind && same_name_if(name, other) && written.same(others)
+                Ok(kind == other_kind && same_name_if(name, other) && written.same(others))
             }
-            (Answer::Chosen(rule), Answer::Chosen(other)) => rule == other,
-            (Answer::Copied(items), Answer::Copied(others)) => same_items(items, others),
-            (Answer::Resolved(unit), Answer::Resolved(other)) => unit.same(other),
-            (Answer::Passed(value), Answer::Passed(other)) => same_text_if(value, other),
-            _ => false,
+            (Answer::Chosen(rule), Answer::Chosen(other)) => Ok(rule == other),
+            (Answer::Copied(items), Answer::Copied(others)) => same_streams(alloc, items, others),
+            (Answer::Resolved(unit), Answer::Resolved(other)) => Ok(unit.same(other)),
+            (Answer::Passed(value), Answer::Passed(other)) => Ok(same_text_if(value, other)),
+            _ => Ok(false),
         }
     }
 

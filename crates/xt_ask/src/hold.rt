@@ -2,17 +2,18 @@
 ghost use Rattle.std.specs.Prelude.{◌≡◌, ◌+◌, ◌-◌, ◌^◌, ◌<◌, min, map, length, true, false, IfOk, IfSome, OnErr};
 ghost use Rattle.spec_meaning.specs.Program.{State};
 ghost use Rattle.xt_ask.specs.View.{read_of};
-ghost use Rattle.xt_ask.specs.Change.{Stands, MayChange, IsFirstChange, asked_by, asked_in, asked_until};
+ghost use Rattle.xt_ask.specs.Change.{Stands, Changes, IsFirstChange, asked_by, asked_in, asked_until};
 
 use crate::{Read, World};
+use std::alloc::Global;
 use xt_base::Steps;
 use xt_text::Memory;
 
 /// The first read that has another answer in this world, which is asked again what was asked, in that
-/// order; what was seen of the run is not asked. None where each question has its answer. A copy may
-/// count as another answer where it is made of other shared parts. What is asked is counted; after want
-/// of memory the count is as before.
+/// order; what was seen of the run is not asked. None exactly where each question has its answer. What is
+/// asked is counted; after want of memory the count is as before.
 pub fn holds<W: World>(
+    alloc: Global,
     reads: &[Read],
     world: &mut W,
     steps: &mut Steps,
@@ -23,20 +24,24 @@ pub fn holds<W: World>(
     ensures name { W.name world.new ≡ W.name world.old }
     ensures err { OnErr result (steps.new ≡ steps.old) }
 {
-    let change = first_change(reads, world)?;
+    let change = first_change(alloc, reads, world)?;
     let asked = count_until(reads, change);
     steps.add_asked(asked);
     Ok(change)
 }
 
-fn first_change<W: World>(reads: &[Read], world: &mut W) -> Result<Option<usize>, Memory>
+fn first_change<W: World>(
+    alloc: Global,
+    reads: &[Read],
+    world: &mut W,
+) -> Result<Option<usize>, Memory>
     ensures first { IfOk result (λ i. IsFirstChange (W.state world.old).truth (map read_of reads.now) i) }
     ensures within { IfOk result (λ i. IfSome i (λ k. k < length reads.now)) }
     ensures truth { (W.state world.new).truth ≡ (W.state world.old).truth }
     ensures name { W.name world.new ≡ W.name world.old }
 {
     for (index, read) in reads.iter().enumerate() {
-        if !stands(read, world)? {
+        if !stands(alloc, read, world)? {
             return Ok(Some(index));
         }
     }
@@ -44,9 +49,9 @@ fn first_change<W: World>(reads: &[Read], world: &mut W) -> Result<Option<usize>
 }
 
 /// Whether the world answers as it did when this was read.
-fn stands<W: World>(read: &Read, world: &mut W) -> Result<bool, Memory>
+fn stands<W: World>(alloc: Global, read: &Read, world: &mut W) -> Result<bool, Memory>
     ensures stands { IfOk result (λ b. b ≡ true → Stands (W.state world.old).truth (read_of read.now)) }
-    ensures changes { IfOk result (λ b. b ≡ false → MayChange (W.state world.old).truth (read_of read.now)) }
+    ensures changes { IfOk result (λ b. b ≡ false → Changes (W.state world.old).truth (read_of read.now)) }
     ensures truth { (W.state world.new).truth ≡ (W.state world.old).truth }
     ensures name { W.name world.new ≡ W.name world.old }
 {
@@ -54,7 +59,7 @@ fn stands<W: World>(read: &Read, world: &mut W) -> Result<bool, Memory>
         Read::Saw(_, _, _) => Ok(true),
         Read::Asked(question, answer) => {
             let now = world.ask(question)?;
-            Ok(now.same(answer))
+            now.same(alloc, answer)
         }
     }
 }

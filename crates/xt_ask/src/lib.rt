@@ -16,9 +16,9 @@ mod evaluate;
 mod fault;
 mod hold;
 mod logged;
+mod pieces;
 mod question;
 mod read;
-mod streams;
 mod world;
 
 pub use answer::{Answer, NamedSets, NamedTemplate, ResolvedUnit};

@@ -1,5 +1,6 @@
 //! Work of a size, for benches: each three words of the command line are a bench, a shape and a size, whose
-//! outcome is printed as counts. Times are measured from outside (`tools/bench-build`, `tools/bench-axes`).
+//! outcome is printed as counts. Times are measured from outside (`tools/bench-build`, `tools/bench-axes`,
+//! `tools/bench-expressions`).
 //!
 //! | Bench | Shape | The work |
 //! |---|---|---|
@@ -10,6 +11,7 @@
 //! | | `attributes` | an element with so many declarations and as many attributes with their prefixes |
 //! | | `scopes` | so many declarations at the top, and as many children that declare one |
 //! | `parse` | `sum`, `path` | an expression of so many terms or steps |
+//! | `evaluate` | an expression | its value at the root of a document of the shape `wide`, as text |
 //!
 //! `lines` is `build` and the lines that are written for the document. Over the same documents, `find` finds each
 //! node by its number, `child`, `parent`, `descendant` and `following-sibling` are a step to elements from each
@@ -17,6 +19,7 @@
 #![tactic(auto)]
 
 mod bodies;
+mod evaluation;
 mod expressions;
 mod nodes;
 
@@ -48,6 +51,7 @@ fn outcome(alloc: Global, bench: &str, shape: &str, size: u64) -> Result<String,
         "build" => bodies::build_outcome(alloc, shape, size)?,
         "lines" => bodies::lines_outcome(alloc, shape, size)?,
         "parse" => expressions::outcome(alloc, shape, size)?,
+        "evaluate" => evaluation::outcome(alloc, shape, size)?,
         "find" | "child" | "parent" | "descendant" | "following-sibling" | "order" => {
             nodes::outcome(alloc, bench, shape, size)?
         }

@@ -1,4 +1,4 @@
-use Rattle.spec_document.specs.Order.{Entry, entries_of, is_same_place}
+use Rattle.spec_document.specs.Order.{entries_of, is_same_place}
 use Rattle.spec_meaning.specs.Naming.{unlabelled}
 use Rattle.spec_meaning.proofs.Matching.{matching, meaning_match}
 use Rattle.spec_meaning.proofs.Named.{worlds, documents_alike, places_apart}

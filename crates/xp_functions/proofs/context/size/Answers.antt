@@ -1,5 +1,5 @@
 use Rattle.std.proofs.Common.{refl}
-use Rattle.spec_meaning.specs.Program.{Position, Size, Counted, count_in}
+use Rattle.spec_meaning.specs.Program.{Size, Counted, count_in}
 use Rattle.spec_meaning.specs.Convert.{counted}
 use Rattle.xp_functions.proofs.Within.{needs}
 use Rattle.xp_functions.proofs.context.size.Goals as goal

@@ -1,4 +1,4 @@
-use Rattle.std.proofs.Common.{ap, ◌∙◌}
+use Rattle.std.proofs.Common.{◌∙◌}
 use Rattle.xp_functions.proofs.Words.{lang_is, xml_uri_chars, lang_chars}
 use Rattle.xp_functions.proofs.language.lang_test.Goals as goal
 

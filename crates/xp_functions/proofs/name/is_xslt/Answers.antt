@@ -1,4 +1,4 @@
-use Rattle.std.proofs.Common.{◌≡◌, Bool, List, ℕ, sym, ap, ◌∙◌, bytes_eq}
+use Rattle.std.proofs.Common.{◌≡◌, List, ℕ, ap, ◌∙◌, bytes_eq}
 use Rattle.std.specs.Str.{chars}
 use Rattle.spec_document.specs.Scope.{xslt_uri}
 use Rattle.xp_functions.proofs.Words.{and_is, and_not, xslt_uri_chars}

@@ -1,6 +1,5 @@
-use Rattle.std.proofs.Common.{◌≡◌, Bool, List, ℕ, sym, ap, ◌∙◌, length, ◌==◌, Option, None}
+use Rattle.std.proofs.Common.{◌≡◌, List, ℕ, sym, ap, ◌∙◌, length, ◌==◌}
 use Rattle.std.specs.Str.{chars}
-use Rattle.spec_meaning.specs.declared.function.Function.{Function}
 use Rattle.spec_meaning.specs.Function.{functions, found_in, is_empty}
 use Rattle.xp_functions.proofs.Words.{if_true, empty_is}
 use Rattle.xp_functions.proofs.table.named.Goals as goal

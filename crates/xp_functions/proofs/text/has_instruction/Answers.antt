@@ -1,4 +1,4 @@
-use Rattle.std.proofs.Common.{ap, ◌∙◌, List, ℕ}
+use Rattle.std.proofs.Common.{ap}
 use Rattle.spec_meaning.specs.Value.{Boolean}
 use Rattle.spec_meaning.specs.Call.{name_meant}
 use Rattle.xt_ask.proofs.Steps.{runs_then, runs_stop, runs_gives, exits}

@@ -12,6 +12,7 @@ invariant-loop-left g l =
     let state = g.W.World.state in
     let left = any_left g.C.Comparand.read (g.C.Comparand.test l.operator) l.keys in
     record {
-      runs : (supply : Supply NodeRef) → (depth : ℕ) → Continues supply depth (left (map operand_of (drop l.left-index l.lefts))) (state l.world) (left (map operand_of l.lefts)) (state l.fn.world);
+      runs : (supply : Supply NodeRef) → (depth : ℕ) → Continues supply depth (left (map operand_of (drop l.left-index l.lefts))) (state l.world)
+          (left (map operand_of l.lefts)) (state l.fn.world);
       name : g.W.World.name l.world ≡ g.W.World.name l.fn.world;
     }

@@ -12,6 +12,7 @@ invariant-loop-right g l =
     let state = g.W.World.state in
     let left = searched g.C.Comparand.read (g.C.Comparand.test l.operator l.first) in
     record {
-      runs : (supply : Supply NodeRef) → (depth : ℕ) → Continues supply depth (left l.keys.items (map operand_of (drop l.right-index l.rights))) (state l.world) (left [] (map operand_of l.rights)) (state l.fn.world);
+      runs : (supply : Supply NodeRef) → (depth : ℕ) → Continues supply depth (left l.keys.items (map operand_of (drop l.right-index l.rights))) (state l.world)
+          (left [] (map operand_of l.rights)) (state l.fn.world);
       name : g.W.World.name l.world ≡ g.W.World.name l.fn.world;
     }

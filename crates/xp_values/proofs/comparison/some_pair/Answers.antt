@@ -15,7 +15,8 @@ returns-in_err-found-clause-runs g c supply depth =
     let left = some_from_test c.args.lefts.now c.is_empty.ensures c.if-is_empty.false in
     let right = some_from_test c.args.rights.now c.is_empty-else-is_empty.ensures c.if-is_empty-2.false in
     pair_so g.C.Comparand.read (g.C.Comparand.test c.args.operator) c.args.lefts.now c.args.rights.now c.index-lefts-0.result left right c.index-lefts-0.is
-    (exits _ c.from_residual-in_err-found.ensures.1 (runs_then _ (c.in_ok-first.ensures.runs supply depth) (runs_stop _ (c.in_err-found.ensures.runs supply depth))))
+    (exits _ c.from_residual-in_err-found.ensures.1
+    (runs_then _ (c.in_ok-first.ensures.runs supply depth) (runs_stop _ (c.in_err-found.ensures.runs supply depth))))
 
 pub returns-in-None-clause-runs : goal.returns-in-None-clause-runs
 returns-in-None-clause-runs g c supply depth =

@@ -18,4 +18,5 @@ returns-then-boolean c =
 
 pub returns-else-boolean : goal.returns-else-boolean
 returns-else-boolean c =
-    rw c.if-boolean.false (IfOk-weaker c.from_str-else-boolean.result (λ t. t ≡ chars (codes "false")) (λ t. t ≡ codes "false") (λ t e. e ∙ false-chars) c.from_str-else-boolean.ensures)
+    let made = c.from_str-else-boolean in
+    rw c.if-boolean.false (IfOk-weaker made.result (λ t. t ≡ chars (codes "false")) (λ t. t ≡ codes "false") (λ t e. e ∙ false-chars) made.ensures)

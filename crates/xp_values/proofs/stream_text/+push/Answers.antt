@@ -9,7 +9,8 @@ use Rattle.xp_values.proofs.stream_text.+push.Goals as goal
 pub push_texts-returns : goal.push_texts-returns
 push_texts-returns t c =
     let text = c.loop-item.text in
-    sym (append-nil text) ∙ sym (at_drop_all (λ xs. text ++ texts_of (all_followed (map single_of xs))) c.list-item-items.result.now c.loop-item.item-index (omega arith))
+    sym (append-nil text)
+    ∙ sym (at_drop_all (λ xs. text ++ texts_of (all_followed (map single_of xs))) c.list-item-items.result.now c.loop-item.item-index (omega arith))
     ∙ c.loop-item.invariant
 
 pub push_texts-loop-item-preserved : goal.push_texts-loop-item-preserved

@@ -2,7 +2,7 @@ use Rattle.std.proofs.Common.{◌∙◌, subst, arith, add-one}
 use Rattle.spec_meaning.specs.Question.{Question, Answer}
 use Rattle.xt_tree.specs.declared.node_ref.NodeRef.{NodeRef}
 use Rattle.xt_ask.specs.View.{read_of}
-use Rattle.xt_ask.specs.Change.{Stands, AllStand, MayChange}
+use Rattle.xt_ask.specs.Change.{Stands, AllStand, Changes}
 use Rattle.xt_ask.proofs.Standing.{stand_more, change_at, take-map}
 use Rattle.xt_ask.proofs.hold.first_change.Goals as goal
 
@@ -11,7 +11,7 @@ returns-then-not-branch-clause-first g c =
     let truth = (g.W.World.state c.args.world.now).truth in
     let reads = c.args.reads.now in
     let read = c.index-reads-index.result in
-    let May : (Question NodeRef → Answer NodeRef) → Type 0 = λ t. MayChange t (read_of read) in (
+    let May : (Question NodeRef → Answer NodeRef) → Type 0 = λ t. Changes t (read_of read) in (
       subst (AllStand truth) (take-map read_of reads c.loop-index.index) c.loop-index.invariant.stand,
       change_at truth read_of reads c.loop-index.index read (omega arith) c.index-reads-index.is
           (subst May c.loop-index.invariant.truth (c.in_ok-stands.ensures.changes c.if-not-branch.true)),
