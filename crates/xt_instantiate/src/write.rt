@@ -24,8 +24,10 @@ use xt_sheet::{Content, Instruction};
 use xt_text::{Memory, Path, Text};
 use xt_tree::{Item, Items};
 
-/// The stream that the content writes, from left to right. D01 to D04 and D08 at the element of the select that
-/// is refused.
+/// The stream that the content writes, from left to right (XSLT 1.0, sections 7.1.1, 7.2 and 7.6.1). The first
+/// error ends it: want of memory; D01 to D04 or D08 at the element of the select that is refused; `Wants` with the
+/// first global that is needed and was not given. It goes as deep as the literal elements of the content stand in
+/// one another.
 #[cycle(written)]
 pub fn written<W: World>(
     alloc: Global,
