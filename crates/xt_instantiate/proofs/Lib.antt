@@ -1,0 +1,4 @@
+pub mod Following
+pub mod Moved
+pub mod Alike
+pub mod Views
