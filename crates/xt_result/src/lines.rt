@@ -17,14 +17,12 @@ use xt_tree::{Item, Items};
 pub fn lines_of(alloc: Global, items: &Items) -> Result<Vec<Text>, Memory>
     ensures { IfOk result (λ lines. lines.items ≡ lines_of (shaped (stream_of items.now))) }
 {
-    let _ = Text::new(alloc);
-    let _ = items.list();
-    Err(Memory)
     let mut lines = Vec::new(alloc);
     let mut text = Text::new(alloc);
     push_items(alloc, &mut lines, &mut text, items)?;
     push_text(alloc, &mut lines, &mut text)?;
     Ok(lines)
+}
 
 // Adds the lines of these items. The text is what was written since the last line: what is behind may go
 // on with it, so it has no line yet.
@@ -37,13 +35,23 @@ fn push_items(
 ) -> Result<(), Memory>
     ensures { OnOk result ((behind : Stream)
         → all_lines lines.old.items text.old (followed (stream_of items.now) behind) ≡ all_lines lines.new.items text.new behind) }
+{
     for item in items.list() {
         push_item(alloc, lines, text, item)?;
     }
     Ok(())
+}
+
+#[cycle(push)]
 fn push_item(
+    alloc: Global,
+    lines: &mut Vec<Text>,
+    text: &mut Text,
     item: &Item,
+) -> Result<(), Memory>
+    ensures { OnOk result ((behind : Stream)
         → all_lines lines.old.items text.old (followed (single_of item.now) behind) ≡ all_lines lines.new.items text.new behind) }
+{
     match item {
         Item::Element { name, content, .. } => {
             push_start(alloc, lines, text, name)?;
@@ -59,23 +67,50 @@ fn push_item(
         Item::Instruction { .. } => Ok(()),
         Item::Message { .. } => Ok(()),
         Item::Hole => Ok(()),
+    }
+}
+
 // Adds the line of the text and that of a start.
 fn push_start(
+    alloc: Global,
+    lines: &mut Vec<Text>,
+    text: &mut Text,
     name: &Text,
+) -> Result<(), Memory>
     ensures text { OnOk result (text.new ≡ []) }
     ensures lines { OnOk result (lines.new.items ≡ lines.old.items ++ lines_of (with_text text.old Empty) ++ line_of (event.Start name.now) ∷ []) }
+{
     push_text(alloc, lines, text)?;
     let line = write_start(alloc, name)?;
     lines.push(line)?;
+    Ok(())
+}
+
 // Adds the line of the text and that of an end.
 fn push_end(
+    alloc: Global,
+    lines: &mut Vec<Text>,
+    text: &mut Text,
+    name: &Text,
+) -> Result<(), Memory>
+    ensures text { OnOk result (text.new ≡ []) }
     ensures lines { OnOk result (lines.new.items ≡ lines.old.items ++ lines_of (with_text text.old Empty) ++ line_of (event.End name.now) ∷ []) }
+{
+    push_text(alloc, lines, text)?;
     let line = write_end(alloc, name)?;
+    lines.push(line)?;
+    Ok(())
+}
+
 // Adds the line of the text, where it has characters, and empties it.
 fn push_text(alloc: Global, lines: &mut Vec<Text>, text: &mut Text) -> Result<(), Memory>
+    ensures text { OnOk result (text.new ≡ []) }
     ensures lines { OnOk result (lines.new.items ≡ lines.old.items ++ lines_of (with_text text.old Empty)) }
+{
     if !text.is_empty() {
         let line = write_data(alloc, text)?;
         lines.push(line)?;
         *text = Text::new(alloc);
+    }
+    Ok(())
 }
