@@ -3,13 +3,13 @@ use Rattle.std.specs.Prelude.{ℕ, Bool, List, [], ◌∷◌, Option}
 use Rattle.spec_document.specs.Name.{Expanded}
 use Rattle.spec_expression.specs.Syntax.{Expr}
 use Rattle.spec_stylesheet.specs.declared.number_level.NumberLevel.{NumberLevel}
-use Rattle.spec_stylesheet.specs.Place.{Place}
+use Rattle.spec_stylesheet.specs.Place.{Site}
 use Rattle.spec_stylesheet.specs.Pattern.{Pattern}
 use Rattle.spec_stylesheet.specs.ValueTemplate.{Avt}
 
 -- sort keys (section 10)
 pub record SortKey : Type 0 where
-  pub place : Place
+  pub site : Site
   pub select : Expr
   pub data_type : Avt
   pub order : Avt
@@ -30,11 +30,10 @@ pub record Numbering : Type 0 where
   pub grouping_separator : Option Avt
   pub grouping_size : Option Avt
 
--- names that are made, with the namespaces in scope, each as prefix and URI (sections 7.1.2 and 7.1.3)
+-- names that are made (sections 7.1.2 and 7.1.3)
 pub record MadeName : Type 0 where
   pub name : Avt
   pub namespace : Option Avt
-  pub scope : List (List ℕ × List ℕ)
 
 -- literal result elements (section 7.1.1); the namespaces that they bring along, each as prefix and URI
 pub record LiteralAttribute : Type 0 where
@@ -92,42 +91,42 @@ mutual
   -- a content
   pub data Instrs : Type 0 where
     no_instrs : Instrs
-    instr : Place → Form → Instrs → Instrs
+    instr : Site → Form → Instrs → Instrs
 
   -- xsl:when, and xsl:otherwise, which has no test
   pub data Branches : Type 0 where
     no_branches : Branches
-    branch : Place → (test : Option Expr) → (content : Instrs) → Branches → Branches
+    branch : Site → (test : Option Expr) → (content : Instrs) → Branches → Branches
 
   -- xsl:param and xsl:with-param
   pub data Bindings : Type 0 where
     no_bindings : Bindings
-    binding : Place → (name : Expanded) → (select : Option Expr) → (content : Instrs) → Bindings → Bindings
+    binding : Site → (name : Expanded) → (select : Option Expr) → (content : Instrs) → Bindings → Bindings
 
 -- one of each by itself
 pub record Instr : Type 0 where
-  pub place : Place
+  pub site : Site
   pub form : Form
 
 pub record Branch : Type 0 where
-  pub place : Place
+  pub site : Site
   pub test : Option Expr
   pub content : Instrs
 
 pub record Binding : Type 0 where
-  pub place : Place
+  pub site : Site
   pub name : Expanded
   pub select : Option Expr
   pub content : Instrs
 
 abbrev pub instrs : List Instr → Instrs
 instrs [] = no_instrs
-instrs (i ∷ is) = instr i.place i.form (instrs is)
+instrs (i ∷ is) = instr i.site i.form (instrs is)
 
 abbrev pub branches : List Branch → Branches
 branches [] = no_branches
-branches (b ∷ bs) = branch b.place b.test b.content (branches bs)
+branches (b ∷ bs) = branch b.site b.test b.content (branches bs)
 
 abbrev pub bindings : List Binding → Bindings
 bindings [] = no_bindings
-bindings (b ∷ bs) = binding b.place b.name b.select b.content (bindings bs)
+bindings (b ∷ bs) = binding b.site b.name b.select b.content (bindings bs)

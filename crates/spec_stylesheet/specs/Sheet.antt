@@ -3,7 +3,7 @@ use Rattle.std.specs.Prelude.{ℕ, ℤ, Bool, List, Option}
 use Rattle.spec_document.specs.Name.{Expanded}
 use Rattle.spec_expression.specs.Syntax as tree
 use Rattle.spec_stylesheet.specs.declared.method.Method.{Method}
-use Rattle.spec_stylesheet.specs.Place.{Place}
+use Rattle.spec_stylesheet.specs.Place.{Site}
 use Rattle.spec_stylesheet.specs.Pattern.{Pattern}
 use Rattle.spec_stylesheet.specs.Instruction.{Instrs, Bindings, Binding}
 
@@ -61,7 +61,7 @@ pub data Declared : Type 0 where
 
 -- what is run by itself: its place always has a module
 pub record Unit : Type 0 where
-  pub place : Place
+  pub site : Site
   pub precedence : ℕ
   pub declared : Declared
 

@@ -8,9 +8,10 @@ use cases::{Fault, Word, one, text_of};
 use std::alloc::Global;
 use xp_syntax::{
     Avt, AvtPart, Binding, Branch, Control, Count, Expr, Form, Instr, LiteralTag, MadeName,
-    NumberLevel, NumberSource, Numbering, Place, Selection, SortKey, WithContent, WithoutContent,
+    NumberLevel, NumberSource, Numbering, Place, Selection, Site, SortKey, WithContent,
+    WithoutContent,
 };
-use xt_names::Expanded;
+use xt_names::{Expanded, Scope};
 use xt_text::{Memory, Path, Text};
 
 /// Whether each instruction is the same as itself and as no other one.
@@ -30,28 +31,32 @@ pub fn differ(alloc: Global, words: &[Word]) -> Result<bool, Fault> {
 /// An instruction by its word.
 pub fn instruction(alloc: Global, word: &str) -> Result<Instr, Fault> {
     let (kind, rest) = word.split_once(':').ok_or(Fault::NoCase)?;
-    let place = place(alloc)?;
     let form = form(alloc, kind, rest)?;
-    Ok(Instr { place, form })
+    let site = site(alloc)?;
+    Ok(Instr { site, form })
 }
 
-/// The place of what is no node of a stylesheet. It takes no memory.
-pub fn nowhere(alloc: Global) -> Place {
-    Place {
+/// What is no node of a stylesheet, with no prefix in scope but `xml`.
+pub fn nowhere(alloc: Global) -> Result<Site, Memory> {
+    let scope = Scope::root(alloc)?;
+    let place = Place {
         module: None,
         path: Path::new(alloc),
-    }
+    };
+    Ok(Site { place, scope })
 }
 
-// The place `main/1`.
-fn place(alloc: Global) -> Result<Place, Memory> {
+// The element `main/1`, with no prefix in scope but `xml`.
+fn site(alloc: Global) -> Result<Site, Memory> {
     let module = Text::from_str(alloc, "main")?;
     let mut path = Path::new(alloc);
     path.push(1)?;
-    Ok(Place {
+    let scope = Scope::root(alloc)?;
+    let place = Place {
         module: Some(module),
         path,
-    })
+    };
+    Ok(Site { place, scope })
 }
 
 /// The name in no namespace.
@@ -80,8 +85,8 @@ fn form(alloc: Global, kind: &str, rest: &str) -> Result<Form, Fault> {
 pub fn content(alloc: Global) -> Result<Vec<Instr>, Memory> {
     let text = Text::from_str(alloc, "x")?;
     let form = Form::WithoutContent(WithoutContent::Text(text));
-    let place = nowhere(alloc);
-    one(alloc, Instr { place, form })
+    let site = nowhere(alloc)?;
+    one(alloc, Instr { site, form })
 }
 
 fn without_content(alloc: Global, kind: &str, rest: &str) -> Result<WithoutContent, Fault> {
@@ -156,7 +161,6 @@ fn made_name(alloc: Global, text: &str) -> Result<MadeName, Memory> {
     Ok(MadeName {
         name: template(alloc, text)?,
         namespace: None,
-        scope: Vec::new(alloc),
     })
 }
 
@@ -185,16 +189,17 @@ fn control(alloc: Global, kind: &str, rest: &str) -> Result<Control, Fault> {
 fn choose(alloc: Global, test: &str) -> Result<Control, Fault> {
     let test = parsed(alloc, test)?;
     let content = content(alloc)?;
-    let branch = branch(alloc, test, content);
+    let branch = branch(alloc, test, content)?;
     Ok(Control::Choose(one(alloc, branch)?))
 }
 
-fn branch(alloc: Global, test: Expr, content: Vec<Instr>) -> Branch {
-    Branch {
-        place: nowhere(alloc),
+fn branch(alloc: Global, test: Expr, content: Vec<Instr>) -> Result<Branch, Memory> {
+    let site = nowhere(alloc)?;
+    Ok(Branch {
+        site,
         test: Some(test),
         content,
-    }
+    })
 }
 
 // Sorted by the string-value.
@@ -212,8 +217,9 @@ fn apply_templates(alloc: Global, select: &str) -> Result<Control, Fault> {
 fn sort_key(alloc: Global) -> Result<SortKey, Fault> {
     let data_type = template(alloc, "text")?;
     let select = parsed(alloc, ".")?;
+    let site = nowhere(alloc)?;
     Ok(SortKey {
-        place: nowhere(alloc),
+        site,
         select,
         data_type,
         order: Avt {
@@ -226,8 +232,9 @@ fn sort_key(alloc: Global) -> Result<SortKey, Fault> {
 pub fn binding(alloc: Global, select: &str) -> Result<Binding, Fault> {
     let name = name(alloc, "v")?;
     let select = parsed(alloc, select)?;
+    let site = nowhere(alloc)?;
     Ok(Binding {
-        place: nowhere(alloc),
+        site,
         name,
         select: Some(select),
         content: Vec::new(alloc),

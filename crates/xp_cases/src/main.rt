@@ -6,7 +6,6 @@ mod axes;
 mod instructions;
 mod numbers;
 mod sheets;
-mod syntax;
 mod texts;
 mod trees;
 

@@ -72,22 +72,29 @@ fn word<'a>(change: &str, wanted: &str, changed: &'a str, usual: &'a str) -> &'a
 
 fn push_units(alloc: Global, units: &mut Vec<Unit>, change: &str) -> Result<(), Fault> {
     let template = template(alloc, change)?;
-    units.push(unit(alloc, change, Declared::Template(template)))?;
+    push_unit(alloc, units, change, Declared::Template(template))?;
     let global = global(alloc, change)?;
-    units.push(unit(alloc, change, Declared::Global(global)))?;
+    push_unit(alloc, units, change, Declared::Global(global))?;
     let set = attribute_set(alloc, change)?;
-    units.push(unit(alloc, change, Declared::AttributeSet(set)))?;
+    push_unit(alloc, units, change, Declared::AttributeSet(set))?;
     let key = key(alloc, change)?;
-    units.push(unit(alloc, change, Declared::Key(key)))?;
+    push_unit(alloc, units, change, Declared::Key(key))?;
     Ok(())
 }
 
-fn unit(alloc: Global, change: &str, declared: Declared) -> Unit {
-    Unit {
-        place: nowhere(alloc),
+fn push_unit(
+    alloc: Global,
+    units: &mut Vec<Unit>,
+    change: &str,
+    declared: Declared,
+) -> Result<(), Memory> {
+    let site = nowhere(alloc)?;
+    units.push(Unit {
+        site,
         precedence: number(change, "unit-precedence"),
         declared,
-    }
+    })?;
+    Ok(())
 }
 
 fn template(alloc: Global, change: &str) -> Result<Template, Fault> {

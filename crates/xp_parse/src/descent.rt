@@ -203,7 +203,7 @@ impl<'a> Parser<'_, 'a> {
     /// The predicates from a place on, which moves behind them. `Refused` with `Syntax` where one is begun that is
     /// none.
     #[cycle(parse)]
-    pub fn predicates(&self, at: &mut usize) -> Result<Vec<Expr>, ParseFault>
+    fn predicates(&self, at: &mut usize) -> Result<Vec<Expr>, ParseFault>
         requires { at.old ≤ length self.now.tokens.now }
         ensures answer { Returns (λ v. map expr_of v.items) (grammar.ReadsPredicates self.now.scope.now) 10 (left self.now at.old) (left self.now at.new) result }
         ensures progress { OnOk result (at.old ≤ at.new) }
@@ -258,9 +258,9 @@ impl<'a> Parser<'_, 'a> {
         }
     }
 
-    /// A step.
+    /// The step at a place, which moves behind it. `Refused` with `Syntax` where none stands there.
     #[cycle(parse)]
-    fn step(&self, at: &mut usize) -> Result<Step, ParseFault>
+    pub fn step(&self, at: &mut usize) -> Result<Step, ParseFault>
         ensures answer { Returns step_of (grammar.ReadsStep self.now.scope.now) 10 (left self.now at.old) (left self.now at.new) result }
         ensures progress { OnOk result (at.old < at.new) }
         ensures within { OnOk result (at.new ≤ length self.now.tokens.now) }
@@ -285,7 +285,7 @@ impl<'a> Parser<'_, 'a> {
 
     /// The axis of a step that is neither `.` nor `..`: `child` where none stands at the place. `Refused` with
     /// `Syntax` where a name that is none and `::` stand there.
-    pub fn axis(&self, at: &mut usize) -> Result<Axis, ParseFault>
+    fn axis(&self, at: &mut usize) -> Result<Axis, ParseFault>
         requires dot { reading.IsNotNext (left self.now at.old) (reading.token_of_sign Sign.Dot) }
         requires dots { reading.IsNotNext (left self.now at.old) (reading.token_of_sign Sign.DotDot) }
         ensures ok { IfOk result (λ axis. ReadsAxis (left self.now at.old) axis (left self.now at.new)) }

@@ -3,8 +3,8 @@
 //! `parse` answers the one tree that a text has in the grammar, or the least refusal that stands at
 //! it; which it is, `Parses` of the definitions says.
 //!
-//! `tokens` cuts a text, and a `Parser` reads what tokens are from a place on: expressions, and the parts of
-//! steps, of which patterns are made too.
+//! `tokens` cuts a text, and a `Parser` reads what tokens are from a place on: expressions, and steps, of which
+//! patterns are made too. `is_deep`, `has_bad_number` and `has_undeclared` test what is past xt's profile.
 //!
 //! ```text
 //! let scope = Scope::root(alloc)?;
@@ -24,5 +24,5 @@ mod token;
 pub use cut::tokens;
 pub use fault::ParseFault;
 pub use read::Parser;
-pub use text::parse;
+pub use text::{has_bad_number, has_undeclared, is_deep, parse};
 pub use token::{Name, Sign, Token};

@@ -64,7 +64,7 @@ impl<'a> Parser<'_, 'a> {
     }
 
     /// Whether a step begins at a place.
-    pub(crate) fn begins_step(&self, at: usize) -> bool
+    pub fn begins_step(&self, at: usize) -> bool
         ensures { result ≡ begins_step (left self.now at) }
     {
         matches!(

@@ -32,8 +32,8 @@ fn depth_behind(depth: u64, token: &Token<'_>) -> u64
     }
 }
 
-/// Whether too many `(` and `[` are open at a token.
-fn is_deep(tokens: &[Token<'_>]) -> bool
+/// Whether more than 64 `(` and `[` are open at a token.
+pub fn is_deep(tokens: &[Token<'_>]) -> bool
     ensures { result ≡ plain.is_deep 0 (map token_of tokens.now) }
 {
     let mut depth = 0u64;
@@ -57,7 +57,7 @@ fn is_bad_number(token: &Token<'_>) -> bool
 }
 
 /// Whether a number has a fraction or is too great.
-fn has_bad_number(tokens: &[Token<'_>]) -> bool
+pub fn has_bad_number(tokens: &[Token<'_>]) -> bool
     ensures { result ≡ list_any grammar.is_bad_number (map token_of tokens.now) }
 {
     for token in tokens {
@@ -91,7 +91,7 @@ fn is_undeclared(scope: &Scope, token: &Token<'_>) -> bool
 }
 
 /// Whether a prefix is not declared.
-fn has_undeclared(scope: &Scope, tokens: &[Token<'_>]) -> bool
+pub fn has_undeclared(scope: &Scope, tokens: &[Token<'_>]) -> bool
     ensures { result ≡ list_any (grammar.is_undeclared scope.now) (map token_of tokens.now) }
 {
     for token in tokens {

@@ -3,7 +3,7 @@ use Rattle.std.specs.Prelude.{map}
 use Rattle.std.specs.Option.{option_map}
 use Rattle.spec_stylesheet.specs.Instruction as tree
 use Rattle.xp_syntax.specs.View.{expr_of}
-use Rattle.xp_syntax.specs.PartView.{place_of, sort_key_of, without_content_of, with_content_of}
+use Rattle.xp_syntax.specs.PartView.{site_of, sort_key_of, without_content_of, with_content_of}
 use Rattle.xp_syntax.specs.declared.instr.Selection.{Selection}
 use Rattle.xp_syntax.specs.declared.instr.Instr.{Instr, Instr-F, fold-Instr}
 use Rattle.xp_syntax.specs.declared.instr.Form.{Form, Form-F, fold-Form}
@@ -16,7 +16,7 @@ selection_of s = record { select = expr_of s.select; mode = s.mode; keys = map s
 
 -- one level, with what is below it seen already
 abbrev pub instr_step : Instr-F tree.Control tree.Form tree.Binding tree.Branch tree.Instr → tree.Instr
-instr_step i = record { place = place_of i.place; form = i.form }
+instr_step i = record { site = site_of i.site; form = i.form }
 
 abbrev pub form_step : Form-F tree.Control tree.Form tree.Binding tree.Branch tree.Instr → tree.Form
 form_step (Form-F.WithoutContent i) = tree.without_content (without_content_of i)
@@ -31,10 +31,10 @@ control_step (Control-F.ApplyTemplates s bs) = tree.apply_templates (selection_o
 control_step (Control-F.CallTemplate name bs) = tree.call_template name (tree.bindings bs.items)
 
 abbrev pub branch_step : Branch-F tree.Control tree.Form tree.Binding tree.Branch tree.Instr → tree.Branch
-branch_step b = record { place = place_of b.place; test = option_map expr_of b.test; content = tree.instrs b.content.items }
+branch_step b = record { site = site_of b.site; test = option_map expr_of b.test; content = tree.instrs b.content.items }
 
 abbrev pub binding_step : Binding-F tree.Control tree.Form tree.Binding tree.Branch tree.Instr → tree.Binding
-binding_step b = record { place = place_of b.place; name = b.name; select = option_map expr_of b.select; content = tree.instrs b.content.items }
+binding_step b = record { site = site_of b.site; name = b.name; select = option_map expr_of b.select; content = tree.instrs b.content.items }
 
 abbrev pub instr_of : Instr → tree.Instr
 instr_of = fold-Instr tree.Control tree.Form tree.Binding tree.Branch tree.Instr control_step form_step binding_step branch_step instr_step

@@ -14,6 +14,7 @@ use Rattle.xp_syntax.specs.declared.pattern.Pattern.{Pattern}
 use Rattle.xp_syntax.specs.declared.avt.AvtPart.{AvtPart}
 use Rattle.xp_syntax.specs.declared.avt.AvtPart.TheVariants as parts
 use Rattle.xp_syntax.specs.declared.avt.Avt.{Avt}
+use Rattle.xp_syntax.specs.declared.site.Site.{Site}
 use Rattle.xp_syntax.specs.declared.sort_key.SortKey.{SortKey}
 use Rattle.xp_syntax.specs.declared.count.Count.{Count}
 use Rattle.xp_syntax.specs.declared.names.MadeName.{MadeName}
@@ -29,6 +30,9 @@ use Rattle.xp_syntax.specs.declared.with_content.WithContent.TheVariants as with
 
 abbrev pub place_of : Place → places.Place
 place_of p = record { module_name = p.«module»; path = p.path }
+
+abbrev pub site_of : Site → places.Site
+site_of s = record { place = place_of s.place; scope = s.scope }
 
 abbrev pub pattern_step_of : PatternStep → patterns.PatternStep
 pattern_step_of s = record { separator = s.separator; step = step_of s.step }
@@ -47,13 +51,13 @@ abbrev pub avt_of : Avt → templates.Avt
 avt_of a = record { parts = map avt_part_of a.parts.items }
 
 abbrev pub sort_key_of : SortKey → instructions.SortKey
-sort_key_of k = record { place = place_of k.place; select = expr_of k.select; data_type = avt_of k.data_type; order = avt_of k.order }
+sort_key_of k = record { site = site_of k.site; select = expr_of k.select; data_type = avt_of k.data_type; order = avt_of k.order }
 
 abbrev pub count_of : Count → instructions.Count
 count_of c = record { level = c.level; count = option_map pattern_of c.count; from = option_map pattern_of c.from }
 
 abbrev pub made_name_of : MadeName → instructions.MadeName
-made_name_of n = record { name = avt_of n.name; namespace = option_map avt_of n.namespace; scope = map entry_of n.scope.items }
+made_name_of n = record { name = avt_of n.name; namespace = option_map avt_of n.namespace }
 
 abbrev pub literal_attribute_of : LiteralAttribute → instructions.LiteralAttribute
 literal_attribute_of a = record { prefix = a.prefix; name = a.name; value = avt_of a.value }

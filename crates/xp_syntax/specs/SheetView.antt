@@ -3,7 +3,7 @@ use Rattle.std.specs.Prelude.{map}
 use Rattle.spec_stylesheet.specs.Sheet as sheets
 use Rattle.spec_stylesheet.specs.Instruction.{instrs, bindings}
 use Rattle.xp_syntax.specs.View.{expr_of, test_of}
-use Rattle.xp_syntax.specs.PartView.{place_of, pattern_of}
+use Rattle.xp_syntax.specs.PartView.{site_of, pattern_of}
 use Rattle.xp_syntax.specs.InstrView.{instr_of, binding_of}
 use Rattle.xp_syntax.specs.declared.rule.Rule.{Rule}
 use Rattle.xp_syntax.specs.declared.rules.Rules.{Rules}
@@ -58,7 +58,7 @@ declared_of (forms.AttributeSet s) = sheets.ASet (attribute_set_of s)
 declared_of (forms.Key k) = sheets.AKey (key_of k)
 
 abbrev pub unit_of : Unit → sheets.Unit
-unit_of u = record { place = place_of u.place; precedence = u.precedence; declared = declared_of u.declared }
+unit_of u = record { site = site_of u.site; precedence = u.precedence; declared = declared_of u.declared }
 
 abbrev pub alias_of : Alias → sheets.Alias
 alias_of a = record { stylesheet = a.stylesheet; prefix = a.prefix; result = a.result }

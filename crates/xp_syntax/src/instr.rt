@@ -7,18 +7,18 @@ ghost use Rattle.xp_syntax.specs.InstrView.{instr_of, form_of, control_of, bindi
 use crate::alike::{all_alike, both_alike};
 use crate::expr::Expr;
 use crate::names::same_name;
+use crate::site::Site;
 use crate::sort_key::SortKey;
 use crate::with_content::WithContent;
 use crate::without_content::WithoutContent;
-use xt_base::Place;
 use xt_names::Expanded;
 
 /// An instruction, a literal result element or a text in a template (XSLT 1.0, sections 5 to 13).
 #[cycle(instr)]
 #[derive(Drop)]
 pub struct Instr {
-    /// Where its element stands; of a text in no xsl:text, where the element that holds it does.
-    pub place: Place,
+    /// Its element; of a text in no xsl:text, the element that holds it.
+    pub site: Site,
     pub form: Form,
 }
 
@@ -54,7 +54,7 @@ pub enum Control {
 #[cycle(instr)]
 #[derive(Drop)]
 pub struct Branch {
-    pub place: Place,
+    pub site: Site,
     pub test: Option<Expr>,
     pub content: Vec<Instr>,
 }
@@ -64,7 +64,7 @@ pub struct Branch {
 #[cycle(instr)]
 #[derive(Drop)]
 pub struct Binding {
-    pub place: Place,
+    pub site: Site,
     pub name: Expanded,
     pub select: Option<Expr>,
     pub content: Vec<Instr>,
@@ -96,7 +96,7 @@ impl Instr {
     pub fn same(&self, other: &Instr) -> bool
         ensures { Decides result (instr_of self.now ≡ instr_of other.now) }
     {
-        self.place.same(&other.place) && self.form.same(&other.form)
+        self.site.same(&other.site) && self.form.same(&other.form)
     }
 }
 
@@ -156,7 +156,7 @@ impl Branch {
     pub fn same(&self, other: &Branch) -> bool
         ensures { Decides result (branch_of self.now ≡ branch_of other.now) }
     {
-        self.place.same(&other.place)
+        self.site.same(&other.site)
             && both_alike(&self.test, &other.test)
             && same_instrs(self.content.as_slice(), other.content.as_slice())
     }
@@ -168,7 +168,7 @@ impl Binding {
     pub fn same(&self, other: &Binding) -> bool
         ensures { Decides result (binding_of self.now ≡ binding_of other.now) }
     {
-        self.place.same(&other.place)
+        self.site.same(&other.site)
             && self.name.same(&other.name)
             && both_alike(&self.select, &other.select)
             && same_instrs(self.content.as_slice(), other.content.as_slice())

@@ -13,10 +13,8 @@ use xt_names::{Expanded, Namespace};
 #[derive(Drop)]
 pub struct MadeName {
     pub name: Avt,
-    /// Its namespace where one is told, else the prefix of the name finds it.
+    /// Its namespace where one is told; else the prefix of the name finds it among those in scope.
     pub namespace: Option<Avt>,
-    /// The namespaces in scope of the instruction.
-    pub scope: Vec<Namespace>,
 }
 
 impl Alike for Namespace {
@@ -34,9 +32,7 @@ impl MadeName {
     pub fn same(&self, other: &MadeName) -> bool
         ensures { Decides result (made_name_of self.now ≡ made_name_of other.now) }
     {
-        self.name.same(&other.name)
-            && both_alike(&self.namespace, &other.namespace)
-            && all_alike(self.scope.as_slice(), other.scope.as_slice())
+        self.name.same(&other.name) && both_alike(&self.namespace, &other.namespace)
     }
 }
 

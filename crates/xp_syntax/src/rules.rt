@@ -6,8 +6,8 @@ ghost use Rattle.xp_syntax.specs.SheetView.{rules_of};
 use crate::alike::all_alike;
 use crate::rule::Rule;
 
-/// The template rules of a stylesheet and of all that it imports, of every mode, in the order of the
-/// stylesheet (XSLT 1.0, sections 2.6.2 and 5.5). The built-in rules are not among them.
+/// The template rules of a stylesheet and of all that it imports, of every mode, the one that counts for most
+/// first (XSLT 1.0, sections 2.6.2 and 5.5). The built-in rules are not among them.
 #[derive(Drop)]
 pub struct Rules {
     pub rules: Vec<Rule>,

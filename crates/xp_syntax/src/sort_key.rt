@@ -7,13 +7,13 @@ ghost use Rattle.xp_syntax.specs.PartView.{sort_key_of};
 use crate::alike::Alike;
 use crate::avt::Avt;
 use crate::expr::Expr;
-use xt_base::Place;
+use crate::site::Site;
 
 /// An xsl:sort (XSLT 1.0, section 10). A missing attribute has its default here: `.`, `text`,
 /// `ascending`.
 #[derive(Drop)]
 pub struct SortKey {
-    pub place: Place,
+    pub site: Site,
     pub select: Expr,
     pub data_type: Avt,
     pub order: Avt,
@@ -24,7 +24,7 @@ impl SortKey {
     pub fn same(&self, other: &SortKey) -> bool
         ensures { Decides result (sort_key_of self.now ≡ sort_key_of other.now) }
     {
-        self.place.same(&other.place)
+        self.site.same(&other.site)
             && self.select.same(&other.select)
             && self.data_type.same(&other.data_type)
             && self.order.same(&other.order)

@@ -9,15 +9,15 @@ use crate::expr::Expr;
 use crate::instr::{Binding, Instr, same_bindings, same_instrs};
 use crate::names::{same_name, same_names};
 use crate::pattern::Pattern;
-use xt_base::Place;
+use crate::site::Site;
 use xt_names::Expanded;
 
 /// A template, a global variable or parameter, an attribute set or a key: an element at the top of a
 /// stylesheet that is run by itself.
 #[derive(Drop)]
 pub struct Unit {
-    /// Where its element stands; it always has a module.
-    pub place: Place,
+    /// Its element, whose place always has a module.
+    pub site: Site,
     /// The import precedence of its stylesheet, higher for what counts more (XSLT 1.0, section 2.6.2).
     pub precedence: u64,
     pub declared: Declared,
@@ -131,7 +131,7 @@ impl Unit {
     pub fn same(&self, other: &Unit) -> bool
         ensures { Decides result (unit_of self.now ≡ unit_of other.now) }
     {
-        self.place.same(&other.place)
+        self.site.same(&other.site)
             && self.precedence == other.precedence
             && self.declared.same(&other.declared)
     }

@@ -1,0 +1,13 @@
+//! What the programs of cases on texts of stylesheets have in common: the scope of the texts, and the forms
+//! in which trees and refusals are written.
+#![tactic(auto)]
+
+mod code;
+mod prefixes;
+mod syntax;
+mod tree;
+
+pub use code::push_code;
+pub use prefixes::scope;
+pub use syntax::{push_axis, push_operator, push_test};
+pub use tree::{push_step, push_tree};
