@@ -1,0 +1,2 @@
+pub mod PatternParts
+pub mod PatternUnique

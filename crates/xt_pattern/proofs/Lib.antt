@@ -1,0 +1,5 @@
+pub mod Views
+pub mod Steps
+pub mod Heads
+pub mod Alternatives
+pub mod Texts
