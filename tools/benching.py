@@ -1,4 +1,4 @@
-"""What the benches of crates/xt_bench share: each runs the proved native program
+"""What the benches of crates/xt_bench and crates/result_bench share: each runs the proved native program
 (built by `rt run` there, where it is not current) at a size and at twice that
 size, and prints the seconds and the peak of memory at both, how many lines,
 terms or elements it takes a second, and the ratio of the times: about 2 where
@@ -11,25 +11,24 @@ import time
 from pathlib import Path
 
 TOP = Path(__file__).resolve().parent.parent
-CRATE = TOP / 'crates' / 'xt_bench'
-PROGRAM = CRATE / 'out' / 'xt_bench'
+CRATES = TOP / 'crates'
 GREATEST_RATIO = 2.5
 RUNS = 3
 
 
-def is_current():
+def is_current(program):
     """Whether the program is newer than all that it is made of."""
-    if not PROGRAM.exists():
+    if not program.exists():
         return False
-    built = PROGRAM.stat().st_mtime
+    built = program.stat().st_mtime
     parts = [path for kind in ('src', 'specs', 'proofs') for path in TOP.glob(f'crates/*/{kind}/**/*')]
     return all(path.stat().st_mtime <= built for path in parts + [TOP / 'crates.txt'])
 
 
-def run(words, size):
+def run(program, words, size):
     """The seconds, the peak of memory in MiB and the outcome of one run."""
     begun = time.monotonic()
-    process = subprocess.Popen([PROGRAM, *words, str(size)], stdout=subprocess.PIPE, text=True)
+    process = subprocess.Popen([program, *words, str(size)], stdout=subprocess.PIPE, text=True)
     outcome = process.stdout.read().strip()
     _, status, usage = os.wait4(process.pid, 0)
     process.returncode = os.waitstatus_to_exitcode(status)
@@ -38,12 +37,12 @@ def run(words, size):
     return time.monotonic() - begun, usage.ru_maxrss / 1024, outcome
 
 
-def best(words, size):
+def best(program, words, size):
     """The quickest of some runs."""
-    return min(run(words, size) for _ in range(RUNS))
+    return min(run(program, words, size) for _ in range(RUNS))
 
 
-def main(benches):
+def main(benches, crate='xt_bench', example=('build', 'wide', '1')):
     """Runs the benches that the words of the command line name, or all. A bench is its name,
     the words of the program before the size, and the lesser size. Ends with status 1 where a
     ratio is over the greatest."""
@@ -52,15 +51,16 @@ def main(benches):
     unknown = [name for name in wanted if name not in known]
     if unknown:
         sys.exit(f'no bench {unknown[0]}; there are {", ".join(known)}')
-    if not is_current():
-        subprocess.run(['rt', 'run', '--', 'build', 'wide', '1'], cwd=CRATE, check=True)
+    program = CRATES / crate / 'out' / crate
+    if not is_current(program):
+        subprocess.run(['rt', 'run', '--', *example], cwd=CRATES / crate, check=True)
     print(f'{"bench":27} {"size":>6} {"seconds":>16} {"MiB":>13} {"a second":>9} {"ratio":>6}  outcome')
     is_fine = True
     for name, words, size in benches:
         if wanted and name not in wanted:
             continue
-        low, low_memory, _ = best(words, size)
-        high, high_memory, outcome = best(words, 2 * size)
+        low, low_memory, _ = best(program, words, size)
+        high, high_memory, outcome = best(program, words, 2 * size)
         ratio = high / low
         is_fine = is_fine and ratio <= GREATEST_RATIO
         print(f'{name:27} {size:6} {low:7.3f} {high:8.3f} {low_memory:6.0f} {high_memory:6.0f}'

@@ -1,1 +1,5 @@
+mod Escaped
+mod Names
+mod Openings
 mod Shapes
+mod Streams
