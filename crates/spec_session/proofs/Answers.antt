@@ -9,21 +9,22 @@ use Rattle.spec_session.specs.Command.{Command}
 use Rattle.spec_session.specs.Request.{Request, SetSource, SetModule, DropModule, Insert, Delete, SetText, SetAttribute, RemoveAttribute, Rename}
 use Rattle.spec_session.specs.Request.{SetParameter, Show, Write, Messages, Dump, Statistics, request_by, Words, is_text, is_taken, or_number, asked_by}
 use Rattle.spec_session.specs.Request.{words_of}
+use Rattle.spec_transform.specs.Documents.{Documents, with_source, with_module}
 use Rattle.spec_session.specs.Machine.{State, answer_of, answer_by, answer_to, kept_by, shows, document_named}
 use Rattle.spec_session.proofs.Steps.{IsOther}
 use Rattle.spec_session.proofs.FaultNumbers.{FaultIsAbove, fault-above}
 
-kept : (make : Document ℕ → State) (result : Result (Document ℕ) Fault) → FaultIsAbove result → IsOther (kept_by make result)
-kept make (Ok document) h = tt
-kept make (Err fault) h = h
+kept : (make : Plain → Documents → Documents) (old : State) (result : Result (Document ℕ) Fault) → FaultIsAbove result → IsOther (kept_by make old result)
+kept make old (Ok document) h = tt
+kept make old (Err fault) h = h
 
 shown : (o : Option Plain) → IsOther (shows o)
 shown None = lit< tt
 shown (Some tree) = tt
 
 to : (old : State) (request : Request) → IsOther (answer_to old request)
-to old (SetSource body) = kept _ _ (fault-above root_scope old.made body)
-to old (SetModule name body) = kept _ _ (fault-above root_scope old.made body)
+to old (SetSource body) = kept with_source old _ (fault-above root_scope old.made body)
+to old (SetModule name body) = kept (with_module name) old _ (fault-above root_scope old.made body)
 to old Show = tt
 to old (Dump document) = shown (document_named old document)
 to old (DropModule name) = lit< tt

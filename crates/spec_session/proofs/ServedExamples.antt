@@ -8,7 +8,8 @@ use Rattle.spec_lines.specs.Lines.{ended_lines}
 use Rattle.spec_session.specs.declared.kinds.Ending.TheVariants.{Finished, Quit, Unfinished}
 use Rattle.spec_session.specs.Command.{session_of, status_of}
 use Rattle.spec_session.specs.Reply.{Refused}
-use Rattle.spec_session.specs.Machine.{Failed, initial, no_main}
+use Rattle.spec_transform.specs.Documents.{Failed, no_main}
+use Rattle.spec_session.specs.Machine.{initial}
 use Rattle.spec_session.specs.Served.{AreReplies, IsServed, IsCutShort, Serves, asks_session}
 
 -- where the source goes on after the bytes that may be taken, the status is 5, but for a session that `quit` has ended

@@ -1,19 +1,17 @@
 -- Worked examples of the definitions. Each line is a fact whose two sides the check computes.
-use Rattle.std.specs.Prelude.{ℕ, ◌≡◌, refl, false, List, [], ◌∷◌, Option, None, Some, Result, Ok, Err, codes}
+use Rattle.std.specs.Prelude.{ℕ, ◌≡◌, refl, false, List, [], ◌∷◌, Option, None, Some, Result, Ok, Err, bytes_eq, codes, if◌then◌else◌}
 use Rattle.std.specs.Str.{chars, is_utf8}
 use Rattle.std.specs.Fmt.{digits}
 use lib.Utf8.{encode}
-use Rattle.spec_document.specs.Character.{is_name_start, is_name_part}
 use Rattle.spec_document.specs.Forest.{Plain, Empty, Node, Element, Text, Comment, lines_of}
 use Rattle.spec_session.specs.declared.kinds.Ending.TheVariants.{Finished, Quit, Unfinished}
 use Rattle.spec_session.specs.Command.{session_of, status_of}
 use Rattle.spec_session.specs.Request.{Request, SetSource, SetModule, SetText, SetAttribute, Rename, SetParameter, Dump, SourceName, ModuleName, words_of, asked_by, request_of, path_of}
-use Rattle.spec_session.specs.Language.{attribute, stylesheet_attributes, template_attributes, stylesheet_of}
+use Rattle.spec_transform.specs.Documents.{Documents, Failed, IsOutcome, no_documents, no_main, no_source}
 use Rattle.spec_expression.specs.declared.code.Code.TheVariants.{Static, Dynamic}
 use Rattle.spec_expression.specs.declared.code.StaticCode.TheVariants.{NotYet}
 use Rattle.spec_expression.specs.declared.code.DynCode.TheVariants.{TooDeep}
 use Rattle.spec_session.specs.Reply.{OkRefused, Refused, Shown, No, reply_bytes}
-use Rattle.spec_session.specs.Machine.{Failed, no_main, no_source, outcome_by}
 
 -- a body goes up to a line `.`; empty lines between commands are skipped; `quit` ends the session
 pub commands_with_bodies : session_of (codes "source x" ∷ codes "(a" ∷ [] ∷ codes "." ∷ [] ∷ codes "show" ∷ codes "quit" ∷ codes "show" ∷ [])
@@ -106,31 +104,19 @@ bad_paths = refl
 abbrev leaf : List ℕ → List ℕ → Plain
 leaf name text = Node tt (Element name []) (Node tt (Text text) Empty Empty) Empty
 
-abbrev main_of : List ℕ → List ℕ → Plain
-main_of output select =
-    let value : Plain = Node tt (Element (codes "xsl:value-of") (attribute (codes "select") select ∷ [])) Empty Empty in
-    let literal : Plain = Node tt (Text (codes "\n ")) Empty (Node tt (Element output []) value Empty) in
-    let template : Plain = Node tt (Comment []) Empty (Node tt (Element (codes "xsl:template") template_attributes) literal Empty) in
-    Node tt (Comment []) Empty (Node tt (Element (codes "xsl:stylesheet") stylesheet_attributes) template Empty)
+abbrev holding : Option Plain → Option Plain → Documents
+holding main source = record { source = source; modules = λ name. if bytes_eq name (codes "main") then main else None }
 
-pub main_is_taken : stylesheet_of (main_of (codes "out") (codes "a")) ≡ Some (record { output = codes "out"; select = codes "a" })
-unfolding is_name_start is_name_part
-main_is_taken = refl
-
-pub path_is_not_taken : stylesheet_of (main_of (codes "out") (codes "a/b")) ≡ None
-unfolding is_name_start is_name_part
-path_is_not_taken = refl
-
-pub without_main : outcome_by None None ≡ Failed no_main
+pub without_main : IsOutcome no_documents (Failed no_main)
 without_main = refl
 
-pub without_source : outcome_by (Some (leaf (codes "a") [])) None ≡ Failed no_source
+pub without_source : IsOutcome (holding (Some (leaf (codes "a") [])) None) (Failed no_source)
 without_source = refl
 
-pub other_main : outcome_by (Some (Node tt (Comment []) Empty (leaf (codes "a") (codes "b")))) (Some (leaf (codes "a") (codes "b")))
-    ≡ Failed (record { code = Static NotYet; place = Some (record { name = codes "main"; positions = 2 ∷ [] }) })
-unfolding is_name_start is_name_part
-other_main = refl
+-- a module that is no stylesheet: there is nothing behind a comment
+pub other_main : IsOutcome (holding (Some (Node tt (Comment []) Empty Empty)) (Some (leaf (codes "a") (codes "b"))))
+    (Failed (record { code = Static NotYet; place = record { module_name = Some (codes "main"); path = 2 ∷ [] } }))
+other_main = (_, (_, refl, refl), refl)
 
 -- ---- Replies
 
@@ -142,7 +128,7 @@ pub refused_change : reply_bytes (OkRefused no_main) ≡ codes "ok refused S01 -
 unfolding encode digits
 refused_change = refl
 
-pub refused_result : reply_bytes (Refused (record { code = Dynamic TooDeep; place = Some (record { name = codes "main"; positions = 1 ∷ 20 ∷ [] }) })) ≡ codes "refused D11 main/1/20\n"
+pub refused_result : reply_bytes (Refused (record { code = Dynamic TooDeep; place = record { module_name = Some (codes "main"); path = 1 ∷ 20 ∷ [] } })) ≡ codes "refused D11 main/1/20\n"
 unfolding encode digits
 refused_result = refl
 

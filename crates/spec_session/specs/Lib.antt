@@ -1,6 +1,5 @@
 pub mod Command
 pub mod Request
-pub mod Language
 pub mod Reply
 pub mod Machine
 pub mod Served

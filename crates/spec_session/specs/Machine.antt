@@ -1,63 +1,26 @@
 -- The session machine. Its state is plain documents; a step relates state, command, reply and new state.
-use Rattle.std.specs.Prelude.{ℕ, ◌≡◌, ◌+◌, ◌⊎◌, List, [], ◌∷◌, Option, None, Some, Result, Ok, Err, bytes_eq, codes, if◌then◌else◌}
+use Rattle.std.specs.Prelude.{ℕ, ◌≡◌, ◌+◌, ◌⊎◌, List, [], ◌∷◌, Option, None, Some, Result, Ok, Err}
 use Rattle.spec_document.specs.Scope.{root_scope}
 use Rattle.spec_document.specs.Forest.{Plain, Document, plain, size, lines_of}
 use Rattle.spec_document.specs.Fault.{Fault}
 use Rattle.spec_document.specs.Document.{document_of}
 use Rattle.spec_session.specs.Command.{Command}
 use Rattle.spec_session.specs.Request.{DocumentName, SourceName, ModuleName, Request, SetSource, SetModule, DropModule, Insert, Delete, SetText, SetAttribute, RemoveAttribute, Rename, SetParameter, Show, Write, Messages, Dump, Statistics, request_of}
-use Rattle.spec_session.specs.Language.{stylesheet_of, document_element_from, result_of}
-use Rattle.spec_expression.specs.declared.code.Code.TheVariants.{Static}
-use Rattle.spec_expression.specs.declared.code.StaticCode.TheVariants.{NoMain, NoSource, NotYet}
-use Rattle.spec_session.specs.Reply.{Refusal, Reply, OkDone, OkRefused, Refused, Shown, No}
+use Rattle.spec_transform.specs.Documents.{Documents, no_documents, with_source, with_module, Outcome, Done, Failed, IsOutcome}
+use Rattle.spec_session.specs.Reply.{Reply, OkDone, OkRefused, Refused, Shown, No}
 
--- the module of each name
-abbrev pub Modules : Type 0
-Modules = List ℕ → Option Plain
-
--- what is held
+-- what is held: the documents, and how many nodes the commands accepted so far have made, so that the next one has this number
 pub record State : Type 0 where
-  pub source : Option Plain
-  pub modules : Modules
-  -- how many nodes the commands accepted so far have made: the next one has this number
+  pub documents : Documents
   pub made : ℕ
 
 -- at the start nothing is held
 abbrev pub initial : State
-initial = record { source = None; modules = λ name. None; made = 0 }
+initial = record { documents = no_documents; made = 0 }
 
 abbrev pub document_named : State → DocumentName → Option Plain
-document_named state SourceName = state.source
-document_named state (ModuleName name) = state.modules name
-
--- ---- What the transformation of the documents gives: its result, or why there is none
-
-pub data Outcome : Type 0 where
-  Done : (result : Plain) → Outcome
-  Failed : (why : Refusal) → Outcome
-
-abbrev pub main_name : List ℕ
-main_name = codes "main"
-
--- S01: there is no module `main`; S02: there is no source
-abbrev pub no_main : Refusal
-no_main = record { code = Static NoMain; place = None }
-
-abbrev pub no_source : Refusal
-no_source = record { code = Static NoSource; place = None }
-
--- S90, at its document element: `main` is none of the stylesheets that are taken
-abbrev pub not_taken : Plain → Refusal
-not_taken main = record { code = Static NotYet; place = Some (record { name = main_name; positions = document_element_from 1 main ∷ [] }) }
-
-abbrev pub outcome_by : Option Plain → Option Plain → Outcome
-outcome_by None source = Failed no_main
-outcome_by (Some main) None = Failed no_source
-outcome_by (Some main) (Some source) =
-    elim (stylesheet_of main) [ None ↦ Failed (not_taken main) | Some stylesheet ↦ Done (result_of stylesheet source) ]
-
-abbrev pub IsOutcome : State → Outcome → Type 0
-IsOutcome state outcome = outcome ≡ outcome_by (state.modules main_name) state.source
+document_named state SourceName = state.documents.source
+document_named state (ModuleName name) = state.documents.modules name
 
 -- ---- What a command comes to in a state
 
@@ -71,29 +34,23 @@ pub data Answer : Type 0 where
   -- a document is shown
   ShowsDocument : (tree : Plain) → Answer
 
--- a new source, a new module of this name, whose nodes were made
-abbrev pub with_source : State → Document ℕ → State
-with_source old document = record { source = Some (plain document.nodes); modules = old.modules; made = old.made + 1 + size document.nodes }
-
-abbrev pub with_module : List ℕ → State → Document ℕ → State
-with_module name old document = record {
-  source = old.source;
-  modules = λ other. if bytes_eq other name then Some (plain document.nodes) else old.modules other;
-  made = old.made + 1 + size document.nodes;
-}
+-- these documents are held once this one, whose nodes were made, has its place among them
+abbrev pub kept_in : (Plain → Documents → Documents) → State → Document ℕ → State
+kept_in with_document old document =
+    record { documents = with_document (plain document.nodes) old.documents; made = old.made + 1 + size document.nodes }
 
 -- the document of a body's lines is kept, or its least fault is the refusal
-abbrev pub kept_by : (Document ℕ → State) → Result (Document ℕ) Fault → Answer
-kept_by with_document (Err fault) = Refuses fault.number
-kept_by with_document (Ok document) = Changes (with_document document)
+abbrev pub kept_by : (Plain → Documents → Documents) → State → Result (Document ℕ) Fault → Answer
+kept_by with_document old (Err fault) = Refuses fault.number
+kept_by with_document old (Ok document) = Changes (kept_in with_document old document)
 
 abbrev pub shows : Option Plain → Answer
 shows None = Refuses 5
 shows (Some tree) = ShowsDocument tree
 
 abbrev pub answer_to : State → Request → Answer
-answer_to old (SetSource body) = kept_by (with_source old) (document_of root_scope old.made body)
-answer_to old (SetModule name body) = kept_by (with_module name old) (document_of root_scope old.made body)
+answer_to old (SetSource body) = kept_by with_source old (document_of root_scope old.made body)
+answer_to old (SetModule name body) = kept_by (with_module name) old (document_of root_scope old.made body)
 answer_to old Show = ShowsResult
 answer_to old (Dump document) = shows (document_named old document)
 -- whatever else a command may ask is not taken: its word is no command
@@ -130,8 +87,8 @@ result_reply (Failed why) = Refused why
 -- from old, with this answer, the machine gives this reply and goes on to new
 abbrev pub Gives : State → Answer → Reply → State → Type 0
 Gives old (Refuses number) reply new = (reply ≡ No number) × (new ≡ old)
-Gives old (Changes next) reply new = ((outcome : Outcome) × IsOutcome next outcome × (reply ≡ change_reply outcome)) × (new ≡ next)
-Gives old ShowsResult reply new = ((outcome : Outcome) × IsOutcome old outcome × (reply ≡ result_reply outcome)) × (new ≡ old)
+Gives old (Changes next) reply new = ((outcome : Outcome) × IsOutcome next.documents outcome × (reply ≡ change_reply outcome)) × (new ≡ next)
+Gives old ShowsResult reply new = ((outcome : Outcome) × IsOutcome old.documents outcome × (reply ≡ result_reply outcome)) × (new ≡ old)
 Gives old (ShowsDocument tree) reply new = (reply ≡ Shown (lines_of tree)) × (new ≡ old)
 
 -- Each command gets its answer. Want of memory, which changes nothing, may come in its place at any command

@@ -1,20 +1,11 @@
 -- Replies and their bytes.
-use Rattle.std.specs.Prelude.{ℕ, List, [], ◌∷◌, ◌++◌, codes, decimal, Option, None, Some}
+use Rattle.std.specs.Prelude.{ℕ, List, [], ◌∷◌, ◌++◌, codes, decimal, None, Some}
 use Rattle.std.specs.List.{flat_map}
 use Rattle.std.specs.Str.{encode_utf8_all}
 use Rattle.spec_document.specs.Pyx.{Line}
-use Rattle.spec_expression.specs.declared.code.Code.{Code}
 use Rattle.spec_expression.specs.Code.{code_text}
-
--- a node of a module, by the positions of raw children on the way from its root
-pub record ModulePlace : Type 0 where
-  pub name : List ℕ
-  pub positions : List ℕ
-
--- why the transformation is refused, and where, unless it is at no node
-pub record Refusal : Type 0 where
-  pub code : Code
-  pub place : Option ModulePlace
+use Rattle.spec_stylesheet.specs.Place.{Place}
+use Rattle.spec_transform.specs.Documents.{Refusal}
 
 pub data Reply : Type 0 where
   -- to an accepted change: the transformation has a result, or is refused
@@ -28,9 +19,11 @@ pub data Reply : Type 0 where
   No : (number : ℕ) → Reply
 
 -- a module and a path in it, as `main/1/2`, or `-`
-abbrev pub place_text : Option ModulePlace → List ℕ
-place_text None = codes "-"
-place_text (Some place) = place.name ++ flat_map (λ position. 0x2F ∷ decimal position) place.positions
+abbrev pub place_text : Place → List ℕ
+place_text place = elim place.module_name [
+  | None ↦ codes "-"
+  | Some name ↦ name ++ flat_map (λ position. 0x2F ∷ decimal position) place.path
+]
 
 abbrev pub refusal_text : Refusal → List ℕ
 refusal_text why = code_text why.code ++ 0x20 ∷ place_text why.place

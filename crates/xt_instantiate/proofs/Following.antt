@@ -8,9 +8,9 @@ use Rattle.spec_meaning.specs.Meaning.{meaning}
 use Rattle.spec_transform.specs.Content as plain
 use Rattle.spec_transform.specs.Content.{Content}
 use Rattle.spec_transform.specs.Outcome.{located, written_by}
-use Rattle.xt_sheet.specs.declared.content.Instruction.{Instruction}
-use Rattle.xt_sheet.specs.View as sheet
-use Rattle.xt_sheet.specs.View.{instruction_of}
+use Rattle.xt_one_template.specs.declared.content.Instruction.{Instruction}
+use Rattle.xt_one_template.specs.View as sheet
+use Rattle.xt_one_template.specs.View.{instruction_of}
 use Rattle.xt_tree.specs.declared.node_ref.NodeRef.{NodeRef}
 use Rattle.xt_tree.proofs.Streams.{followed-followed}
 use Rattle.xt_ask.specs.Runs.{Continues}

@@ -4,9 +4,9 @@ use Rattle.spec_meaning.specs.Stream as stream
 use Rattle.spec_transform.specs.Content as plain
 use Rattle.xp_syntax.specs.View.{expr_of}
 use Rattle.xp_syntax.specs.declared.expr.Expr.{Expr}
-use Rattle.xt_sheet.specs.declared.content.Content.{Content, the_lemmas}
-use Rattle.xt_sheet.specs.declared.content.Instruction.{Words, Literal, ValueOf}
-use Rattle.xt_sheet.specs.View.{all_followed, content_of, instruction_of}
+use Rattle.xt_one_template.specs.declared.content.Content.{Content, the_lemmas}
+use Rattle.xt_one_template.specs.declared.content.Instruction.{Words, Literal, ValueOf}
+use Rattle.xt_one_template.specs.View.{all_followed, content_of, instruction_of}
 use Rattle.xt_tree.specs.declared.items.Item as item
 use Rattle.xt_tree.specs.StreamView.{single_of}
 

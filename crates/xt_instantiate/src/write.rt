@@ -11,7 +11,7 @@ ghost use Rattle.xt_tree.specs.StreamView.{single_of, stream_of};
 ghost use Rattle.xt_tree.specs.declared.node_ref.NodeRef.{NodeRef};
 ghost use Rattle.xt_ask.specs.View.{context_of, refusal_of, supplies_of};
 ghost use Rattle.xt_ask.specs.Runs.{Runs, itself};
-ghost use Rattle.xt_sheet.specs.View.{content_of, instruction_of};
+ghost use Rattle.xt_one_template.specs.View.{content_of, instruction_of};
 
 use std::alloc::Global;
 use std::rc::Rc;
@@ -20,7 +20,7 @@ use xp_syntax::Expr;
 use xp_values::to_text;
 use xt_ask::{Context, EvalFault, Focus, Refusal, Supplies, World};
 use xt_base::Place;
-use xt_sheet::{Content, Instruction};
+use xt_one_template::{Content, Instruction};
 use xt_text::{Memory, Path, Text};
 use xt_tree::{Item, Items};
 

@@ -1,20 +1,22 @@
 -- The replies that the machine gives, by what the parts of an answer come to.
-use Rattle.std.proofs.Common.{◌≡◌, ℕ, Bool, cond, List, Option, None, Some, Ok, Err, bytes_eq, refl, sym, ◌∙◌, ap, subst, inl, inr}
-use Rattle.std.specs.Prelude.{Result, IfOk}
-use Rattle.std.proofs.lemmas.Bool.Decides.{same_from_decides}
-use Rattle.std.proofs.lemmas.Slice.Eq.{bytes_eq-Decides}
+use Rattle.std.proofs.Common.{◌≡◌, ℕ, List, Option, None, Some, Ok, Err, refl, sym, ◌∙◌, ap, subst, inl, inr}
+use Rattle.std.specs.Prelude.{Result, IfOk, OnErr}
 use Rattle.std.specs.Str.{encode_utf8_all}
 use Rattle.spec_document.specs.Fault.{Fault}
-use Rattle.spec_document.specs.Forest.{Plain, Document, plain, lines_of}
+use Rattle.spec_document.specs.Forest.{Plain, Document, lines_of}
+use Rattle.spec_transform.specs.Documents.{Documents, Outcome, IsOutcome}
 use Rattle.spec_session.specs.Command.{Command}
-use Rattle.spec_session.specs.Machine.{State, Changes, ShowsResult, ShowsDocument, Refuses, kept_by, outcome_by, main_name, change_reply}
-use Rattle.spec_session.specs.Machine.{with_module, shows, result_reply, answer_by, answer_to, Gives, Step}
+use Rattle.spec_session.specs.Machine.{State, Changes, ShowsResult, ShowsDocument, Refuses, kept_in, kept_by, change_reply}
+use Rattle.spec_session.specs.Machine.{shows, result_reply, answer_by, answer_to, Gives, Step}
 use Rattle.spec_session.specs.Request.{Request, request_of}
 use Rattle.spec_session.specs.Reply.{Reply, No, Shown, reply_text}
 use Rattle.xt_base.specs.Code.{edit_number}
 use Rattle.xt_wire.specs.View.{Reads, code_of_fault}
 use Rattle.xt_wire.specs.declared.fault.WireFault.{WireFault}
 use Rattle.xt_wire.specs.declared.fault.WireFault.TheVariants as variant
+use Rattle.xt_repair.specs.View.{IsKept}
+use Rattle.xt_repair.specs.declared.held.Held.{Held}
+use Rattle.xt_session.specs.State.{state_of}
 use Rattle.xt_session.specs.Turn.{GivesReply, GivesText}
 
 -- what holds of the value of an `Ok`
@@ -22,16 +24,23 @@ pub if_ok_map : {T E : Type 0} (P Q : T → Type 0) (r : Result T E) → ((x : T
 if_ok_map P Q (Ok x) f h = f x h
 if_ok_map P Q (Err e) f h = tt
 
--- the replies to an accepted change, to a request for the result, for a document, and to a refused command
-pub gives_changed : (old next new : State) (reply : Reply) (text : List ℕ) → new ≡ next
-    → reply ≡ change_reply (outcome_by (next.modules main_name) next.source) → text ≡ reply_text reply → GivesText old (Changes next) text new
-gives_changed old next new reply text same is e =
-    record { reply = reply; gives = ((outcome_by (next.modules main_name) next.source, refl, is), same); text_is = e }
+-- where nothing that is told of what is held has changed, the state is the same
+pub same_state : {old new : Held} → IsKept old new → state_of new ≡ state_of old
+same_state kept = λ i. record { documents = kept.documents i; made = kept.made i }
 
-pub gives_result : (old : State) (reply : Reply) (text : List ℕ)
-    → reply ≡ result_reply (outcome_by (old.modules main_name) old.source) → text ≡ reply_text reply → GivesText old ShowsResult text old
-gives_result old reply text is e =
-    record { reply = reply; gives = ((outcome_by (old.modules main_name) old.source, refl, is), refl); text_is = e }
+-- what holds at an `Err`, further back
+pub on_err_then : {T E S : Type 0} (r : Result T E) (first second third : S) → second ≡ first → OnErr r (third ≡ second) → OnErr r (third ≡ first)
+on_err_then (Ok x) first second third e h = tt
+on_err_then (Err x) first second third e h = h ∙ e
+
+-- the replies to an accepted change, to a request for the result, for a document, and to a refused command
+pub gives_changed : (old next new : State) (outcome : Outcome) (reply : Reply) (text : List ℕ) → new ≡ next → IsOutcome next.documents outcome
+    → reply ≡ change_reply outcome → text ≡ reply_text reply → GivesText old (Changes next) text new
+gives_changed old next new outcome reply text same stands is e = record { reply = reply; gives = ((outcome, stands, is), same); text_is = e }
+
+pub gives_result : (old : State) (outcome : Outcome) (reply : Reply) (text : List ℕ) → IsOutcome old.documents outcome
+    → reply ≡ result_reply outcome → text ≡ reply_text reply → GivesText old ShowsResult text old
+gives_result old outcome reply text stands is e = record { reply = reply; gives = ((outcome, stands, is), refl); text_is = e }
 
 pub gives_document : (old : State) (tree : Plain) (reply : Reply) (text : List ℕ)
     → reply ≡ Shown (lines_of tree) → text ≡ reply_text reply → GivesText old (ShowsDocument tree) text old
@@ -50,27 +59,19 @@ pub gives_held : (old : State) (held : Option Plain) (tree : Plain) (reply : Rep
 gives_held old held tree reply text some is e =
     subst (λ (o : Option Plain). GivesText old (shows o) text old) some (gives_document old tree reply text is e)
 
--- the module `main`, once this document is the module of this name
-bytes_eq-comm : (a b : List ℕ) → bytes_eq a b ≡ bytes_eq b a
-bytes_eq-comm a b =
-    let there = bytes_eq-Decides a b in
-    let back = bytes_eq-Decides b a in
-    same_from_decides (bytes_eq a b) (bytes_eq b a) there (λ h. sym (back.0 h), λ e. back.1 (sym e))
+-- of a body: the document that was built is kept, after what changed nothing, or its fault is the refusal
+pub gives_built : (make : Plain → Documents → Documents) (built : Result (Document ℕ) Fault) (first : State) (document : Document ℕ)
+    {old next new : State} {text : List ℕ} → old ≡ first → built ≡ Ok document → GivesText old (Changes next) text new
+    → next ≡ kept_in make old document → GivesText first (kept_by make first built) text new
+gives_built make built first document {old = old} {next = next} {new = new} {text = text} same e gives is =
+    let kept : GivesText old (Changes (kept_in make old document)) text new = subst (λ (s : State). GivesText old (Changes s) text new) is gives in
+    subst (λ (s : State). GivesText s (kept_by make s built) text new) same
+    (subst (λ (r : Result (Document ℕ) Fault). GivesText old (kept_by make old r) text new) (sym e) kept)
 
-pub main_chosen : (old : State) (name : List ℕ) (document : Document ℕ) (is_main : Bool) → bytes_eq name main_name ≡ is_main
-    → (with_module name old document).modules main_name ≡ cond is_main (Some (plain document.nodes)) (old.modules main_name)
-main_chosen old name document is_main e =
-    ap (λ (b : Bool). cond b (Some (plain document.nodes)) (old.modules main_name)) (bytes_eq-comm main_name name ∙ e)
-
--- of a body: the document that was built is kept, or its fault is the refusal
-pub gives_built : (old new : State) (make : Document ℕ → State) (built : Result (Document ℕ) Fault) (document : Document ℕ) (text : List ℕ)
-    → built ≡ Ok document → GivesText old (Changes (make document)) text new → GivesText old (kept_by make built) text new
-gives_built old new make built document text e gives = subst (λ (r : Result (Document ℕ) Fault). GivesText old (kept_by make r) text new) (sym e) gives
-
-pub gives_fault : (old : State) (make : Document ℕ → State) (built : Result (Document ℕ) Fault) (fault : Fault) (text : List ℕ)
-    → built ≡ Err fault → text ≡ reply_text (No fault.number) → GivesText old (kept_by make built) text old
+pub gives_fault : (old : State) (make : Plain → Documents → Documents) (built : Result (Document ℕ) Fault) (fault : Fault) (text : List ℕ)
+    → built ≡ Err fault → text ≡ reply_text (No fault.number) → GivesText old (kept_by make old built) text old
 gives_fault old make built fault text e is =
-    subst (λ (r : Result (Document ℕ) Fault). GivesText old (kept_by make r) text old) (sym e) (gives_refusal old fault.number text is)
+    subst (λ (r : Result (Document ℕ) Fault). GivesText old (kept_by make old r) text old) (sym e) (gives_refusal old fault.number text is)
 
 -- a command, by its line and the lines of its body
 pub command_is : (command : Command) (line : List ℕ) (body : List (List ℕ)) → line ≡ command.line → body ≡ command.body

@@ -5,7 +5,4 @@ pub mod Meeting
 pub mod Serving
 pub mod Turning
 pub mod Commands
-pub mod Keys
-pub mod Labels
-pub mod Words
 pub mod Answering

@@ -1,4 +1,3 @@
-pub mod Documents
-pub mod Taken
+pub mod State
 pub mod Progress
 pub mod Turn

@@ -1,159 +1,177 @@
 // Answers one command.
-ghost use Rattle.std.specs.Prelude.{◌≡◌, ◌+◌, IfOk, OnErr};
+ghost use Rattle.std.specs.Prelude.{◌≡◌, IfOk, OnErr};
 ghost use Rattle.std.specs.Str.{encode_utf8_all};
 ghost use Rattle.spec_document.specs.Document.{document_of};
-ghost use Rattle.spec_document.specs.Forest.{size};
+ghost use Rattle.spec_document.specs.Forest.{lines_of};
 ghost use Rattle.spec_document.specs.Scope.{root_scope};
-ghost use Rattle.spec_session.specs.Machine.{answer_to, kept_by, shows, document_named, main_name, with_source, with_module, Changes, ShowsResult};
+ghost use Rattle.spec_transform.specs.Documents.{with_module, with_source};
+ghost use Rattle.spec_session.specs.Machine as machine;
+ghost use Rattle.spec_session.specs.Machine.{answer_to, kept_by, shows, document_named, Changes, ShowsResult};
+ghost use Rattle.spec_session.specs.Reply as written;
 ghost use Rattle.spec_session.specs.Reply.{reply_text};
-ghost use Rattle.xt_build.specs.View.{Builds, document_in};
-ghost use Rattle.xt_wire.specs.View.{asked_of, name_of, reply_of};
-ghost use Rattle.xt_session.specs.Documents.{plain_in, state_of};
+ghost use Rattle.xt_repair.specs.OutcomeView.{outcome_of, plain_in, plain_of};
+ghost use Rattle.xt_repair.specs.View.{IsCurrent, IsMadeFrom, documents_of, outcome_in, next_documents, next_made};
+ghost use Rattle.xt_wire.specs.View.{asked_of, name_of, place_of, refusal_of, reply_of};
+ghost use Rattle.xt_session.specs.State.{state_of};
 ghost use Rattle.xt_session.specs.Turn.{GivesReply, GivesText};
 
 use crate::command::Command;
-use crate::documents::Documents;
-use crate::language::{change_reply, dump_reply, result_reply};
 use std::alloc::Global;
-use xt_base::EditCode;
-use xt_build::{BuildFault, Built, build};
+use xt_base::{Code, EditCode, Place};
+use xt_build::lines;
 use xt_io::Line;
-use xt_names::Scope;
+use xt_repair::{DocName, EditFault, Held, Outcome, Ready};
+use xt_result::lines_of;
 use xt_text::{Memory, Text};
 use xt_tree::Doc;
-use xt_wire::{DocumentName, Reply, reply};
+use xt_wire::{DocumentName, Refusal, Reply, reply};
 
-// The name of the principal module.
-const MAIN: &str = "main";
-
-/// The text of the reply to a command, whose change, if any, is made. After want of memory the
-/// documents are as before.
-pub(crate) fn answer(
-    alloc: Global,
-    documents: &mut Documents,
-    command: Command,
-) -> Result<Text, Memory>
-    ensures ok { IfOk result (λ text. GivesReply (state_of documents.old) command (encode_utf8_all text) (state_of documents.new)) }
-    ensures err { OnErr result (state_of documents.new ≡ state_of documents.old) }
+/// The text of the reply to a command, whose change, if any, is made. After want of memory all is as before.
+pub(crate) fn answer(alloc: Global, held: &mut Held, command: Command) -> Result<Text, Memory>
+    requires { IsCurrent held.old }
+    ensures ok { IfOk result (λ text. GivesReply (state_of held.old) command (encode_utf8_all text) (state_of held.new)) }
+    ensures err { OnErr result (state_of held.new ≡ state_of held.old) }
+    ensures current { IsCurrent held.new }
 {
     let (line, body) = command.into_parts();
     match xt_wire::Command::read(alloc, line.as_bytes(), body) {
-        Ok(asked) => carry_out(alloc, documents, asked),
+        Ok(asked) => carry_out(alloc, held, asked),
         Err(fault) => text_of(alloc, Reply::No(fault.code())),
     }
 }
 
 // Does what is asked.
-fn carry_out(
-    alloc: Global,
-    documents: &mut Documents,
-    asked: xt_wire::Command,
-) -> Result<Text, Memory>
-    ensures ok { IfOk result (λ text. GivesText (state_of documents.old) (answer_to (state_of documents.old) (asked_of asked)) text (state_of documents.new)) }
-    ensures err { OnErr result (state_of documents.new ≡ state_of documents.old) }
+fn carry_out(alloc: Global, held: &mut Held, asked: xt_wire::Command) -> Result<Text, Memory>
+    requires { IsCurrent held.old }
+    ensures ok { IfOk result (λ text. GivesText (state_of held.old) (answer_to (state_of held.old) (asked_of asked)) text (state_of held.new)) }
+    ensures err { OnErr result (state_of held.new ≡ state_of held.old) }
+    ensures current { IsCurrent held.new }
 {
     match asked {
-        xt_wire::Command::SetSource(body) => set_source(alloc, documents, body.as_slice()),
-        xt_wire::Command::SetModule(name, body) => {
-            set_module(alloc, documents, &name, body.as_slice())
-        }
-        xt_wire::Command::Show => show(alloc, documents),
-        xt_wire::Command::Dump(name) => dump(alloc, documents, &name),
+        xt_wire::Command::SetSource(body) => set_source(alloc, held, body.as_slice()),
+        xt_wire::Command::SetModule(name, body) => set_module(alloc, held, &name, body.as_slice()),
+        xt_wire::Command::Show => show(alloc, held),
+        xt_wire::Command::Dump(name) => dump(alloc, held, &name),
     }
 }
 
 // Makes the document of the lines the source, unless they have a fault.
-fn set_source(alloc: Global, documents: &mut Documents, body: &[Line]) -> Result<Text, Memory>
-    ensures ok { IfOk result (λ text. GivesText (state_of documents.old) (kept_by (with_source (state_of documents.old)) (document_of root_scope (state_of documents.old).made body.now)) text (state_of documents.new)) }
-    ensures err { OnErr result (state_of documents.new ≡ state_of documents.old) }
+fn set_source(alloc: Global, held: &mut Held, body: &[Line]) -> Result<Text, Memory>
+    requires { IsCurrent held.old }
+    ensures ok { IfOk result (λ text. GivesText (state_of held.old) (kept_by with_source (state_of held.old) (document_of root_scope (state_of held.old).made body.now)) text (state_of held.new)) }
+    ensures err { OnErr result (state_of held.new ≡ state_of held.old) }
+    ensures current { IsCurrent held.new }
 {
-    match built(alloc, documents, body) {
-        Ok(built) => keep_source(alloc, documents, built),
-        Err(BuildFault::Refused(fault)) => text_of(alloc, Reply::No(fault.code)),
-        Err(BuildFault::Memory) => Err(Memory),
+    match held.set_source(alloc, body) {
+        Ok(ready) => adopt(alloc, held, ready),
+        Err(EditFault::Refused { code, .. }) => text_of(alloc, Reply::No(code)),
+        Err(EditFault::Memory) => Err(Memory),
     }
-}
-
-fn keep_source(alloc: Global, documents: &mut Documents, built: Built) -> Result<Text, Memory>
-    requires { built.next.number ≡ (state_of documents.old).made + 1 + size built.document.nodes }
-    ensures ok { IfOk result (λ text. GivesText (state_of documents.old) (Changes (with_source (state_of documents.old) built.document)) text (state_of documents.new)) }
-    ensures err { OnErr result (state_of documents.new ≡ state_of documents.old) }
-{
-    let main = documents.module(MAIN);
-    let text = text_of(alloc, change_reply(alloc, main, Some(&built.document))?)?;
-    documents.set_source(built);
-    Ok(text)
 }
 
 // Makes the document of the lines the module of this name, unless they have a fault.
-fn set_module(
-    alloc: Global,
-    documents: &mut Documents,
-    name: &Text,
-    body: &[Line],
-) -> Result<Text, Memory>
-    ensures ok { IfOk result (λ text. GivesText (state_of documents.old) (kept_by (with_module name.now (state_of documents.old)) (document_of root_scope (state_of documents.old).made body.now)) text (state_of documents.new)) }
-    ensures err { OnErr result (state_of documents.new ≡ state_of documents.old) }
+fn set_module(alloc: Global, held: &mut Held, name: &Text, body: &[Line]) -> Result<Text, Memory>
+    requires { IsCurrent held.old }
+    ensures ok { IfOk result (λ text. GivesText (state_of held.old) (kept_by (with_module name.now) (state_of held.old) (document_of root_scope (state_of held.old).made body.now)) text (state_of held.new)) }
+    ensures err { OnErr result (state_of held.new ≡ state_of held.old) }
+    ensures current { IsCurrent held.new }
 {
-    match built(alloc, documents, body) {
-        Ok(built) => keep_module(alloc, documents, name, built),
-        Err(BuildFault::Refused(fault)) => text_of(alloc, Reply::No(fault.code)),
-        Err(BuildFault::Memory) => Err(Memory),
+    match held.set_module(alloc, name, body) {
+        Ok(ready) => adopt(alloc, held, ready),
+        Err(EditFault::Refused { code, .. }) => text_of(alloc, Reply::No(code)),
+        Err(EditFault::Memory) => Err(Memory),
     }
 }
 
-fn keep_module(
-    alloc: Global,
-    documents: &mut Documents,
-    name: &Text,
-    built: Built,
-) -> Result<Text, Memory>
-    requires { built.next.number ≡ (state_of documents.old).made + 1 + size built.document.nodes }
-    ensures ok { IfOk result (λ text. GivesText (state_of documents.old) (Changes (with_module name.now (state_of documents.old) built.document)) text (state_of documents.new)) }
-    ensures err { OnErr result (state_of documents.new ≡ state_of documents.old) }
+// Adopts what is ready, once the text of the reply is made.
+fn adopt(alloc: Global, held: &mut Held, ready: Ready) -> Result<Text, Memory>
+    requires made_from { IsMadeFrom held.old ready }
+    requires current { IsCurrent held.old }
+    ensures ok { IfOk result (λ text. GivesText (state_of held.old) (Changes (record { documents = next_documents ready held.old; made = next_made ready })) text (state_of held.new)) }
+    ensures err { OnErr result (state_of held.new ≡ state_of held.old) }
+    ensures current { IsCurrent held.new }
 {
-    let main = main_with(documents, name, &built.document);
-    let text = text_of(alloc, change_reply(alloc, main, documents.source())?)?;
-    documents.set_module(alloc, name, built)?;
+    let reply = change_reply(alloc, ready.outcome())?;
+    let text = text_of(alloc, reply)?;
+    held.adopt(ready);
     Ok(text)
 }
 
-// The module `main`, once this document is the module of this name.
-fn main_with<'a>(documents: &'a Documents, name: &Text, document: &'a Doc) -> Option<&'a Doc>
-    ensures { plain_in result ≡ (with_module name.now (state_of documents.now) document.now).modules main_name }
-{
-    if name.is(MAIN) {
-        Some(document)
-    } else {
-        documents.module(MAIN)
-    }
-}
-
 // Shows the result, or why there is none.
-fn show(alloc: Global, documents: &Documents) -> Result<Text, Memory>
-    ensures { IfOk result (λ text. GivesText (state_of documents.now) ShowsResult text (state_of documents.now)) }
+fn show(alloc: Global, held: &Held) -> Result<Text, Memory>
+    requires { IsCurrent held.now }
+    ensures { IfOk result (λ text. GivesText (state_of held.now) ShowsResult text (state_of held.now)) }
 {
-    let main = documents.module(MAIN);
-    text_of(alloc, result_reply(alloc, main, documents.source())?)
+    let reply = result_reply(alloc, held.outcome())?;
+    text_of(alloc, reply)
 }
 
 // Shows the document of this name, where it is held.
-fn dump(alloc: Global, documents: &Documents, name: &DocumentName) -> Result<Text, Memory>
-    ensures { IfOk result (λ text. GivesText (state_of documents.now) (shows (document_named (state_of documents.now) (name_of name.now))) text (state_of documents.now)) }
+fn dump(alloc: Global, held: &Held, name: &DocumentName) -> Result<Text, Memory>
+    ensures { IfOk result (λ text. GivesText (state_of held.now) (shows (document_named (state_of held.now) (name_of name.now))) text (state_of held.now)) }
 {
-    match documents.document(name) {
+    match document(held, name) {
         Some(document) => text_of(alloc, dump_reply(alloc, document)?),
         None => text_of(alloc, Reply::No(EditCode::NoDocument)),
     }
 }
 
-// The document of the lines of a body, numbered after all nodes so far, or the least of its faults.
-fn built(alloc: Global, documents: &Documents, body: &[Line]) -> Result<Built, BuildFault>
-    ensures answer { Builds document_in result (document_of root_scope (state_of documents.now).made body.now) }
-    ensures next { IfOk result (λ built. built.next.number ≡ (state_of documents.now).made + 1 + size built.document.nodes) }
+// The document that a command names.
+fn document<'a>(held: &'a Held, name: &DocumentName) -> Option<&'a Doc>
+    ensures { plain_in result ≡ document_named (state_of held.now) (name_of name.now) }
 {
-    let scope = Scope::root(alloc)?;
-    build(alloc, body, &scope, documents.next())
+    match name {
+        DocumentName::Source => held.document(DocName::Source),
+        DocumentName::Module(name) => held.document(DocName::Module(name)),
+    }
+}
+
+// The reply to an accepted change, after which the transformation comes to this.
+fn change_reply(alloc: Global, outcome: &Outcome) -> Result<Reply, Memory>
+    ensures { IfOk result (λ reply. reply_of reply ≡ machine.change_reply (outcome_of outcome.now)) }
+{
+    match outcome {
+        Outcome::Done { .. } => Ok(Reply::OkDone),
+        Outcome::Refused { code, place } => Ok(Reply::OkRefused(refusal(alloc, *code, place)?)),
+    }
+}
+
+// The reply to a request for the result, where the transformation comes to this.
+fn result_reply(alloc: Global, outcome: &Outcome) -> Result<Reply, Memory>
+    ensures { IfOk result (λ reply. reply_of reply ≡ machine.result_reply (outcome_of outcome.now)) }
+{
+    match outcome {
+        Outcome::Done { items } => Ok(Reply::Shown(lines_of(alloc, items)?)),
+        Outcome::Refused { code, place } => Ok(Reply::Refused(refusal(alloc, *code, place)?)),
+    }
+}
+
+// The reply to a request for this document: its lines.
+fn dump_reply(alloc: Global, document: &Doc) -> Result<Reply, Memory>
+    ensures { IfOk result (λ reply. reply_of reply ≡ written.Shown (lines_of (plain_of document.now))) }
+{
+    Ok(Reply::Shown(lines(alloc, document)?))
+}
+
+// A refusal of this code at this place.
+fn refusal(alloc: Global, code: Code, place: &Place) -> Result<Refusal, Memory>
+    ensures { IfOk result (λ why. refusal_of why ≡ record { code = code; place = place_of place.now }) }
+{
+    let place = copy_place(alloc, place)?;
+    Ok(Refusal { code, place })
+}
+
+fn copy_place(alloc: Global, place: &Place) -> Result<Place, Memory>
+    ensures { IfOk result (λ copy. copy ≡ place.now) }
+{
+    let path = place.path.copy(alloc)?;
+    match &place.module {
+        None => Ok(Place { module: None, path }),
+        Some(module) => Ok(Place {
+            module: Some(module.copy(alloc)?),
+            path,
+        }),
+    }
 }
 
 // The text of a reply.

@@ -13,8 +13,6 @@
 
 mod answer;
 mod command;
-mod documents;
-mod language;
 mod meet;
 mod program;
 mod session;

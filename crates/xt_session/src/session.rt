@@ -3,14 +3,15 @@ ghost use Rattle.std.specs.Prelude.{◌≡◌, ◌≢◌};
 ghost use Rattle.spec_lines.specs.Outside.{Appends, HasRisen};
 ghost use Rattle.spec_session.specs.Served.{Serves};
 ghost use Rattle.xt_session.specs.Turn.{Turns, Writes, HasInputCause, HasOutputCause};
-ghost use Rattle.xt_session.specs.Documents.{state_of};
+ghost use Rattle.xt_repair.specs.View.{IsCurrent};
+ghost use Rattle.xt_session.specs.State.{state_of};
 
 use crate::answer::answer;
 use crate::command::Taken;
-use crate::documents::Documents;
 use crate::take::take_command;
 use std::alloc::Global;
 use xt_io::{Lines, Sink, Source, write_all};
+use xt_repair::Held;
 
 /// The bytes of the reply for want of memory.
 const NO_MEMORY: &[u8] = b"no 1\n";
@@ -43,9 +44,9 @@ pub fn serve<I: Source, O: Sink>(alloc: Global, input: &mut I, output: &mut O, l
     let Ok(mut lines) = Lines::new(alloc, limit) else {
         return 3;
     };
-    let mut documents = Documents::new(alloc);
+    let mut held = Held::new(alloc);
     loop {
-        match take_turn(alloc, &mut lines, &mut documents, input, output) {
+        match take_turn(alloc, &mut lines, &mut held, input, output) {
             Turn::Answered => {}
             Turn::Stopped(status) => return status,
             Turn::ReadFailed => return 1,
@@ -71,16 +72,18 @@ pub(crate) enum Turn {
 fn take_turn<I: Source, O: Sink>(
     alloc: Global,
     lines: &mut Lines,
-    documents: &mut Documents,
+    held: &mut Held,
     input: &mut I,
     output: &mut O,
 ) -> Turn
-    ensures turns { Turns lines.old (I.remaining input.old) (state_of documents.old) (O.written output.old) result lines.new (I.remaining input.new) (state_of documents.new) (O.written output.new) }
+    requires { IsCurrent held.old }
+    ensures turns { Turns lines.old (I.remaining input.old) (state_of held.old) (O.written output.old) result lines.new (I.remaining input.new) (state_of held.new) (O.written output.new) }
+    ensures current { IsCurrent held.new }
     ensures input_cause { HasInputCause (I.faults input.old) (I.faults input.new) result }
     ensures output_cause { HasOutputCause (O.faults output.old) (O.faults output.new) result }
 {
     match take_command(alloc, lines, input) {
-        Taken::Command(command) => match answer(alloc, documents, command) {
+        Taken::Command(command) => match answer(alloc, held, command) {
             Ok(text) => write_reply(text.as_str().as_bytes(), output),
             Err(_) => write_reply(NO_MEMORY, output),
         },

@@ -7,7 +7,8 @@ use Rattle.std.specs.Str.{chars}
 use Rattle.std.proofs.lemmas.List.{drop_all}
 use Rattle.std.proofs.lemmas.List.Concat.{flat_map-append}
 use Rattle.std.proofs.lemmas.Result.{IfOk-weaker}
-use Rattle.spec_session.specs.Reply.{Refusal, refusal_text, with_newline}
+use Rattle.spec_transform.specs.Documents.{Refusal}
+use Rattle.spec_session.specs.Reply.{refusal_text, with_newline}
 use Rattle.xt_text.specs.declared.text.Text.{Text}
 use Rattle.xt_text.specs.declared.memory.Memory.{Memory}
 use Rattle.xt_wire.proofs.Texts.{ascii_chars}

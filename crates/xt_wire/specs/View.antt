@@ -2,6 +2,8 @@
 use Rattle.std.specs.Prelude.{ℕ, ◌≡◌, List, Option, Result, Ok, Err}
 use Rattle.std.specs.Option.{option_map}
 use Rattle.std.specs.Str.{chars}
+use Rattle.spec_stylesheet.specs.Place as stylesheet
+use Rattle.spec_transform.specs.Documents as outcome
 use Rattle.spec_session.specs.Request as spec
 use Rattle.spec_session.specs.Request.{Request, or_number}
 use Rattle.spec_session.specs.Reply as written
@@ -66,11 +68,10 @@ code_of_fault variant.BadArguments = edit.BadArguments
 
 -- ---- Replies
 
--- a place is a node's exactly where it has a module
-abbrev pub place_of : Place → Option written.ModulePlace
-place_of place = option_map (λ name. record { name = name; positions = place.path }) place.module
+abbrev pub place_of : Place → stylesheet.Place
+place_of place = record { module_name = place.«module»; path = place.path }
 
-abbrev pub refusal_of : Refusal → written.Refusal
+abbrev pub refusal_of : Refusal → outcome.Refusal
 refusal_of why = record { code = why.code; place = place_of why.place }
 
 abbrev pub reply_of : Reply → written.Reply

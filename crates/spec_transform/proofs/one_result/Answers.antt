@@ -1,4 +1,4 @@
-use Rattle.std.proofs.Common.{◌≡◌, ap, sym, ◌∙◌}
+use Rattle.std.proofs.Common.{ap, sym, ◌∙◌}
 use Rattle.spec_transform.specs.Content.{stylesheet_of}
 use Rattle.spec_transform.specs.Outcome.{result_of}
 use Rattle.spec_transform.proofs.Readings.{one_value}

@@ -5,4 +5,5 @@ use Rattle.spec_session.proofs.Answers.{is_other}
 use Rattle.spec_session.proofs.laws.each_command_has_a_step.Goals as goal
 
 pub returns : goal.returns
-returns c = λ old command. let g = gives old (answer_of old command) (is_other old command) in (g.0, g.1, inl g.2, g.3)
+returns c = λ old command none.
+    gives c.no_want_of_outcome.ensures old (answer_of old command) (is_other old command) (λ g. none (g.0, g.1, inl g.2, g.3))

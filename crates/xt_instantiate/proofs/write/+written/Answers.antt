@@ -5,7 +5,7 @@ use Rattle.xt_tree.specs.StreamView.{stream_of}
 use Rattle.xt_tree.proofs.Streams.{followed-Ended}
 use Rattle.xt_ask.specs.View.{context_of}
 use Rattle.xt_ask.proofs.Steps.{runs_then, runs_stop, runs_gives, runs_memory, runs_from, goes_on, last_turn, exits}
-use Rattle.xt_sheet.specs.View.{all_followed, instruction_of}
+use Rattle.xt_one_template.specs.View.{all_followed, instruction_of}
 use Rattle.xp_functions.proofs.Within.{continues_as, runs_as}
 use Rattle.xt_instantiate.proofs.Following.{After, given_then, next_instruction, starts}
 use Rattle.xt_instantiate.proofs.Views.{view-Content, view-Words, view-Literal, view-ValueOf, view-Text}

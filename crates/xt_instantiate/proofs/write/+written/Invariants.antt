@@ -2,7 +2,7 @@ use Rattle.std.proofs.Common.{◌≡◌, drop, map}
 use Rattle.spec_meaning.specs.Supplies.{at_hand}
 use Rattle.spec_transform.specs.Outcome.{written_by}
 use Rattle.xt_tree.specs.StreamView.{stream_of}
-use Rattle.xt_sheet.specs.View.{all_followed, content_of, instruction_of}
+use Rattle.xt_one_template.specs.View.{all_followed, content_of, instruction_of}
 use Rattle.xt_ask.specs.View.{context_of, supplies_of}
 use Rattle.xt_ask.specs.Runs.{Continues}
 use Rattle.xt_instantiate.proofs.Following.{After}

@@ -1,22 +1,31 @@
-use Rattle.spec_session.specs.Machine.{with_module}
+use Rattle.std.proofs.Common.{sym, subst}
 use Rattle.spec_document.specs.Document.{document_of}
 use Rattle.spec_document.specs.Scope.{root_scope}
-use Rattle.xt_build.specs.View.{fault_of}
-use Rattle.xt_session.specs.Documents.{state_of}
-use Rattle.xt_session.proofs.Answering.{if_ok_map, gives_built, gives_fault}
+use Rattle.spec_transform.specs.Documents.{with_module}
+use Rattle.spec_session.specs.Machine.{State, kept_by}
+use Rattle.xt_session.specs.State.{state_of}
+use Rattle.xt_session.specs.Turn.{GivesText}
+use Rattle.xt_session.proofs.Answering.{if_ok_map, gives_built, gives_fault, on_err_then, same_state}
 use Rattle.xt_session.proofs.answer.set_module.Goals as goal
 
 pub returns-in-Ok-clause-ok : goal.returns-in-Ok-clause-ok
 returns-in-Ok-clause-ok c =
-    let old = state_of c.args.documents.now in
-    if_ok_map _ _ c.keep_module.result
-    (λ text gives. gives_built old _ (with_module c.args.name.now old) (document_of root_scope old.made c.args.body.now) c.in-Ok.built.document text
-    c.in-Ok.ensures.answer gives) c.keep_module.ensures.ok
+    let old = state_of c.args.held.now in
+    let made = c.in-Ok.ensures.answer in
+    if_ok_map _ _ c.adopt.result
+    (λ text gives. gives_built (with_module c.args.name.now) (document_of root_scope old.made c.args.body.now) old made.0 (same_state c.in-Ok.ensures.kept)
+    made.1 gives (λ i. record { documents = made.2.documents i; made = made.2.made i })) c.adopt.ensures.ok
+
+pub returns-in-Ok-clause-err : goal.returns-in-Ok-clause-err
+returns-in-Ok-clause-err c = on_err_then c.adopt.result _ _ _ (same_state c.in-Ok.ensures.kept) c.adopt.ensures.err
 
 pub returns-in-Err-Refused-clause-ok : goal.returns-in-Err-Refused-clause-ok
 returns-in-Err-Refused-clause-ok c =
-    let old = state_of c.args.documents.now in
+    let old = state_of c.args.held.now in
+    let make = with_module c.args.name.now in
+    let answer = document_of root_scope old.made c.args.body.now in
+    let kept = same_state c.in-Err-Refused.ensures.kept in
     let fault = rw c.in-Err-Refused.field-0-is at c.in-Err-Refused.ensures.answer in
     if_ok_map _ _ c.text_of.result
-    (λ text is. gives_fault old (with_module c.args.name.now old) (document_of root_scope old.made c.args.body.now) (fault_of c.in-Err-Refused.fault) text
-    fault is) c.text_of.ensures
+    (λ text is. subst (λ (state : State). GivesText old (kept_by make old answer) text state) (sym kept) (gives_fault old make answer _ text fault is))
+    c.text_of.ensures

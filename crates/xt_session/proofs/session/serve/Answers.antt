@@ -4,9 +4,11 @@ use Rattle.xt_session.proofs.session.serve.Goals as goal
 
 pub loop-status-init : goal.loop-status-init
 loop-status-init g c = (
-  serving_at_start c.args.limit (g.I.Source.remaining c.args.input.now) (g.O.Sink.written c.args.output.now) _ _ c.in-Ok.ensures c.new-documents.ensures,
+  serving_at_start c.args.limit (g.I.Source.remaining c.args.input.now) (g.O.Sink.written c.args.output.now) _ _ c.in-Ok.ensures
+      (λ i. record { documents = c.new-held.ensures.documents i; made = c.new-held.ensures.made i }),
   refl,
   refl,
+  c.new-held.ensures.current,
 )
 
 pub loop-status-preserved : goal.loop-status-preserved
@@ -15,6 +17,7 @@ loop-status-preserved g c =
       serving_on c.loop-status.invariant.0 turned.turns.1 turned.turns.2,
       turned.input_cause ∙ c.loop-status.invariant.1,
       turned.output_cause ∙ c.loop-status.invariant.2,
+      turned.current,
     )
 
 pub returns-in-Stopped-clause-session : goal.returns-in-Stopped-clause-session

@@ -1,14 +1,16 @@
 use Rattle.std.proofs.Common.{◌≡◌}
 use Rattle.spec_lines.specs.Lines.{allowance}
-use Rattle.xt_session.specs.Documents.{state_of}
+use Rattle.xt_repair.specs.View.{IsCurrent}
+use Rattle.xt_session.specs.State.{state_of}
 use Rattle.xt_session.proofs.Serving.{IsServing}
 use Rattle.xt_session.proofs.session.serve.Given as goal
 
 abbrev pub invariant-loop-status : goal.invariant-loop-status
 invariant-loop-status g l =
-    IsServing l.fn.limit (g.I.Source.remaining l.fn.input) l.lines (g.I.Source.remaining l.input) (state_of l.documents) (g.O.Sink.written l.fn.output)
+    IsServing l.fn.limit (g.I.Source.remaining l.fn.input) l.lines (g.I.Source.remaining l.input) (state_of l.held) (g.O.Sink.written l.fn.output)
     (g.O.Sink.written l.output)
     × (g.I.Source.faults l.input ≡ g.I.Source.faults l.fn.input) × (g.O.Sink.faults l.output ≡ g.O.Sink.faults l.fn.output)
+    × IsCurrent l.held
 
 abbrev pub decreases-loop-status : goal.decreases-loop-status
 decreases-loop-status g l = allowance l.lines

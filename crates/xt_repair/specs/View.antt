@@ -1,0 +1,98 @@
+-- What is held, what is ready to be adopted, and when it may be.
+use Rattle.std.specs.Prelude.{ℕ, ◌≡◌, ◌+◌, ◌<◌, Bool, List, Option, Result, Ok, Err, bytes_eq, string_bytes}
+use Rattle.std.specs.Option.{option_map}
+use Rattle.std.specs.Str.{chars}
+use Rattle.std.specs.HashMap.{get_by, spare}
+use Rattle.std.specs.declared.string.String.{String}
+use Rattle.std.specs.declared.alloc.Global.{Global}
+use Rattle.spec_document.specs.Fault.{Fault}
+use Rattle.spec_document.specs.Forest.{Plain, Document, size}
+use Rattle.spec_transform.specs.Documents as spec
+use Rattle.spec_transform.specs.Documents.{Documents, IsOutcome, with_source, with_module}
+use Rattle.xt_base.specs.Code.{edit_number}
+use Rattle.xt_build.specs.declared.fault.BuildFault.{BuildFault}
+use Rattle.xt_build.specs.declared.fault.BuildFault.TheVariants as builds
+use Rattle.xt_repair.specs.OutcomeView.{outcome_of, plain_of}
+use Rattle.xt_repair.specs.declared.fault.EditFault.{EditFault}
+use Rattle.xt_repair.specs.declared.fault.EditFault.TheVariants as faults
+use Rattle.xt_repair.specs.declared.held.Held.{Held}
+use Rattle.xt_repair.specs.declared.name.DocName.{DocName}
+use Rattle.xt_repair.specs.declared.name.DocName.TheVariants as names
+use Rattle.xt_repair.specs.declared.ready.Change.{Change}
+use Rattle.xt_repair.specs.declared.ready.Change.TheVariants as changes
+use Rattle.xt_repair.specs.declared.ready.Ready.{Ready}
+
+-- whether a key has these characters
+abbrev pub is_name : List ℕ → String Global → Bool
+is_name name key = bytes_eq name (chars (string_bytes key))
+
+-- the documents that are held, how many nodes were made so far, and the outcome that is told
+abbrev pub documents_of : Held → Documents
+documents_of held = record {
+  source = option_map plain_of held.source;
+  modules = λ name. option_map plain_of (get_by (is_name name) held.modules);
+}
+
+abbrev pub made_of : Held → ℕ
+made_of held = held.next.number
+
+abbrev pub outcome_in : Held → spec.Outcome
+outcome_in held = outcome_of held.outcome
+
+-- the outcome that is told is that of the documents that are held
+pub record IsCurrent (held : Held) : Type 0 where
+  pub outcome : IsOutcome (documents_of held) (outcome_in held)
+
+-- nothing of what is told has changed
+pub record IsKept (old new : Held) : Type 0 where
+  pub documents : documents_of new ≡ documents_of old
+  pub made : made_of new ≡ made_of old
+  pub outcome : outcome_in new ≡ outcome_in old
+  pub current : IsCurrent old → IsCurrent new
+
+abbrev pub document_named : DocName → Documents → Option Plain
+document_named names.Source documents = documents.source
+document_named (names.Module name) documents = documents.modules name.now
+
+-- the fault of a body as that of a change
+abbrev pub edit_fault_of : BuildFault → EditFault
+edit_fault_of builds.Memory = faults.Memory
+edit_fault_of (builds.Refused fault) = faults.Refused fault.code fault.line
+
+-- ---- What is ready
+
+abbrev pub changed_by : Change → Documents → Documents
+changed_by (changes.Source document) old = with_source (plain_of document) old
+changed_by (changes.Module name document) old = with_module (chars (string_bytes name)) (plain_of document) old
+
+-- what is held once it is adopted
+abbrev pub next_documents : Ready → Held → Documents
+next_documents ready held = changed_by ready.change (documents_of held)
+
+abbrev pub next_made : Ready → ℕ
+next_made ready = ready.next.number
+
+abbrev pub next_outcome : Ready → spec.Outcome
+next_outcome ready = outcome_of ready.outcome
+
+-- there is room for it, so that no memory is taken
+abbrev pub HasRoom : Change → Held → Type 0
+HasRoom (changes.Source document) held = Unit {0}
+HasRoom (changes.Module name document) held = 0 < spare held.modules
+
+-- it was made from what is held: its outcome is that of the documents that will be held
+pub record IsMadeFrom (held : Held) (ready : Ready) : Type 0 where
+  pub outcome : IsOutcome (next_documents ready held) (next_outcome ready)
+  pub room : HasRoom ready.change held
+
+-- it gives this document its place among those that are held, with numbers after all that were given so far
+pub record IsReady (with_document : Plain → Documents → Documents) (held : Held) (document : Document ℕ) (ready : Ready) : Type 0 where
+  pub documents : next_documents ready held ≡ with_document (plain_of document) (documents_of held)
+  pub made : next_made ready ≡ made_of held + 1 + size document.nodes
+  pub from : IsMadeFrom held ready
+
+-- what a change is answered, where this is the document of its lines, or their least fault. Want of memory is free
+abbrev pub Prepares : (Plain → Documents → Documents) → Held → Result (Document ℕ) Fault → Result Ready EditFault → Type 0
+Prepares with_document held answer (Ok ready) = (document : Document ℕ) × (answer ≡ Ok document) × IsReady with_document held document ready
+Prepares with_document held answer (Err (faults.Refused code line)) = answer ≡ Err (record { number = edit_number code; line = line })
+Prepares with_document held answer (Err faults.Memory) = Unit {0}

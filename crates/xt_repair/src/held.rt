@@ -1,0 +1,214 @@
+// What a session holds.
+ghost use Rattle.std.specs.Prelude.{◌≡◌, ◌+◌, ◌<◌, IfOk, string_bytes};
+ghost use Rattle.std.specs.HashMap.{spare};
+ghost use Rattle.std.specs.Str.{chars};
+ghost use Rattle.spec_document.specs.Document.{document_of};
+ghost use Rattle.spec_document.specs.Forest.{size};
+ghost use Rattle.spec_document.specs.Scope.{root_scope};
+ghost use Rattle.spec_transform.specs.Documents.{IsOutcome, main_name, no_documents, with_module, with_source};
+ghost use Rattle.xt_build.specs.View.{Builds, document_in};
+ghost use Rattle.xt_repair.specs.OutcomeView.{outcome_of, plain_in, plain_of};
+ghost use Rattle.xt_repair.specs.View.{HasRoom, IsCurrent, IsKept, IsMadeFrom, IsReady, Prepares, changed_by, document_named, documents_of, edit_fault_of, made_of, next_documents, next_made, next_outcome, outcome_in};
+
+use crate::fault::EditFault;
+use crate::name::DocName;
+use crate::outcome::{MAIN, Outcome, at_no_element, outcome_of};
+use crate::ready::{Change, Ready};
+use indexmap::IndexMap;
+use spec_expression::StaticCode;
+use std::alloc::Global;
+use xt_build::{BuildFault, Built, build};
+use xt_io::Line;
+use xt_names::Scope;
+use xt_text::{Memory, Text};
+use xt_tree::{Doc, NodeId};
+
+/// The documents that are held, the number of the next node, and the outcome of the transformation, which is that
+/// of these documents.
+#[derive(Drop)]
+pub struct Held {
+    source: Option<Doc>,
+    modules: IndexMap<String, Doc>,
+    next: NodeId,
+    outcome: Outcome,
+}
+
+impl Held {
+    /// No document, so that the outcome is S01; the first node will have the number 0. Takes no memory.
+    pub fn new(alloc: Global) -> Held
+        ensures documents { documents_of result ≡ no_documents }
+        ensures made { made_of result ≡ 0 }
+        ensures current { IsCurrent result }
+    {
+        Held {
+            source: None,
+            modules: IndexMap::new(alloc),
+            next: NodeId { number: 0 },
+            outcome: at_no_element(alloc, StaticCode::NoMain),
+        }
+    }
+
+    /// Makes ready that the document of these lines becomes the source. The least of their faults, 2 or 8 to 14,
+    /// with its line, where they make none. Nothing is changed.
+    pub fn set_source(&self, alloc: Global, body: &[Line]) -> Result<Ready, EditFault>
+        ensures { Prepares with_source self.now (document_of root_scope (made_of self.now) body.now) result }
+    {
+        match self.built(alloc, body) {
+            Ok(built) => Ok(self.source_ready(alloc, built)?),
+            Err(fault) => Err(edit_fault(fault)),
+        }
+    }
+
+    /// Makes ready that the document of these lines becomes the module of this name. The least of their faults,
+    /// 2 or 8 to 14, with its line, where they make none. Nothing is changed but that room is made.
+    pub fn set_module(
+        &mut self,
+        alloc: Global,
+        name: &Text,
+        body: &[Line],
+    ) -> Result<Ready, EditFault>
+        ensures answer { Prepares (with_module name.now) self.new (document_of root_scope (made_of self.old) body.now) result }
+        ensures kept { IsKept self.old self.new }
+    {
+        match self.built(alloc, body) {
+            Ok(built) => Ok(self.module_ready(alloc, name, built)?),
+            Err(fault) => Err(edit_fault(fault)),
+        }
+    }
+
+    /// Makes present what is ready, which was made from what is held. Takes no memory.
+    pub fn adopt(&mut self, ready: Ready)
+        requires { IsMadeFrom self.old ready }
+        ensures documents { documents_of self.new ≡ next_documents ready self.old }
+        ensures made { made_of self.new ≡ next_made ready }
+        ensures outcome { outcome_in self.new ≡ next_outcome ready }
+        ensures current { IsCurrent self.new }
+    {
+        let Ready {
+            change,
+            next,
+            outcome,
+        } = ready;
+        self.put(change);
+        self.next = next;
+        self.outcome = outcome;
+    }
+
+    /// What the transformation of the documents comes to. Takes no memory.
+    pub fn outcome(&self) -> &Outcome
+        ensures { outcome_of result.now ≡ outcome_in self.now }
+    {
+        &self.outcome
+    }
+
+    /// The document of this name, where there is one. Takes no memory.
+    pub fn document(&self, name: DocName<'_>) -> Option<&Doc>
+        ensures { plain_in result ≡ document_named name.entry (documents_of self.now) }
+    {
+        match name {
+            DocName::Source => self.source.as_ref(),
+            DocName::Module(name) => self.module(name.as_str()),
+        }
+    }
+
+    // The module of this name, where there is one.
+    fn module(&self, name: &str) -> Option<&Doc>
+        ensures { plain_in result ≡ (documents_of self.now).modules (chars name.now) }
+    {
+        self.modules.get(name)
+    }
+
+    // The module `main`, once this document is the module of this name.
+    fn main_with<'a>(&'a self, name: &Text, document: &'a Doc) -> Option<&'a Doc>
+        ensures { plain_in result ≡ (with_module name.now (plain_of document.now) (documents_of self.now)).modules main_name }
+    {
+        if name.is(MAIN) {
+            Some(document)
+        } else {
+            self.module(MAIN)
+        }
+    }
+
+    // The document of these lines, numbered after all nodes so far, or the least of their faults.
+    fn built(&self, alloc: Global, body: &[Line]) -> Result<Built, BuildFault>
+        ensures answer { Builds document_in result (document_of root_scope (made_of self.now) body.now) }
+        ensures next { IfOk result (λ built. built.next.number ≡ made_of self.now + 1 + size built.document.nodes) }
+    {
+        let scope = Scope::root(alloc)?;
+        build(alloc, body, &scope, self.next)
+    }
+
+    fn source_ready(&self, alloc: Global, built: Built) -> Result<Ready, Memory>
+        requires { built.next.number ≡ made_of self.now + 1 + size built.document.nodes }
+        ensures { IfOk result (λ ready. IsReady with_source self.now built.document ready) }
+    {
+        let main = self.module(MAIN);
+        let outcome = outcome_of(alloc, main, Some(&built.document))?;
+        Ok(Ready {
+            change: Change::Source(built.document),
+            next: built.next,
+            outcome,
+        })
+    }
+
+    // There is room for one module more afterwards, so that `adopt` takes no memory.
+    fn module_ready(&mut self, alloc: Global, name: &Text, built: Built) -> Result<Ready, Memory>
+        requires { built.next.number ≡ made_of self.old + 1 + size built.document.nodes }
+        ensures ok { IfOk result (λ ready. IsReady (with_module name.now) self.new built.document ready) }
+        ensures kept { IsKept self.old self.new }
+    {
+        let outcome = self.outcome_with(alloc, name, &built.document)?;
+        let key = String::from_str(alloc, name.as_str())?;
+        self.modules.reserve(1)?;
+        Ok(Ready {
+            change: Change::Module(key, built.document),
+            next: built.next,
+            outcome,
+        })
+    }
+
+    // The outcome once this document is the module of this name.
+    fn outcome_with(&self, alloc: Global, name: &Text, document: &Doc) -> Result<Outcome, Memory>
+        ensures { IfOk result (λ outcome. IsOutcome (with_module name.now (plain_of document.now) (documents_of self.now)) (outcome_of outcome)) }
+    {
+        let main = self.main_with(name, document);
+        outcome_of(alloc, main, self.source.as_ref())
+    }
+
+    fn put(&mut self, change: Change)
+        requires { HasRoom change self.old }
+        ensures { documents_of self.new ≡ changed_by change (documents_of self.old) }
+    {
+        match change {
+            Change::Source(document) => self.put_source(document),
+            Change::Module(name, document) => self.put_module(name, document),
+        }
+    }
+
+    fn put_source(&mut self, document: Doc)
+        ensures { documents_of self.new ≡ with_source (plain_of document) (documents_of self.old) }
+    {
+        self.source = Some(document);
+    }
+
+    // There is room, so the insertion does not fail.
+    fn put_module(&mut self, name: String, document: Doc)
+        requires { 0 < spare self.old.modules }
+        ensures { documents_of self.new ≡ with_module (chars (string_bytes name)) (plain_of document) (documents_of self.old) }
+    {
+        let _ = self.modules.insert(name, document);
+    }
+}
+
+// The same fault of a change.
+fn edit_fault(fault: BuildFault) -> EditFault
+    ensures { edit_fault_of fault ≡ result }
+{
+    match fault {
+        BuildFault::Memory => EditFault::Memory,
+        BuildFault::Refused(fault) => EditFault::Refused {
+            code: fault.code,
+            line: fault.line,
+        },
+    }
+}

@@ -1,0 +1,25 @@
+//! What a session holds: the source, the modules by name, and the outcome of the transformation, which is that of
+//! these documents. A change is made ready first, with the outcome that it will have, and then adopted, so that a
+//! refused or failing one leaves all as it was.
+//!
+//! So far the outcome of a change is read afresh from all the documents.
+//!
+//! ```text
+//! let mut held = Held::new(alloc);                   // S01 -
+//! let ready = held.set_source(alloc, body)?;         // nothing is changed yet
+//! let outcome = ready.outcome();                     // what it will come to
+//! held.adopt(ready);                                 // takes no memory
+//! ```
+#![tactic(auto)]
+
+mod fault;
+mod held;
+mod name;
+mod outcome;
+mod ready;
+
+pub use fault::EditFault;
+pub use held::Held;
+pub use name::DocName;
+pub use outcome::Outcome;
+pub use ready::Ready;
