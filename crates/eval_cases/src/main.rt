@@ -8,6 +8,7 @@
 //! - `global NAME EXPRESSION`: a global that is given
 //! - `EXPRESSION ->`: what it evaluates to, which is printed after the arrow: `number 3`, `text "a"`,
 //!   `boolean true`, `nodes 1 3@1`, `fragment`, a code as `D01`, or `wants NAME` for a global that is not given
+//! - `TEMPLATE =>`: the string that this value template stands for, printed likewise
 //! - `keep EXPRESSION`: what is read for it is kept; `again`: that is asked again in the present document, and
 //!   it is printed how many reads there are, how many were asked, and the first that has changed, from 0
 //!

@@ -4,10 +4,11 @@ use crate::show::{push_answer, push_code, push_held};
 use cases::{Fault, Word, behind, document, node, text_at, words_of};
 use std::alloc::Global;
 use std::rc::Rc;
-use xp_eval::eval;
+use xp_eval::{Eval, eval};
 use xp_parse::{ParseFault, parse};
-use xp_syntax::Expr;
+use xp_syntax::{Avt, Expr};
 use xt_ask::{Binding, Bindings, Context, EvalFault, Focus, Known, Logged, Read, Supplies, holds};
+use xt_avt::{AvtFault, expand, parse_avt};
 use xt_base::{Code, Steps};
 use xt_names::{Expanded, Scope, XSLT_URI};
 use xt_plain::PlainWorld;
@@ -68,6 +69,10 @@ impl Scene {
         if let Some(text) = line.strip_suffix(" ->") {
             out.push(' ')?;
             return self.answer(alloc, out, text);
+        }
+        if let Some(text) = line.strip_suffix(" =>") {
+            out.push(' ')?;
+            return self.expand(alloc, out, text);
         }
         if line.is_empty() || line.starts_with("#") {
             return Ok(());
@@ -223,6 +228,38 @@ impl Scene {
         }
     }
 
+    // Adds the string that a value template stands for.
+    fn expand(&self, alloc: Global, out: &mut Text, text: &str) -> Result<(), Fault> {
+        match parse_avt(alloc, text, &self.context.scope) {
+            Ok(avt) => {
+                let answer = self.expanded(alloc, &avt)?;
+                push_answer(alloc, out, answer)
+            }
+            Err(fault) => push_bad_template(alloc, out, fault),
+        }
+    }
+
+    fn expanded(&self, alloc: Global, avt: &Avt) -> Result<Result<Value, EvalFault>, Fault> {
+        match &self.document {
+            None => Err(Fault::NoCase),
+            Some(document) => Ok(self.expanded_in(alloc, document, avt)),
+        }
+    }
+
+    fn expanded_in(&self, alloc: Global, document: &Doc, avt: &Avt) -> Result<Value, EvalFault> {
+        let world = PlainWorld { alloc, document };
+        let mut world = Eval { world };
+        let text = expand(
+            alloc,
+            avt,
+            self.focus(),
+            &self.context,
+            &self.supplies,
+            &mut world,
+        )?;
+        Ok(Value::Text(text))
+    }
+
     fn answer(&self, alloc: Global, out: &mut Text, text: &str) -> Result<(), Fault> {
         match self.parsed(alloc, text) {
             Ok(tree) => {
@@ -236,6 +273,14 @@ impl Scene {
 
 // Adds the code of a text that is no expression.
 fn push_refused(alloc: Global, out: &mut Text, fault: ParseFault) -> Result<(), Fault> {
+    match fault.code() {
+        None => Err(Fault::Memory),
+        Some(code) => push_code(alloc, out, Code::Static(code)),
+    }
+}
+
+// Adds the code of a text that is no value template.
+fn push_bad_template(alloc: Global, out: &mut Text, fault: AvtFault) -> Result<(), Fault> {
     match fault.code() {
         None => Err(Fault::Memory),
         Some(code) => push_code(alloc, out, Code::Static(code)),

@@ -1,0 +1,108 @@
+// Patterns: `pattern TEXT` gives the tree of a text, or its refusal; `pattern-joined TEXT..` takes the texts one
+// after another; `priority TEXT` gives the default priorities of the alternatives, in millionths.
+//
+// The alternatives of a tree are parted by ` | `. An alternative is where it starts, `anywhere`, `root`,
+// `id("x")` or `key(NAME, "x")` (with `-` for no name), and its steps, each behind its separator: `/child::a`.
+
+use case_trees::{push_code, push_step, scope};
+use cases::{Fault, Word, joined, push_name, push_part, push_quoted, text_at};
+use std::alloc::Global;
+use xp_syntax::{Alternative, Pattern, PatternStep, Separator, Start};
+use xt_pattern::{PatternFault, parse_pattern, priority};
+use xt_text::{Memory, Text};
+
+/// Answers the call, if it is one of these.
+pub fn answer(alloc: Global, out: &mut Text, call: &str, words: &[Word]) -> Result<bool, Fault> {
+    match call {
+        "pattern" => push_parsed(alloc, out, text_at(words, 0)?)?,
+        "pattern-joined" => push_joined(alloc, out, joined(alloc, words)?)?,
+        "priority" => push_priorities(alloc, out, text_at(words, 0)?)?,
+        _ => return Ok(false),
+    }
+    Ok(true)
+}
+
+fn push_joined(alloc: Global, out: &mut Text, text: Text) -> Result<(), Memory> {
+    push_parsed(alloc, out, text.as_str())
+}
+
+fn push_parsed(alloc: Global, out: &mut Text, text: &str) -> Result<(), Memory> {
+    let scope = scope(alloc)?;
+    match parse_pattern(alloc, text, &scope) {
+        Ok(pattern) => push_pattern(out, &pattern),
+        Err(fault) => push_refusal(out, fault),
+    }
+}
+
+fn push_priorities(alloc: Global, out: &mut Text, text: &str) -> Result<(), Fault> {
+    let scope = scope(alloc)?;
+    match parse_pattern(alloc, text, &scope) {
+        Ok(pattern) => Ok(push_each_priority(alloc, out, &pattern)?),
+        Err(PatternFault::Memory) => Err(Fault::Memory),
+        Err(PatternFault::Refused(_)) => Err(Fault::NoCase),
+    }
+}
+
+fn push_each_priority(alloc: Global, out: &mut Text, pattern: &Pattern) -> Result<(), Memory> {
+    for alternative in pattern.alternatives.as_slice() {
+        let number = format!(in alloc; "{}", priority(alternative))?;
+        push_part(out, number.as_str())?;
+    }
+    Ok(())
+}
+
+fn push_refusal(out: &mut Text, fault: PatternFault) -> Result<(), Memory> {
+    match fault.code() {
+        None => Err(Memory),
+        Some(code) => push_code(out, code),
+    }
+}
+
+fn push_pattern(out: &mut Text, pattern: &Pattern) -> Result<(), Memory> {
+    for (index, alternative) in pattern.alternatives.as_slice().iter().enumerate() {
+        if index > 0 {
+            out.push_str(" | ")?;
+        }
+        push_alternative(out, alternative)?;
+    }
+    Ok(())
+}
+
+fn push_alternative(out: &mut Text, alternative: &Alternative) -> Result<(), Memory> {
+    push_start(out, &alternative.start)?;
+    for step in alternative.steps.as_slice() {
+        out.push(' ')?;
+        push_pattern_step(out, step)?;
+    }
+    Ok(())
+}
+
+fn push_start(out: &mut Text, start: &Start) -> Result<(), Memory> {
+    match start {
+        Start::Anywhere => out.push_str("anywhere"),
+        Start::Root => out.push_str("root"),
+        Start::Id(id) => {
+            out.push_str("id(")?;
+            push_quoted(out, id.as_str())?;
+            out.push(')')
+        }
+        Start::Key(name, value) => {
+            out.push_str("key(")?;
+            match name {
+                None => out.push('-')?,
+                Some(name) => push_name(out, name)?,
+            }
+            out.push_str(", ")?;
+            push_quoted(out, value.as_str())?;
+            out.push(')')
+        }
+    }
+}
+
+fn push_pattern_step(out: &mut Text, step: &PatternStep) -> Result<(), Memory> {
+    out.push_str(match step.separator {
+        Separator::Child => "/",
+        Separator::Descendant => "//",
+    })?;
+    push_step(out, &step.step)
+}

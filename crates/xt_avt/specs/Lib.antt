@@ -1,0 +1,5 @@
+pub mod Code
+pub mod Front
+pub mod Cut
+pub mod Reading
+pub mod Parsed

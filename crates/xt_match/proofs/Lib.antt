@@ -1,0 +1,3 @@
+pub mod Together
+pub mod Views
+pub mod Turns

@@ -1,0 +1,113 @@
+// The choice of a template rule (XSLT 1.0, sections 5.5 and 5.6).
+ghost use Rattle.std.specs.Prelude.{◌≡◌, map};
+ghost use Rattle.spec_meaning.specs.Supplies.{at_hand};
+ghost use Rattle.spec_transform.specs.Choice as definition;
+ghost use Rattle.xp_axes.specs.View.{same_ref};
+ghost use Rattle.xp_syntax.specs.SheetView.{rule_of, rules_of};
+ghost use Rattle.xt_ask.specs.View.{answer_of, candidates_of, context_of, supplies_of};
+ghost use Rattle.xt_ask.specs.Runs.{Runs, itself};
+ghost use Rattle.xt_ask.specs.declared.context.Focus as code;
+
+use crate::pattern::{ask_called, matches_one};
+use std::alloc::Global;
+use xp_syntax::{Rule, Rules};
+use xt_ask::{Answer, Candidates, Context, EvalFault, Evaluate, Supplies};
+use xt_names::Expanded;
+use xt_tree::NodeRef;
+
+fn same_mode(mode: &Option<Expanded>, other: &Option<Expanded>) -> bool
+    ensures { result ≡ definition.same_mode mode.now other.now }
+{
+    match (mode, other) {
+        (None, None) => true,
+        (Some(mode), Some(other)) => mode.same(other),
+        _ => false,
+    }
+}
+
+fn is_candidate(candidates: Candidates, precedence: u64) -> bool
+    ensures { result ≡ definition.is_candidate (candidates_of candidates) precedence }
+{
+    match candidates {
+        Candidates::AllRules => true,
+        Candidates::Imported { first, last } => first <= precedence && precedence < last,
+    }
+}
+
+fn may_be_chosen(mode: &Option<Expanded>, candidates: Candidates, rule: &Rule) -> bool
+    ensures { result ≡ definition.may_be_chosen mode.now (candidates_of candidates) (rule_of rule.now) }
+{
+    same_mode(mode, &rule.mode) && is_candidate(candidates, rule.precedence)
+}
+
+// Whether a rule is a candidate that a node which is called so matches.
+fn is_chosen<W: Evaluate>(
+    alloc: Global,
+    rule: &Rule,
+    node: NodeRef,
+    called: &Answer,
+    mode: &Option<Expanded>,
+    candidates: Candidates,
+    context: &Context,
+    supplies: &Supplies,
+    world: &mut W,
+) -> Result<bool, EvalFault>
+    ensures runs { (focus : code.Focus) → Runs itself (at_hand (supplies_of supplies.now) context.now.depth) context.now.depth (definition.is_chosen same_ref (context_of focus context.now) mode.now (candidates_of candidates) (rule_of rule.now) node (answer_of called.now)) (W.state world.old) (W.state world.new) result }
+    ensures name { W.name world.new ≡ W.name world.old }
+{
+    if may_be_chosen(mode, candidates, rule) {
+        let alternatives = rule.pattern.alternatives.as_slice();
+        matches_one(alloc, alternatives, node, called, context, supplies, world)
+    } else {
+        Ok(false)
+    }
+}
+
+// The number of the first rule that a node which is called so matches.
+fn first_that_matches<W: Evaluate>(
+    alloc: Global,
+    rules: &[Rule],
+    node: NodeRef,
+    called: &Answer,
+    mode: &Option<Expanded>,
+    candidates: Candidates,
+    context: &Context,
+    supplies: &Supplies,
+    world: &mut W,
+) -> Result<Option<u64>, EvalFault>
+    ensures runs { (focus : code.Focus) → Runs itself (at_hand (supplies_of supplies.now) context.now.depth) context.now.depth (definition.first_that_matches same_ref (context_of focus context.now) mode.now (candidates_of candidates) 0 (map rule_of rules.now) node (answer_of called.now)) (W.state world.old) (W.state world.new) result }
+    ensures name { W.name world.new ≡ W.name world.old }
+{
+    for (number, rule) in rules.iter().enumerate() {
+        let is_chosen = is_chosen(
+            alloc, rule, node, called, mode, candidates, context, supplies, world,
+        )?;
+        if is_chosen {
+            return Ok(Some(number as u64));
+        }
+    }
+    Ok(None)
+}
+
+/// The number of the template rule for the node, among the candidates of the mode: of the first that matches,
+/// where the rules stand ranked, the greatest first. Without one it is a built-in rule (XSLT 1.0, section
+/// 5.8). An error is want of memory, or the first global that is needed and was not given for a content so deep.
+pub fn choose<W: Evaluate>(
+    alloc: Global,
+    rules: &Rules,
+    node: NodeRef,
+    mode: &Option<Expanded>,
+    candidates: Candidates,
+    context: &Context,
+    supplies: &Supplies,
+    world: &mut W,
+) -> Result<Option<u64>, EvalFault>
+    ensures runs { (focus : code.Focus) → Runs itself (at_hand (supplies_of supplies.now) context.now.depth) context.now.depth (definition.chosen same_ref (context_of focus context.now) node mode.now (candidates_of candidates) (rules_of rules.now).rules) (W.state world.old) (W.state world.new) result }
+    ensures name { W.name world.new ≡ W.name world.old }
+{
+    let called = ask_called(world, node)?;
+    let list = rules.rules.as_slice();
+    first_that_matches(
+        alloc, list, node, &called, mode, candidates, context, supplies, world,
+    )
+}

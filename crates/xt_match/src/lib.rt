@@ -1,0 +1,19 @@
+//! Which nodes match a pattern (XSLT 1.0, section 5.2), and which template rule is chosen for a node (sections
+//! 5.5 and 5.6), in a world that evaluates expressions. Every function that asks has the clause `Runs`
+//! (`xt_ask`). Matching is never refused: a predicate that is refused is false.
+//!
+//! ```text
+//! let is_counted = matches(alloc, &count, node, &context, &supplies, world)?;
+//! let rule = choose(alloc, &rules, node, &mode, Candidates::AllRules, &context, &supplies, world)?;   // None: a built-in rule
+//! ```
+#![tactic(auto)]
+
+mod choice;
+mod pattern;
+mod predicate;
+mod same;
+mod step;
+mod test;
+
+pub use choice::choose;
+pub use pattern::matches;
