@@ -1,0 +1,4 @@
+pub mod Elements
+pub mod Inside
+pub mod Structure
+pub mod Modules

@@ -1,0 +1,93 @@
+// The names that lead to no module, or back to their own.
+ghost use Rattle.std.specs.Prelude.{◌≡◌, IfOk, IsSome, is_some};
+ghost use Rattle.std.specs.Bool.{Decides};
+ghost use Rattle.spec_structure.specs.Modules as spec;
+ghost use Rattle.xt_import.specs.View.{modules_in};
+ghost use Rattle.xt_sheet.specs.View.{faults_in, link_in, links_in};
+
+use crate::order::{is_among, reading_order};
+use indexmap::IndexMap;
+use spec_expression::StaticCode;
+use std::alloc::Global;
+use xt_sheet::{Fault, Link, check};
+use xt_text::{Memory, Text};
+use xt_tree::Doc;
+
+/// The first xsl:import or xsl:include element of the module of this name, in document order, that has a fault: S03
+/// where no module has the name that stands there, S04 where the module of that name is this one or leads to it. None
+/// where no link has a fault, or where there is no module of this name. The modules that a link leads to are read for
+/// each link anew.
+pub fn link_fault(
+    alloc: Global,
+    modules: &IndexMap<String, Doc>,
+    name: &Text,
+) -> Result<Option<Fault>, Memory>
+    ensures { IfOk result (λ fault. spec.FirstFault (modules_in modules.now.entries) name.now (spec.links_in (modules_in modules.now.entries) name.now) (faults_in fault)) }
+{
+    match modules.get(name.as_str()) {
+        None => Ok(None),
+        Some(document) => {
+            let module = check(alloc, document)?;
+            first_fault(alloc, modules, name, module.links.as_slice())
+        }
+    }
+}
+
+// The first fault of these links of the module of this name, wherever there is one.
+fn first_fault(
+    alloc: Global,
+    modules: &IndexMap<String, Doc>,
+    name: &Text,
+    links: &[Link],
+) -> Result<Option<Fault>, Memory>
+    ensures { IfOk result (λ fault. IsSome (modules_in modules.now.entries name.now) → spec.FirstFault (modules_in modules.now.entries) name.now (links_in links.now) (faults_in fault)) }
+{
+    for link in links {
+        match link_code(alloc, modules, name, link)? {
+            None => {}
+            Some(code) => {
+                let path = link.path.copy(alloc)?;
+                return Ok(Some(Fault { code, path }));
+            }
+        }
+    }
+    Ok(None)
+}
+
+// The code that stands at a link of the module of this name.
+fn link_code(
+    alloc: Global,
+    modules: &IndexMap<String, Doc>,
+    name: &Text,
+    link: &Link,
+) -> Result<Option<StaticCode>, Memory>
+    ensures { IfOk result (λ code. IsSome (modules_in modules.now.entries name.now) → spec.HasCode (modules_in modules.now.entries) name.now (link_in link.now) code) }
+{
+    if !is_held(modules, &link.href) {
+        return Ok(Some(StaticCode::NoSuchModule));
+    }
+    if leads_to(alloc, modules, &link.href, name)? {
+        return Ok(Some(StaticCode::ImportCycle));
+    }
+    Ok(None)
+}
+
+// Whether there is a module of this name.
+fn is_held(modules: &IndexMap<String, Doc>, name: &Text) -> bool
+    ensures { result ≡ is_some (modules_in modules.now.entries name.now) }
+{
+    modules.get(name.as_str()).is_some()
+}
+
+// Whether the first module is the second or leads to it.
+fn leads_to(
+    alloc: Global,
+    modules: &IndexMap<String, Doc>,
+    from: &Text,
+    to: &Text,
+) -> Result<bool, Memory>
+    ensures { IfOk result (λ leads. IsSome (modules_in modules.now.entries to.now) → Decides leads (spec.Reaches (modules_in modules.now.entries) from.now to.now)) }
+{
+    let reached = reading_order(alloc, modules, from.as_str())?;
+    Ok(is_among(to, reached.as_slice()))
+}

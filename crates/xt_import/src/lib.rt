@@ -1,0 +1,17 @@
+//! How stylesheet modules import and include one another (XSLT 1.0, section 2.6): in which order they are read, and
+//! which of their links lead nowhere or back.
+//!
+//! ```text
+//! let tree = tree(alloc, &modules, "main")?;
+//! tree.modules[0].name          // main; then each module that it leads to, once
+//! tree.modules[0].link_fault    // None, or the first of S03 and S04 with its place
+//! ```
+#![tactic(auto)]
+
+mod fault;
+mod listed;
+mod order;
+
+pub use fault::link_fault;
+pub use listed::{ImportTree, ListedModule, tree};
+pub use order::reading_order;

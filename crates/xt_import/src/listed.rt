@@ -1,0 +1,76 @@
+// The modules of a stylesheet.
+ghost use Rattle.std.specs.Prelude.{◌≡◌, IfOk};
+ghost use Rattle.std.specs.List.{All};
+ghost use Rattle.std.specs.Str.{chars};
+ghost use Rattle.spec_structure.specs.Modules as spec;
+ghost use Rattle.xt_import.specs.Tree.{IsJudged, names_in};
+ghost use Rattle.xt_import.specs.View.{modules_in};
+
+use crate::fault::link_fault;
+use crate::order::reading_order;
+use indexmap::IndexMap;
+use std::alloc::Global;
+use xt_sheet::Fault;
+use xt_text::{Memory, Text};
+use xt_tree::Doc;
+
+/// A module that a stylesheet is made of.
+#[derive(Drop)]
+pub struct ListedModule {
+    /// Its name.
+    pub name: Text,
+    /// The first of its xsl:import and xsl:include elements that has a fault, in document order: S03 where it names
+    /// no module, S04 where it leads back to its own.
+    pub link_fault: Option<Fault>,
+}
+
+/// The modules that a stylesheet is made of.
+#[derive(Drop)]
+pub struct ImportTree {
+    /// The modules in the order in which they are read, the principal one first. There is none where no module has
+    /// the name of the principal one, which is S01.
+    pub modules: Vec<ListedModule>,
+}
+
+/// The modules that the module of this name leads to by xsl:import and xsl:include elements (XSLT 1.0, section 2.6).
+pub fn tree(
+    alloc: Global,
+    modules: &IndexMap<String, Doc>,
+    main: &str,
+) -> Result<ImportTree, Memory>
+    ensures names { IfOk result (λ tree. spec.AreInReadingOrder (modules_in modules.now.entries) (chars main.now) (names_in tree.modules.items)) }
+    ensures link_faults { IfOk result (λ tree. All (IsJudged (modules_in modules.now.entries)) tree.modules.items) }
+{
+    let names = reading_order(alloc, modules, main)?;
+    let listed = judged(alloc, modules, names.as_slice())?;
+    Ok(ImportTree { modules: listed })
+}
+
+// The modules of these names with the faults of their links.
+fn judged(
+    alloc: Global,
+    modules: &IndexMap<String, Doc>,
+    names: &[Text],
+) -> Result<Vec<ListedModule>, Memory>
+    ensures names { IfOk result (λ listed. names_in listed.items ≡ names.now) }
+    ensures link_faults { IfOk result (λ listed. All (IsJudged (modules_in modules.now.entries)) listed.items) }
+{
+    let mut listed = Vec::new(alloc);
+    for name in names {
+        listed.push(judged_module(alloc, modules, name)?)?;
+    }
+    Ok(listed)
+}
+
+fn judged_module(
+    alloc: Global,
+    modules: &IndexMap<String, Doc>,
+    name: &Text,
+) -> Result<ListedModule, Memory>
+    ensures name { IfOk result (λ listed. listed.name ≡ name.now) }
+    ensures link_fault { IfOk result (λ listed. IsJudged (modules_in modules.now.entries) listed) }
+{
+    let link_fault = link_fault(alloc, modules, name)?;
+    let name = name.copy(alloc)?;
+    Ok(ListedModule { name, link_fault })
+}
