@@ -152,10 +152,10 @@ impl Scene {
                 let chosen = choose(
                     alloc,
                     &self.rules,
+                    &[],
                     node,
                     &mode,
                     candidates,
-                    &self.context,
                     &self.supplies,
                     &mut Eval { world },
                 );

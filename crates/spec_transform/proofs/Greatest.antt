@@ -67,7 +67,7 @@ none_step said x xs from rest more (Gives false) e h = one_more e (more h)
 none_step said x xs from rest more (Refuses w) e h = absurd (cc)
 none_step said x xs from rest more (Lacks w) e h = absurd (cc)
 
-abbrev pub said_of : {N : Type 0} → (N → N → Bool) → Context N → Option Expanded → Candidates → N → Answer N → (Question N → Answer N) → Supply N → Rule → Said Bool
+abbrev pub said_of : {N : Type 0} → (N → N → Bool) → (Rule → Context N) → Option Expanded → Candidates → N → Answer N → (Question N → Answer N) → Supply N → Rule → Said Bool
 said_of same c mode candidates n called ask supply rule = outcome_of ask supply (is_chosen same c mode candidates rule n called)
 
 -- a branch of what follows
@@ -78,7 +78,7 @@ branch ask supply from p (Gives false) = refl
 branch ask supply from p (Refuses w) = refl
 branch ask supply from p (Lacks w) = refl
 
-pub found : {N : Type 0} (same : N → N → Bool) (c : Context N) (mode : Option Expanded) (candidates : Candidates) (n : N) (called : Answer N)
+pub found : {N : Type 0} (same : N → N → Bool) (c : Rule → Context N) (mode : Option Expanded) (candidates : Candidates) (n : N) (called : Answer N)
     (ask : Question N → Answer N) (supply : Supply N) (number from : ℕ) (rules : List Rule)
     → outcome_of ask supply (first_that_matches same c mode candidates from rules n called) ≡ Gives (Some number)
     → Found (said_of same c mode candidates n called ask supply) rules from number
@@ -89,7 +89,7 @@ found same c mode candidates n called ask supply number from (rule ∷ rules) h 
     first_step said rule rules from number (outcome_of ask supply p) (found same c mode candidates n called ask supply number (from + 1) rules) (said rule) refl
     (sym (branch ask supply from p (said rule)) ∙ sym (outcome-then ask supply (is_chosen same c mode candidates rule n called) (λ b. if b then Give (Some from) else p)) ∙ h)
 
-pub none_found : {N : Type 0} (same : N → N → Bool) (c : Context N) (mode : Option Expanded) (candidates : Candidates) (n : N) (called : Answer N)
+pub none_found : {N : Type 0} (same : N → N → Bool) (c : Rule → Context N) (mode : Option Expanded) (candidates : Candidates) (n : N) (called : Answer N)
     (ask : Question N → Answer N) (supply : Supply N) (from : ℕ) (rules : List Rule)
     → outcome_of ask supply (first_that_matches same c mode candidates from rules n called) ≡ Gives None
     → AllFalse (said_of same c mode candidates n called ask supply) rules
@@ -161,14 +161,14 @@ pub matches_and_may : (may : Bool) (said : Said Bool) → (may ≡ true) × (sai
 matches_and_may true said h = h.1
 matches_and_may false said h = absurd (cc)
 
-pub is_said : {N : Type 0} (same : N → N → Bool) (c : Context N) (mode : Option Expanded) (candidates : Candidates) (n : N) (called : Answer N)
+pub is_said : {N : Type 0} (same : N → N → Bool) (c : Rule → Context N) (mode : Option Expanded) (candidates : Candidates) (n : N) (called : Answer N)
     (ask : Question N → Answer N) (supply : Supply N) (rule : Rule)
     → said_of same c mode candidates n called ask supply rule
-    ≡ (if may_be_chosen mode candidates rule then outcome_of ask supply (matches_one same c rule.pattern.alternatives n called) else Gives false)
+    ≡ (if may_be_chosen mode candidates rule then outcome_of ask supply (matches_one same (c rule) rule.pattern.alternatives n called) else Gives false)
 is_said same c mode candidates n called ask supply rule = go (may_be_chosen mode candidates rule)
   where
-    go : (b : Bool) → outcome_of ask supply (if b then matches_one same c rule.pattern.alternatives n called else Give false)
-        ≡ (if b then outcome_of ask supply (matches_one same c rule.pattern.alternatives n called) else Gives false)
+    go : (b : Bool) → outcome_of ask supply (if b then matches_one same (c rule) rule.pattern.alternatives n called else Give false)
+        ≡ (if b then outcome_of ask supply (matches_one same (c rule) rule.pattern.alternatives n called) else Gives false)
     go true = refl
     go false = refl
 
@@ -189,7 +189,7 @@ may_then false said h is = absurd (cc)
 
 -- ---- The two halves of the law
 
-pub greatest_is_chosen : {N : Type 0} (same : N → N → Bool) (c : Context N) (n : N) (mode : Option Expanded) (candidates : Candidates) (rules : List Rule)
+pub greatest_is_chosen : {N : Type 0} (same : N → N → Bool) (c : Rule → Context N) (n : N) (mode : Option Expanded) (candidates : Candidates) (rules : List Rule)
     (ask : Question N → Answer N) (supply : Supply N) (number : ℕ)
     → IsRanked rules → outcome_of ask supply (chosen same c n mode candidates rules) ≡ Gives (Some number)
     → IsSomeAnd (slice_get rules number) (IsGreatest (CanBeChosen same c n mode candidates ask supply) rules)
@@ -200,16 +200,16 @@ greatest_is_chosen same c n mode candidates rules ask supply number ranked h =
     let at : f.index ≡ number = let is = f.is in omega (arith, is) in
     let P : ℕ → Type 0 = λ k. IsSomeAnd (slice_get rules k) (IsGreatest (λ rule. said rule ≡ Gives true) rules) in
     greatest_alike (λ rule. said rule ≡ Gives true) (CanBeChosen same c n mode candidates ask supply) rules (slice_get rules number)
-    (λ rule g. may_and_matches (may_be_chosen mode candidates rule) (outcome_of ask supply (matches same c rule.pattern n)) (sym (is_said same c mode candidates n called ask supply rule) ∙ g))
-    (λ rule g. is_said same c mode candidates n called ask supply rule ∙ matches_and_may (may_be_chosen mode candidates rule) (outcome_of ask supply (matches same c rule.pattern n)) g)
+    (λ rule g. may_and_matches (may_be_chosen mode candidates rule) (outcome_of ask supply (matches same (c rule) rule.pattern n)) (sym (is_said same c mode candidates n called ask supply rule) ∙ g))
+    (λ rule g. is_said same c mode candidates n called ask supply rule ∙ matches_and_may (may_be_chosen mode candidates rule) (outcome_of ask supply (matches same (c rule) rule.pattern n)) g)
     (subst P at (first_is_greatest said rules f.index ranked f.first))
 
-pub none_is_chosen : {N : Type 0} (same : N → N → Bool) (c : Context N) (n : N) (mode : Option Expanded) (candidates : Candidates) (rules : List Rule)
+pub none_is_chosen : {N : Type 0} (same : N → N → Bool) (c : Rule → Context N) (n : N) (mode : Option Expanded) (candidates : Candidates) (rules : List Rule)
     (ask : Question N → Answer N) (supply : Supply N) (k : ℕ)
     → outcome_of ask supply (chosen same c n mode candidates rules) ≡ Gives None
-    → ForSome (slice_get rules k) (λ rule. may_be_chosen mode candidates rule ≡ true → outcome_of ask supply (matches same c rule.pattern n) ≡ Gives false)
+    → ForSome (slice_get rules k) (λ rule. may_be_chosen mode candidates rule ≡ true → outcome_of ask supply (matches same (c rule) rule.pattern n) ≡ Gives false)
 none_is_chosen same c n mode candidates rules ask supply k h rule at may =
     let called = ask (question.Name n) in
     let said = said_of same c mode candidates n called ask supply in
     let falsely = false_there said rules (none_found same c mode candidates n called ask supply 0 rules h) k rule at in
-    may_then (may_be_chosen mode candidates rule) (outcome_of ask supply (matches same c rule.pattern n)) (sym (is_said same c mode candidates n called ask supply rule) ∙ falsely) may
+    may_then (may_be_chosen mode candidates rule) (outcome_of ask supply (matches same (c rule) rule.pattern n)) (sym (is_said same c mode candidates n called ask supply rule) ∙ falsely) may

@@ -92,11 +92,11 @@ matches_one same c [] n called = gives
 matches_one same c (a ∷ more) n called =
     and_then (matches_steps same c a.start (reverse a.steps) n called) (λ b. either b gives (matches_one same c more n called))
 
-pub first_that_matches : {N : Type 0} (same : N → N → Bool) (c : Context N) (mode : Option Expanded) (candidates : Candidates) (number : ℕ) (rules : List Rule)
+pub first_that_matches : {N : Type 0} (same : N → N → Bool) (c : Rule → Context N) (mode : Option Expanded) (candidates : Candidates) (number : ℕ) (rules : List Rule)
     (n : N) (called : Answer N) → Unrefused (choice.first_that_matches same c mode candidates number rules n called)
 first_that_matches same c mode candidates number [] n called = gives
 first_that_matches same c mode candidates number (rule ∷ rules) n called =
-    and_then (either (choice.may_be_chosen mode candidates rule) (matches_one same c rule.pattern.alternatives n called) gives)
+    and_then (either (choice.may_be_chosen mode candidates rule) (matches_one same (c rule) rule.pattern.alternatives n called) gives)
     (λ b. either b gives (first_that_matches same c mode candidates (number + 1) rules n called))
 
 pub never_refused : {N A : Type 0} (ask : Question N → Answer N) (supply : Supply N) (why : Refusal) {p : Program N A} → Unrefused p

@@ -5,6 +5,8 @@ use Rattle.std.specs.Prelude.{◌≡◌, ℕ, ◌+◌, ◌==◌, int_lt, int_le,
 use Rattle.std.specs.List.{list_all}
 use Rattle.std.specs.Option.{ForSome}
 use Rattle.spec_document.specs.Name.{Expanded, same_name}
+use Rattle.spec_document.specs.Scope.{Scope, root_scope}
+use Rattle.spec_stylesheet.specs.Sheet as sheet
 use Rattle.spec_stylesheet.specs.Sheet.{Rule}
 use Rattle.spec_meaning.specs.Question as question
 use Rattle.spec_meaning.specs.Question.{Question, Answer, Candidates, AllRules, Imported}
@@ -25,13 +27,21 @@ is_candidate (Imported first last) precedence = nat_le first precedence && nat_l
 abbrev pub may_be_chosen : Option Expanded → Candidates → Rule → Bool
 may_be_chosen mode candidates rule = same_mode mode rule.mode && is_candidate candidates rule.precedence
 
--- whether a rule is a candidate that a node which is called so matches
-abbrev pub is_chosen : {N : Type 0} → (N → N → Bool) → Context N → Option Expanded → Candidates → Rule → N → Answer N → Program N Bool
+-- where the pattern of a rule stands: the node that is to match is the current one, there are no variables, and the namespaces in scope
+-- are those at the element of its template
+abbrev pub scope_for : List sheet.Unit → Rule → Scope
+scope_for units rule = elim (slice_get units rule.unit) [ None ↦ root_scope | Some unit ↦ unit.site.scope ]
+
+abbrev pub context_for : {N : Type 0} → List sheet.Unit → N → Rule → Context N
+context_for units n rule = record { node = n; current = n; position = None; size = None; bindings = []; scope = scope_for units rule }
+
+-- whether a rule is a candidate that a node which is called so matches; each pattern is asked in the context of its rule
+abbrev pub is_chosen : {N : Type 0} → (N → N → Bool) → (Rule → Context N) → Option Expanded → Candidates → Rule → N → Answer N → Program N Bool
 is_chosen same c mode candidates rule n called =
-    if may_be_chosen mode candidates rule then matches_one same c rule.pattern.alternatives n called else Give false
+    if may_be_chosen mode candidates rule then matches_one same (c rule) rule.pattern.alternatives n called else Give false
 
 -- the number of the first such rule, where the next has this number
-abbrev pub first_that_matches : {N : Type 0} → (N → N → Bool) → Context N → Option Expanded → Candidates → ℕ → List Rule → N → Answer N → Program N (Option ℕ)
+abbrev pub first_that_matches : {N : Type 0} → (N → N → Bool) → (Rule → Context N) → Option Expanded → Candidates → ℕ → List Rule → N → Answer N → Program N (Option ℕ)
 first_that_matches same c mode candidates number [] n called = Give None
 first_that_matches same c mode candidates number (rule ∷ rules) n called =
     is_chosen same c mode candidates rule n called >>= λ b. if b
@@ -39,7 +49,7 @@ first_that_matches same c mode candidates number (rule ∷ rules) n called =
     else first_that_matches same c mode candidates (number + 1) rules n called
 
 -- what the node is called is asked once for all rules
-abbrev pub chosen : {N : Type 0} → (N → N → Bool) → Context N → N → Option Expanded → Candidates → List Rule → Program N (Option ℕ)
+abbrev pub chosen : {N : Type 0} → (N → N → Bool) → (Rule → Context N) → N → Option Expanded → Candidates → List Rule → Program N (Option ℕ)
 chosen same c n mode candidates rules = Ask (question.Name n) (λ called. first_that_matches same c mode candidates 0 rules n called)
 
 -- ---- That the first is the greatest
@@ -56,9 +66,9 @@ IsRanked [] = Unit {0}
 IsRanked (rule ∷ rules) = IsTrue (list_all (λ other. not (counts_more other rule)) rules) × IsRanked rules
 
 -- whether the pattern of a rule that may be chosen matches a node, where these are the answers
-abbrev pub CanBeChosen : {N : Type 0} → (N → N → Bool) → Context N → N → Option Expanded → Candidates → (Question N → Answer N) → Supply N → Rule → Type 0
+abbrev pub CanBeChosen : {N : Type 0} → (N → N → Bool) → (Rule → Context N) → N → Option Expanded → Candidates → (Question N → Answer N) → Supply N → Rule → Type 0
 CanBeChosen same c n mode candidates ask supply rule =
-    (may_be_chosen mode candidates rule ≡ true) × (outcome_of ask supply (matches same c rule.pattern n) ≡ Gives true)
+    (may_be_chosen mode candidates rule ≡ true) × (outcome_of ask supply (matches same (c rule) rule.pattern n) ≡ Gives true)
 
 -- of a rule and all rules: it is such a one, and no other such one counts for more
 abbrev pub IsGreatest : (Rule → Type 0) → List Rule → Rule → Type 0

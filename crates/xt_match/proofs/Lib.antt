@@ -1,3 +1,4 @@
 pub mod Together
 pub mod Views
 pub mod Turns
+pub mod Scopes

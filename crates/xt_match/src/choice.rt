@@ -1,18 +1,19 @@
 // The choice of a template rule (XSLT 1.0, sections 5.5 and 5.6).
-ghost use Rattle.std.specs.Prelude.{◌≡◌, map};
+ghost use Rattle.std.specs.Prelude.{◌≡◌, IfOk, map};
 ghost use Rattle.spec_meaning.specs.Supplies.{at_hand};
 ghost use Rattle.spec_transform.specs.Choice as definition;
 ghost use Rattle.xp_axes.specs.View.{same_ref};
-ghost use Rattle.xp_syntax.specs.SheetView.{rule_of, rules_of};
+ghost use Rattle.xp_syntax.specs.SheetView.{rule_of, rules_of, unit_of};
 ghost use Rattle.xt_ask.specs.View.{answer_of, candidates_of, context_of, supplies_of};
 ghost use Rattle.xt_ask.specs.Runs.{Runs, itself};
-ghost use Rattle.xt_ask.specs.declared.context.Focus as code;
+ghost use Rattle.xt_match.specs.Context.{IsContextOf};
 
 use crate::pattern::{ask_called, matches_one};
 use std::alloc::Global;
-use xp_syntax::{Rule, Rules};
-use xt_ask::{Answer, Candidates, Context, EvalFault, Evaluate, Supplies};
-use xt_names::Expanded;
+use xp_syntax::{Rule, Rules, Unit};
+use xt_ask::{Answer, Bindings, Candidates, Context, EvalFault, Evaluate, Supplies};
+use xt_names::{Expanded, Scope};
+use xt_text::Memory;
 use xt_tree::NodeRef;
 
 fn same_mode(mode: &Option<Expanded>, other: &Option<Expanded>) -> bool
@@ -40,24 +41,48 @@ fn may_be_chosen(mode: &Option<Expanded>, candidates: Candidates, rule: &Rule) -
     same_mode(mode, &rule.mode) && is_candidate(candidates, rule.precedence)
 }
 
+// The namespaces in scope at the template of a rule.
+fn scope_for(alloc: Global, units: &[Unit], rule: &Rule) -> Result<Scope, Memory>
+    ensures { IfOk result (λ scope. scope ≡ definition.scope_for (map unit_of units.now) (rule_of rule.now)) }
+{
+    match units.get(rule.unit as usize) {
+        Some(unit) => unit.site.scope.copy(),
+        None => Scope::root(alloc),
+    }
+}
+
+// Where the pattern of a rule stands.
+fn context_for(alloc: Global, units: &[Unit], rule: &Rule, node: NodeRef) -> Result<Context, Memory>
+    ensures { IfOk result (IsContextOf (map unit_of units.now) (rule_of rule.now) node) }
+{
+    let scope = scope_for(alloc, units, rule)?;
+    Ok(Context {
+        current: node,
+        bindings: Bindings::Empty,
+        scope,
+        depth: 0,
+    })
+}
+
 // Whether a rule is a candidate that a node which is called so matches.
 fn is_chosen<W: Evaluate>(
     alloc: Global,
     rule: &Rule,
+    units: &[Unit],
     node: NodeRef,
     called: &Answer,
     mode: &Option<Expanded>,
     candidates: Candidates,
-    context: &Context,
     supplies: &Supplies,
     world: &mut W,
 ) -> Result<bool, EvalFault>
-    ensures runs { (focus : code.Focus) → Runs itself (at_hand (supplies_of supplies.now) context.now.depth) context.now.depth (definition.is_chosen same_ref (context_of focus context.now) mode.now (candidates_of candidates) (rule_of rule.now) node (answer_of called.now)) (W.state world.old) (W.state world.new) result }
+    ensures runs { Runs itself (at_hand (supplies_of supplies.now) 0) 0 (definition.is_chosen same_ref (definition.context_for (map unit_of units.now) node) mode.now (candidates_of candidates) (rule_of rule.now) node (answer_of called.now)) (W.state world.old) (W.state world.new) result }
     ensures name { W.name world.new ≡ W.name world.old }
 {
     if may_be_chosen(mode, candidates, rule) {
+        let context = context_for(alloc, units, rule, node)?;
         let alternatives = rule.pattern.alternatives.as_slice();
-        matches_one(alloc, alternatives, node, called, context, supplies, world)
+        matches_one(alloc, alternatives, node, called, &context, supplies, world)
     } else {
         Ok(false)
     }
@@ -67,20 +92,20 @@ fn is_chosen<W: Evaluate>(
 fn first_that_matches<W: Evaluate>(
     alloc: Global,
     rules: &[Rule],
+    units: &[Unit],
     node: NodeRef,
     called: &Answer,
     mode: &Option<Expanded>,
     candidates: Candidates,
-    context: &Context,
     supplies: &Supplies,
     world: &mut W,
 ) -> Result<Option<u64>, EvalFault>
-    ensures runs { (focus : code.Focus) → Runs itself (at_hand (supplies_of supplies.now) context.now.depth) context.now.depth (definition.first_that_matches same_ref (context_of focus context.now) mode.now (candidates_of candidates) 0 (map rule_of rules.now) node (answer_of called.now)) (W.state world.old) (W.state world.new) result }
+    ensures runs { Runs itself (at_hand (supplies_of supplies.now) 0) 0 (definition.first_that_matches same_ref (definition.context_for (map unit_of units.now) node) mode.now (candidates_of candidates) 0 (map rule_of rules.now) node (answer_of called.now)) (W.state world.old) (W.state world.new) result }
     ensures name { W.name world.new ≡ W.name world.old }
 {
     for (number, rule) in rules.iter().enumerate() {
         let is_chosen = is_chosen(
-            alloc, rule, node, called, mode, candidates, context, supplies, world,
+            alloc, rule, units, node, called, mode, candidates, supplies, world,
         )?;
         if is_chosen {
             return Ok(Some(number as u64));
@@ -91,23 +116,25 @@ fn first_that_matches<W: Evaluate>(
 
 /// The number of the template rule for the node, among the candidates of the mode: of the first that matches,
 /// where the rules stand ranked, the greatest first. Without one it is a built-in rule (XSLT 1.0, section
-/// 5.8). An error is want of memory, or the first global that is needed and was not given for a content so deep.
+/// 5.8). The units are those of the stylesheet: a pattern is asked with the namespaces in scope at the template
+/// of its rule, and with the node as the current one. An error is want of memory, or the first global that is
+/// needed and was not given.
 pub fn choose<W: Evaluate>(
     alloc: Global,
     rules: &Rules,
+    units: &[Unit],
     node: NodeRef,
     mode: &Option<Expanded>,
     candidates: Candidates,
-    context: &Context,
     supplies: &Supplies,
     world: &mut W,
 ) -> Result<Option<u64>, EvalFault>
-    ensures runs { (focus : code.Focus) → Runs itself (at_hand (supplies_of supplies.now) context.now.depth) context.now.depth (definition.chosen same_ref (context_of focus context.now) node mode.now (candidates_of candidates) (rules_of rules.now).rules) (W.state world.old) (W.state world.new) result }
+    ensures runs { Runs itself (at_hand (supplies_of supplies.now) 0) 0 (definition.chosen same_ref (definition.context_for (map unit_of units.now) node) node mode.now (candidates_of candidates) (rules_of rules.now).rules) (W.state world.old) (W.state world.new) result }
     ensures name { W.name world.new ≡ W.name world.old }
 {
     let called = ask_called(world, node)?;
     let list = rules.rules.as_slice();
     first_that_matches(
-        alloc, list, node, &called, mode, candidates, context, supplies, world,
+        alloc, list, units, node, &called, mode, candidates, supplies, world,
     )
 }

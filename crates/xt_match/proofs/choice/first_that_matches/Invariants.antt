@@ -1,10 +1,9 @@
 use Rattle.std.proofs.Common.{◌≡◌, drop, map}
 use Rattle.spec_meaning.specs.Supplies.{at_hand}
-use Rattle.spec_transform.specs.Choice.{first_that_matches}
+use Rattle.spec_transform.specs.Choice.{context_for, first_that_matches}
 use Rattle.xp_axes.specs.View.{same_ref}
-use Rattle.xp_syntax.specs.SheetView.{rule_of}
-use Rattle.xt_ask.specs.declared.context.Focus.{Focus}
-use Rattle.xt_ask.specs.View.{answer_of, candidates_of, context_of, supplies_of}
+use Rattle.xp_syntax.specs.SheetView.{rule_of, unit_of}
+use Rattle.xt_ask.specs.View.{answer_of, candidates_of, supplies_of}
 use Rattle.xt_ask.specs.Runs.{Continues}
 use Rattle.xt_match.proofs.choice.first_that_matches.Given as goal
 
@@ -12,9 +11,9 @@ abbrev pub invariant-loop-number : goal.invariant-loop-number
 invariant-loop-number g l =
     let state = g.W.World.state in
     record {
-      same : (f : Focus) →
-          Continues (at_hand (supplies_of l.supplies) l.context.depth) l.context.depth
-          (first_that_matches same_ref (context_of f l.context) l.mode (candidates_of l.candidates) l.number (map rule_of (drop l.number l.rules)) l.node (answer_of l.called)) (state l.world)
-          (first_that_matches same_ref (context_of f l.context) l.mode (candidates_of l.candidates) 0 (map rule_of l.rules) l.node (answer_of l.called)) (state l.fn.world);
+      same :
+          Continues (at_hand (supplies_of l.supplies) 0) 0
+          (first_that_matches same_ref (context_for (map unit_of l.units) l.node) l.mode (candidates_of l.candidates) l.number (map rule_of (drop l.number l.rules)) l.node (answer_of l.called)) (state l.world)
+          (first_that_matches same_ref (context_for (map unit_of l.units) l.node) l.mode (candidates_of l.candidates) 0 (map rule_of l.rules) l.node (answer_of l.called)) (state l.fn.world);
       name : g.W.World.name l.world ≡ g.W.World.name l.fn.world;
     }
