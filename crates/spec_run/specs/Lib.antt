@@ -1,0 +1,14 @@
+pub mod Plan
+pub mod Direct
+pub mod Names
+pub mod Copy
+pub mod Content
+pub mod Meaning
+pub mod World
+pub mod NotYet
+pub mod Outcome
+pub mod Going
+pub mod Passes
+pub mod Hold
+pub mod Trail
+pub mod Cut

@@ -1,0 +1,78 @@
+-- What documents come to: the result of the stylesheet on the source with its output method and its messages, or why there is none, with the
+-- messages before it. Nothing but the documents bears on it: no number of a node, and nothing that was held before.
+use Rattle.std.specs.Prelude.{◌≡◌, ℕ, List, [], Option, None, Some, Result, Ok, Err}
+use Rattle.spec_document.specs.Name.{Expanded}
+use Rattle.spec_document.specs.Forest.{Plain, Document}
+use Rattle.spec_expression.specs.declared.code.Code.{Code}
+use Rattle.spec_expression.specs.declared.code.Code.TheVariants.{Static, Dynamic}
+use Rattle.spec_expression.specs.declared.code.StaticCode.TheVariants.{NoMain, NoSource}
+use Rattle.spec_stylesheet.specs.declared.method.Method.{Method}
+use Rattle.spec_stylesheet.specs.Place.{Place}
+use Rattle.spec_stylesheet.specs.Sheet.{Sheet}
+use Rattle.spec_structure.specs.Structure.{Fault}
+use Rattle.spec_structure.specs.Modules.{Modules}
+use Rattle.spec_compile.specs.Unit.{TopLevel}
+use Rattle.spec_compile.specs.Sheet as compile
+use Rattle.spec_compile.specs.Sheet.{earlier_of, fault_in, IsRead, refusal_at, IsSheet}
+use Rattle.spec_result.specs.Shape.{shaped}
+use Rattle.spec_transform.specs.Documents.{Documents, main_name}
+use Rattle.spec_run.specs.Plan.{Refused, nowhere}
+use Rattle.spec_run.specs.Meaning.{Whole, run_of}
+use Rattle.spec_run.specs.World.{setting_of}
+use Rattle.spec_run.specs.NotYet.{not_yet_of}
+
+-- a code, and the element where it stands; at none where the place has no module
+pub record Refusal : Type 0 where
+  pub code : Code
+  pub place : Place
+
+pub data Outcome : Type 0 where
+  Done : (result : Plain) → (method : Option (Method Expanded)) → (messages : List (List ℕ)) → Outcome
+  Failed : (why : Refusal) → (messages : List (List ℕ)) → Outcome
+
+-- ---- The stylesheet: what is not run yet is a fault of the first pass of the principal module, which is the first in reading order
+
+pub data IsStylesheet (modules : Modules) (main : List ℕ) (tree : Plain) : Result Sheet compile.Refusal → Type 0 where
+  faulty : {answer : Result (List TopLevel) Fault} {fault : Fault} → IsRead modules main answer
+      → earlier_of (fault_in answer) (not_yet_of 1 tree) ≡ Some fault → IsStylesheet modules main tree (Err (refusal_at main fault))
+  well : {answer : Result (List TopLevel) Fault} {result : Result Sheet compile.Refusal} → IsRead modules main answer
+      → earlier_of (fault_in answer) (not_yet_of 1 tree) ≡ None → IsSheet modules main result → IsStylesheet modules main tree result
+
+-- ---- The outcome
+
+abbrev pub document_of : Plain → Document (Unit {0})
+document_of nodes = record { root = tt; nodes = nodes }
+
+abbrev pub refused_static : compile.Refusal → Refusal
+refused_static why = record { code = Static why.code; place = why.place }
+
+abbrev pub refused_dynamic : Refused → Refusal
+refused_dynamic why = record { code = Dynamic why.code; place = why.place }
+
+abbrev pub outcome_by : Option (Method Expanded) → Whole → Outcome
+outcome_by method whole = elim whole.refusal [
+  | None ↦ Done (shaped whole.content) method whole.messages
+  | Some why ↦ Failed (refused_dynamic why) whole.messages
+]
+
+-- a static refusal has no messages
+abbrev pub outcome_of : Plain → Result Sheet compile.Refusal → Outcome
+outcome_of source (Err why) = Failed (refused_static why) []
+outcome_of source (Ok sheet) = outcome_by sheet.method (run_of (setting_of sheet (document_of source)))
+
+-- S01: there is no module `main`; S02: there is no source
+abbrev pub no_main : Refusal
+no_main = record { code = Static NoMain; place = nowhere }
+
+abbrev pub no_source : Refusal
+no_source = record { code = Static NoSource; place = nowhere }
+
+abbrev pub Comes : Modules → Option Plain → Option Plain → Outcome → Type 0
+Comes modules None source outcome = outcome ≡ Failed no_main []
+Comes modules (Some main) None outcome = outcome ≡ Failed no_source []
+Comes modules (Some main) (Some source) outcome =
+    (result : Result Sheet compile.Refusal) × IsStylesheet modules main_name main result × (outcome ≡ outcome_of source result)
+
+-- the documents have this outcome
+abbrev pub IsOutcome : Documents → Outcome → Type 0
+IsOutcome documents outcome = Comes documents.modules (documents.modules main_name) documents.source outcome

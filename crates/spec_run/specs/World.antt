@@ -1,0 +1,157 @@
+-- The true answers of a stylesheet and a source to all questions. The nodes of the source are named by a key of the reader's choice, and so
+-- are the elements of the stylesheet: by their places, or by their numbers.
+use Rattle.std.specs.Prelude.{ℕ, Bool, true, false, ◌&&◌, List, [], ◌∷◌, ◌++◌, Option, None, Some, slice_get, bytes_eq, if◌then◌else◌}
+use Rattle.std.specs.List.{find, flat_map}
+use Rattle.spec_document.specs.Name.{Expanded, same_name}
+use Rattle.spec_document.specs.Forest.{Document}
+use Rattle.spec_document.specs.Place as document
+use Rattle.spec_document.specs.Order.{Entry, entries_of, is_same_place}
+use Rattle.spec_stylesheet.specs.Place as stylesheet
+use Rattle.spec_stylesheet.specs.Instruction.{Form, without_content, with_content, control, Control, for_each, conditional, choose, apply_templates, call_template, Instrs, no_instrs, instr, Branches, no_branches, branch, Bindings, no_bindings, binding}
+use Rattle.spec_stylesheet.specs.Sheet as sheet
+use Rattle.spec_stylesheet.specs.Sheet.{Sheet, Rule}
+use Rattle.spec_meaning.specs.Question as question
+use Rattle.spec_meaning.specs.Question.{Question, Answer, Gone, SomeNodes, Copied, Resolved, Passed, Candidates, NamedTemplate}
+use Rattle.spec_meaning.specs.Program.{Supply, Said, Gives, outcome_of}
+use Rattle.spec_meaning.specs.Truth.{answer_by, entry_named, told_of}
+use Rattle.spec_transform.specs.Choice.{context_for, chosen}
+use Rattle.spec_run.specs.Copy.{copy_of}
+use Rattle.spec_run.specs.Meaning.{Setting}
+
+abbrev pub same_module : Option (List ℕ) → Option (List ℕ) → Bool
+same_module None None = true
+same_module (Some a) (Some b) = bytes_eq a b
+same_module _ _ = false
+
+abbrev pub same_element : stylesheet.Place → stylesheet.Place → Bool
+same_element a b = same_module a.module_name b.module_name && bytes_eq a.path b.path
+
+-- ---- Units, by their elements
+
+-- the templates that a content calls by name, with those of what stands in it
+abbrev mutual
+  pub called_in : Instrs → List Expanded
+  called_in no_instrs = []
+  called_in (instr site form is) = called_by form ++ called_in is
+
+  pub called_by : Form → List Expanded
+  called_by (without_content what) = []
+  called_by (with_content what is) = called_in is
+  called_by (control c) = called_under c
+
+  pub called_under : Control → List Expanded
+  called_under (for_each e keys is) = called_in is
+  called_under (conditional e is) = called_in is
+  called_under (choose bs) = called_in_branches bs
+  called_under (apply_templates s bs) = called_in_bindings bs
+  called_under (call_template name bs) = name ∷ called_in_bindings bs
+
+  pub called_in_branches : Branches → List Expanded
+  called_in_branches no_branches = []
+  called_in_branches (branch site test is more) = called_in is ++ called_in_branches more
+
+  pub called_in_bindings : Bindings → List Expanded
+  called_in_bindings no_bindings = []
+  called_in_bindings (binding site name select is more) = called_in is ++ called_in_bindings more
+
+abbrev pub called_in_unit : sheet.Declared → List Expanded
+called_in_unit (sheet.ATemplate t) = called_in_bindings t.parameters ++ called_in t.content
+called_in_unit (sheet.AGlobal g) = called_in g.binding.content
+called_in_unit (sheet.ASet s) = called_in s.attributes
+called_in_unit (sheet.AKey k) = []
+
+abbrev pub is_template : Expanded → sheet.Declared → Bool
+is_template name (sheet.ATemplate t) = elim t.name [ None ↦ false | Some other ↦ same_name other name ]
+is_template name _ = false
+
+abbrev pub is_global : Expanded → sheet.Declared → Bool
+is_global name (sheet.AGlobal g) = same_name g.binding.name name
+is_global name _ = false
+
+-- the element of the last unit that is such a one: units stand by precedence, so it is the one that counts
+abbrev pub last_element : (sheet.Declared → Bool) → Option stylesheet.Place → List sheet.Unit → Option stylesheet.Place
+last_element test found [] = found
+last_element test found (u ∷ us) = last_element test (if test u.declared then Some u.site.place else found) us
+
+abbrev pub template_by : {K : Type 0} → (stylesheet.Place → K) → Expanded → Option stylesheet.Place → List (NamedTemplate K)
+template_by named name None = []
+template_by named name (Some place) = record { name = name; element = named place } ∷ []
+
+abbrev pub templates_called : {K : Type 0} → (stylesheet.Place → K) → List sheet.Unit → List Expanded → List (NamedTemplate K)
+templates_called named units names = flat_map (λ name. template_by named name (last_element (is_template name) None units)) names
+
+abbrev pub is_element : stylesheet.Place → Option stylesheet.Place → Bool
+is_element place None = false
+is_element place (Some other) = same_element other place
+
+-- of the globals of one name the last counts
+abbrev pub counts : List sheet.Unit → sheet.Unit → Bool
+counts units u = elim u.declared [
+  | sheet.AGlobal g ↦ is_element u.site.place (last_element (is_global g.binding.name) None units)
+  | sheet.ATemplate t ↦ false
+  | sheet.ASet s ↦ false
+  | sheet.AKey k ↦ false
+]
+
+abbrev pub unit_by : {K : Type 0} → (stylesheet.Place → K) → List sheet.Unit → Option sheet.Unit → Answer K
+unit_by named units None = Gone
+unit_by named units (Some u) = Resolved (record { unit = u; templates = templates_called named units (called_in_unit u.declared); sets = []; counts = counts units u })
+
+abbrev pub unit_at : {K : Type 0} → (stylesheet.Place → K) → (K → K → Bool) → List sheet.Unit → K → Answer K
+unit_at named same units element = unit_by named units (find (λ u. same element (named u.site.place)) units)
+
+-- ---- Rules, by the elements of their templates
+
+abbrev pub nothing_at_hand : {K : Type 0} → Supply K
+nothing_at_hand wanted = None
+
+abbrev pub element_of_unit : {K : Type 0} → (stylesheet.Place → K) → Option sheet.Unit → List K
+element_of_unit named None = []
+element_of_unit named (Some u) = named u.site.place ∷ []
+
+abbrev pub element_of_rule : {K : Type 0} → (stylesheet.Place → K) → List sheet.Unit → Option Rule → List K
+element_of_rule named units None = []
+element_of_rule named units (Some rule) = element_of_unit named (slice_get units rule.unit)
+
+abbrev pub rule_by : {K : Type 0} → (stylesheet.Place → K) → Sheet → Said (Option ℕ) → Answer K
+rule_by named s (Gives (Some number)) = SomeNodes (element_of_rule named s.units (slice_get s.rules.rules number))
+rule_by named s _ = SomeNodes []
+
+-- the element of the template rule of a node, where these are the answers of the source; none where it is a built-in rule
+abbrev pub rule_at : {K : Type 0} → (stylesheet.Place → K) → (K → K → Bool) → Sheet → (Question K → Answer K) → K → Option Expanded → Candidates → Answer K
+rule_at named same s tree n mode candidates =
+    rule_by named s (outcome_of tree nothing_at_hand (chosen same (context_for s.units n) n mode candidates s.rules.rules))
+
+-- ---- All
+
+-- `key` names the nodes of the source by its entries, `named` the elements of the stylesheet by their places. Keys and parameters from
+-- outside do not run yet
+abbrev pub truth_by : {L K : Type 0} → (Entry L → K) → (K → K → Bool) → (stylesheet.Place → K) → Sheet → List (Entry L) → Question K → Answer K
+truth_by key same named s entries (question.Copy n) = told_of (λ e. Copied (copy_of e.item)) (entry_named key same entries n)
+truth_by key same named s entries (question.Choice n mode candidates) =
+    told_of (λ e. rule_at named same s (answer_by key same entries) n mode candidates) (entry_named key same entries n)
+truth_by key same named s entries (question.Unit element) = unit_at named same s.units element
+truth_by key same named s entries (question.Key name text) = SomeNodes []
+truth_by key same named s entries (question.External name) = Passed None
+truth_by key same named s entries q = answer_by key same entries q
+
+-- ---- By places
+
+pub data Node : Type 0 where
+  InSource : (place : document.Place) → Node
+  InModule : (element : stylesheet.Place) → Node
+
+abbrev pub same_node : Node → Node → Bool
+same_node (InSource p) (InSource q) = is_same_place p q
+same_node (InModule a) (InModule b) = same_element a b
+same_node _ _ = false
+
+abbrev pub truth_at_places : {L : Type 0} → Sheet → Document L → Question Node → Answer Node
+truth_at_places s document = truth_by (λ e. InSource e.place) same_node InModule s (entries_of document)
+
+abbrev pub root_place : document.Place
+root_place = record { positions = []; ending = document.Itself }
+
+-- globals do not run yet
+abbrev pub setting_of : {L : Type 0} → Sheet → Document L → Setting Node
+setting_of s document = record { ask = truth_at_places s document; root = InSource root_place; globals = [] }
