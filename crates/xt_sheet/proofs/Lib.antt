@@ -1,3 +1,3 @@
 pub mod Labels
 pub mod Siblings
-pub mod Words
+pub mod WordLists

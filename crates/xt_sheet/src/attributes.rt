@@ -18,8 +18,8 @@ use xt_names::{Scope, XSLT_URI};
 use xt_text::{Memory, Text};
 use xt_tree::Written;
 
-// What the value of the attribute of this name is. None exactly where no row has it.
-fn kind_named(rows: &[Row], local: &str) -> Option<ValueKind>
+/// What the value of the attribute of this name is. None exactly where no row has it.
+pub fn kind_named(rows: &[Row], local: &str) -> Option<ValueKind>
     ensures { result ≡ spec.kind_named (chars local.now) (map row_of rows.now) }
 {
     for row in rows {

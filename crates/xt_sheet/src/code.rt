@@ -305,8 +305,8 @@ fn content_by_name(element: Option<XsltElement>) -> Option<ContentKind>
     }
 }
 
-/// What may stand after an element.
-pub(crate) fn after_role(kind: ContentKind, role: &Role<'_>) -> ContentKind
+/// What may stand after an element. Takes no memory.
+pub fn after_role(kind: ContentKind, role: &Role<'_>) -> ContentKind
     ensures { result ≡ spec.after_role kind (role_in role.now) }
 {
     match role {

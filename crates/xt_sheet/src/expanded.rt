@@ -16,7 +16,7 @@ use xt_tree::Written;
 
 /// An expanded name: the URI of its namespace, empty for none, and a local part.
 #[derive(Drop)]
-pub(crate) struct Meaning<'a> {
+pub struct Meaning<'a> {
     uri: &'a str,
     local: &'a str,
 }
@@ -32,21 +32,21 @@ impl<'a> Model for Meaning<'a> {
 
 impl<'a> Meaning<'a> {
     /// The URI of its namespace, empty for none.
-    pub(crate) fn uri(&self) -> &'a str
+    pub fn uri(&self) -> &'a str
         ensures { chars result.now ≡ self.now.uri }
     {
         self.uri
     }
 
     /// The local part.
-    pub(crate) fn local(&self) -> &'a str
+    pub fn local(&self) -> &'a str
         ensures { chars result.now ≡ self.now.local }
     {
         self.local
     }
 
     /// Whether it is in this namespace.
-    pub(crate) fn is_of(&self, uri: &str) -> bool
+    pub fn is_of(&self, uri: &str) -> bool
         ensures { result ≡ bytes_eq self.now.uri (chars uri.now) }
     {
         same(self.uri(), uri)
@@ -138,8 +138,9 @@ fn meaning_in<'a>(scope: &'a Scope, name: &'a str) -> Option<Meaning<'a>>
     }
 }
 
-/// What the name of the attribute means. None where it is a declaration.
-pub(crate) fn expanded_of<'a>(scope: &'a Scope, attribute: &'a Written) -> Option<Meaning<'a>>
+/// What the name of the attribute means. None where it is a declaration, where its name is no QName, and where the
+/// prefix of that is not declared. Takes no memory.
+pub fn expanded_of<'a>(scope: &'a Scope, attribute: &'a Written) -> Option<Meaning<'a>>
     ensures { result ≡ spec.expanded_of scope.now (written_of attribute.now) }
 {
     if is_declaration(attribute.name.as_str()) {

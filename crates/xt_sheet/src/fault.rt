@@ -25,8 +25,8 @@ pub(crate) fn top(alloc: Global, position: u64) -> Result<Path, Memory>
     Ok(path)
 }
 
-/// The path of a child at this position.
-pub(crate) fn below(alloc: Global, path: &Path, position: u64) -> Result<Path, Memory>
+/// The path of a child at this position. Want of memory alone is an error.
+pub fn below(alloc: Global, path: &Path, position: u64) -> Result<Path, Memory>
     ensures { IfOk result (λ child. child ≡ path.now ++ position ∷ []) }
 {
     let mut child = path.copy(alloc)?;

@@ -66,7 +66,7 @@ fn inside_with(
 {
     let preserves = preserves_within(&scope, outer.preserves, attributes);
     let mut extensions = copies(alloc, outer.extensions.as_slice())?;
-    push_extensions(
+    push_uris(
         alloc,
         &mut extensions,
         &scope,
@@ -115,8 +115,8 @@ fn preserves_by(before: bool, value: &Text) -> bool
     if value.is("default") { false } else { before }
 }
 
-// The texts, in memory of their own.
-fn copies(alloc: Global, texts: &[Text]) -> Result<Vec<Text>, Memory>
+/// The texts, in memory of their own. Want of memory alone is an error.
+pub fn copies(alloc: Global, texts: &[Text]) -> Result<Vec<Text>, Memory>
     ensures { IfOk result (λ list. list.items ≡ texts.now) }
 {
     let mut list = Vec::new(alloc);
@@ -166,20 +166,20 @@ fn is_xslt(name: &Meaning<'_>) -> bool
     name.is_of(XSLT_URI)
 }
 
-// Adds the URIs of the prefixes in the list.
-fn push_extensions(
+/// Adds the URIs that the prefixes in the list stand for in this scope. Want of memory alone is an error.
+pub fn push_uris(
     alloc: Global,
-    extensions: &mut Vec<Text>,
+    uris: &mut Vec<Text>,
     scope: &Scope,
     list: Option<&Text>,
 ) -> Result<(), Memory>
-    ensures { OnOk result (extensions.new.items ≡ extensions.old.items ++ spec.uris_in scope.now (option_copied list.entry)) }
+    ensures { OnOk result (uris.new.items ≡ uris.old.items ++ spec.uris_in scope.now (option_copied list.entry)) }
 {
     match list {
         None => Ok(()),
         Some(list) => {
             let prefixes = words(alloc, list.as_str())?;
-            push_all(alloc, extensions, scope, prefixes.as_slice())
+            push_all(alloc, uris, scope, prefixes.as_slice())
         }
     }
 }

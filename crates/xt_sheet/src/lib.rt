@@ -21,10 +21,11 @@ mod text;
 mod values;
 mod walk;
 
-pub use code::is_left;
-pub use expanded::value_of;
-pub use fault::Fault;
-pub use inside::{Inside, Role, inside_of, role_of};
+pub use attributes::kind_named;
+pub use code::{after_role, is_left};
+pub use expanded::{Meaning, expanded_of, value_of};
+pub use fault::{Fault, below};
+pub use inside::{Inside, Role, copies, inside_of, push_uris, role_of};
 pub use links::Link;
 pub use module::{Module, check};
 pub use names::element_named;
@@ -32,3 +33,4 @@ pub use table::{
     Row, after_element, after_other, allows, content_of, is_instruction, is_top, is_top_level,
     literal_rows, rows_of, takes_literals, takes_text,
 };
+pub use text::{is_among, is_white, words};

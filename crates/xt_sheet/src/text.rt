@@ -16,8 +16,8 @@ pub(crate) fn same(text: &str, other: &str) -> bool
     text == other
 }
 
-/// Whether it is white space.
-pub(crate) fn is_white(text: &Text) -> bool
+/// Whether it is white space. Takes no memory.
+pub fn is_white(text: &Text) -> bool
     ensures { result ≡ is_white text.now }
 {
     text.as_str().chars().all(|c| is_space(c))
@@ -35,8 +35,8 @@ pub(crate) fn is_one_of(text: &str, words: &[&str]) -> bool
     false
 }
 
-/// Whether it is one of these texts.
-pub(crate) fn is_among(text: &str, texts: &[Text]) -> bool
+/// Whether it is one of these texts. Takes no memory.
+pub fn is_among(text: &str, texts: &[Text]) -> bool
     ensures { result ≡ list_any (bytes_eq (chars text.now)) texts.now }
 {
     for other in texts {
@@ -47,8 +47,8 @@ pub(crate) fn is_among(text: &str, texts: &[Text]) -> bool
     false
 }
 
-/// The words of the text, which white space parts.
-pub(crate) fn words(alloc: Global, text: &str) -> Result<Vec<Text>, Memory>
+/// The words of the text, which white space parts. Want of memory alone is an error.
+pub fn words(alloc: Global, text: &str) -> Result<Vec<Text>, Memory>
     ensures { IfOk result (λ list. list.items ≡ spec.words (chars text.now)) }
 {
     let mut list = Vec::new(alloc);

@@ -3,7 +3,7 @@ use Rattle.std.specs.Str.{chars}
 use Rattle.std.proofs.lemmas.Iterator.{YieldsList-from_chars}
 use Rattle.std.proofs.lemmas.Iterator.Consumers.{YieldsList-turn, YieldsList-end}
 use Rattle.std.proofs.lemmas.List.{length_push}
-use Rattle.xt_sheet.proofs.Words.{words_begin, words_space, words_more, words_end}
+use Rattle.xt_sheet.proofs.WordLists.{words_begin, words_space, words_more, words_end}
 use Rattle.xt_sheet.proofs.text.words.Goals as goal
 
 pub loop-character-init : goal.loop-character-init

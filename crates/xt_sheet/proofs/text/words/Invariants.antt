@@ -1,7 +1,7 @@
 use Rattle.std.proofs.Common.{◌≡◌, ◌++◌, length, drop}
 use Rattle.std.specs.Str.{chars}
 use Rattle.spec_expression.specs.Strings.{words}
-use Rattle.xt_sheet.proofs.Words.{words_after}
+use Rattle.xt_sheet.proofs.WordLists.{words_after}
 use Rattle.xt_sheet.proofs.text.words.Given as goal
 
 abbrev pub invariant-loop-character : goal.invariant-loop-character
