@@ -1,6 +1,13 @@
+pub mod Fitting
+pub mod Gathering
 pub mod Keys
+pub mod Levels
 pub mod Links
+pub mod Names
+pub mod Ordering
 pub mod Reading
 pub mod Reaching
 pub mod Standing
 pub mod Unread
+pub mod Rows
+pub mod Certified

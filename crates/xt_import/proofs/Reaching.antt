@@ -23,6 +23,10 @@ last_is x name done h f =
 its_links : (modules : Modules) (name : List ℕ) (tree : Plain) → modules name ≡ Some tree → links_in modules name ≡ links_of 1 tree
 its_links modules name tree f = ap links_by f
 
+split : (P : Type 0) (b : Bool) → (b ≡ true → P) → (b ≡ false → P) → P
+split P true f g = f refl
+split P false f g = g refl
+
 -- ---- What is read is reached
 
 record Leads (modules : Modules) (ls : List Link) (x : List ℕ) : Type 0 where
@@ -61,6 +65,23 @@ mutual
   sound_links {modules} (link {between = between} {l = l} {ls = ls} r rs) x a d =
       in_links modules l ls between x (λ h. sound r x h d) (λ h. sound_links rs x a h)
 
+-- ---- What is read is a module
+
+mutual
+  pub there : {modules : Modules} {done after : List (List ℕ)} {name : List ℕ} → Reads modules done name after → (x : List ℕ)
+      → is_among x after ≡ true → is_among x done ≡ false → IsSome (modules x)
+  there (read_already e) x a d = absurd (cc)
+  there (not_there e f) x a d = absurd (cc)
+  there {modules} {done} {after} {name} (reads tree e f rs) x a d =
+      split (IsSome (modules x)) (is_among x (done ++ name ∷ []))
+      (λ h. subst (λ (y : List ℕ). IsSome (modules y)) (sym (last_is x name done h d)) (ap is_some f)) (λ h. there_links rs x a h)
+
+  there_links : {modules : Modules} {done after : List (List ℕ)} {ls : List Link} → ReadsLinks modules done ls after → (x : List ℕ)
+      → is_among x after ≡ true → is_among x done ≡ false → IsSome (modules x)
+  there_links no_link x a d = absurd (cc)
+  there_links {modules} (link {between = between} r rs) x a d =
+      split (IsSome (modules x)) (is_among x between) (λ h. there r x h d) (λ h. there_links rs x a h)
+
 -- ---- What is reached is read
 
 mutual
@@ -75,13 +96,23 @@ mutual
   keeps_links no_link x d = d
   keeps_links (link r rs) x d = keeps_links rs x (keeps r x d)
 
+no_tree : (o : Option Plain) → is_some o ≡ false → o ≡ None
+no_tree None e = refl
+no_tree (Some tree) e = absurd (cc)
+
 lands : {modules : Modules} {done after : List (List ℕ)} {name : List ℕ} → Reads modules done name after → IsSome (modules name)
     → is_among name after ≡ true
 lands (read_already e) s = e
 lands (not_there e f) s = let g = sym (ap is_some f) ∙ s in absurd (cc)
 lands {modules} {done} {after} {name} (reads tree e f rs) s = keeps_links rs name (added name name done (is_equal name name refl))
 
-member : (P : Link → Type 0) (l0 : Link) (ls : List Link) (l : Link) → Contains (l0 ∷ ls) l → P l0 → (Contains ls l → P l) → P l
+-- a module that was not read where it was sought first is none
+pub not_read : {modules : Modules} {name : List ℕ} {names : List (List ℕ)} → Reads modules [] name names → is_among name names ≡ false
+    → modules name ≡ None
+not_read {modules} {name} {names} o h =
+    split (modules name ≡ None) (is_some (modules name)) (λ s. let e = lands o s in absurd (cc)) (λ n. no_tree (modules name) n)
+
+pub member : (P : Link → Type 0) (l0 : Link) (ls : List Link) (l : Link) → Contains (l0 ∷ ls) l → P l0 → (Contains ls l → P l) → P l
 member P l0 ls l c p more = at (Contains-append_cases (l0 ∷ []) ls l c)
   where
     only : Contains [] l ⊎ (l0 ≡ l) → P l
@@ -92,7 +123,7 @@ member P l0 ls l c p more = at (Contains-append_cases (l0 ∷ []) ls l c)
     at (inl a) = only (Contains-push_cases [] l0 l a)
     at (inr b) = more b
 
-no_member : (l : Link) → Contains [] l → ⊥
+pub no_member : (l : Link) → Contains [] l → ⊥
 no_member l (k, below, e) = absurd (omega (arith, below))
 
 lands_among : {modules : Modules} {done after : List (List ℕ)} {ls : List Link} → ReadsLinks modules done ls after → (l : Link) → Contains ls l
@@ -102,12 +133,8 @@ lands_among {modules} {done} {after} (link {l = l0} {ls = ls} r rs) l c s =
     member (λ (k : Link). IsSome (modules k.href) → is_among k.href after ≡ true) l0 ls l c (λ t. keeps_links rs l0.href (lands r t))
     (λ d t. lands_among rs l d t) s
 
-split : (P : Type 0) (b : Bool) → (b ≡ true → P) → (b ≡ false → P) → P
-split P true f g = f refl
-split P false f g = g refl
-
 mutual
-  closed : {modules : Modules} {done after : List (List ℕ)} {name : List ℕ} → Reads modules done name after → (x : List ℕ)
+  pub closed : {modules : Modules} {done after : List (List ℕ)} {name : List ℕ} → Reads modules done name after → (x : List ℕ)
       → is_among x after ≡ true → is_among x done ≡ false → (l : Link) → Contains (links_in modules x) l → IsSome (modules l.href)
       → is_among l.href after ≡ true
   closed (read_already e) x a d l c s = absurd (cc)
@@ -129,7 +156,7 @@ none_linked : (o : Option Plain) (l : Link) → Contains (links_by o) l → IsSo
 none_linked None l c = absurd (no_member l c)
 none_linked (Some tree) l c = refl
 
-is_module : {modules : Modules} {a b : List ℕ} → Reaches modules a b → IsSome (modules b) → IsSome (modules a)
+pub is_module : {modules : Modules} {a b : List ℕ} → Reaches modules a b → IsSome (modules b) → IsSome (modules a)
 is_module itself s = s
 is_module {modules} {a} {b} (through l c r) s = none_linked (modules a) l c
 

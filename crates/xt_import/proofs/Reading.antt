@@ -53,3 +53,10 @@ pub ends : {modules : Modules} {main : List ℕ} {names pending : List (List ℕ
     → Reads modules [] main names
 ends {modules} {main} {names} {pending} p goes =
     single (goes names (subst (λ (xs : List (List ℕ)). ReadsAll modules names xs names) (sym (ap reverse p)) none_left))
+
+-- and at its begin
+pub begins : {modules : Modules} {main : List ℕ} {names pending : List (List ℕ)} → names ≡ [] → pending ≡ main ∷ []
+    → GoesOn modules names (reverse pending) [] (main ∷ [])
+begins {modules} {main} {names} {pending} n p after r =
+    subst (λ (done : List (List ℕ)). ReadsAll modules done (main ∷ []) after) n
+    (subst (λ (xs : List (List ℕ)). ReadsAll modules names xs after) (ap reverse p) r)

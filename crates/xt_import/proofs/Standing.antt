@@ -1,16 +1,18 @@
 -- Codes at links.
-use Rattle.std.proofs.Common.{◌≡◌, ◌<◌, ◌≤◌, ◌+◌, ℕ, Bool, true, false, List, ◌∷◌, length, drop, get_or, IsSome, is_some, Option, None, Some, Result, Ok, Err, IfOk, refl, sym, ap, subst, ◌∙◌}
+use Rattle.std.proofs.Common.{◌≡◌, ◌<◌, ◌≤◌, ◌+◌, ℕ, zero, suc, Bool, true, false, List, [], ◌∷◌, length, drop, get_or, is_some, Option, None, Some, refl, sym, ap, subst, ◌∙◌, arith}
 use Rattle.std.proofs.lemmas.List.{drop_all, drop_more}
+use Rattle.std.proofs.lemmas.List.Elements.{Contains-append_left, Contains-append_right, Contains-push}
 use Rattle.std.specs.Bool.{Decides}
+use Rattle.std.specs.List.{Contains}
 use Rattle.std.specs.Option.{option_map, option_copied}
 use Rattle.spec_document.specs.Forest.{Plain}
 use Rattle.spec_expression.specs.declared.code.StaticCode.{StaticCode}
 use Rattle.spec_structure.specs.Modules as spec
 use Rattle.spec_structure.specs.Modules.{Modules, Reaches, HasCode, FirstFault, no_fault, later, first}
-use Rattle.spec_structure.specs.Structure.{Fault, Link, links_of}
-use Rattle.xt_sheet.specs.declared.fault.Fault as found
+use Rattle.spec_structure.specs.Structure.{Fault, Link}
 use Rattle.xt_sheet.specs.declared.links.Link as sheet
-use Rattle.xt_sheet.specs.View.{faults_in, link_in, links_in}
+use Rattle.xt_sheet.specs.View.{link_in, links_in}
+use Rattle.xt_import.specs.Table.{LeadsBack}
 use denote.Ref.{Bor}
 
 pub same_there : {X Y : Type 0} (f : X → Y) (r : Option (Bor X)) (o : Option X) → option_copied r ≡ o → is_some r ≡ is_some (option_map f o)
@@ -24,6 +26,21 @@ none_there (Some x) e = absurd (cc)
 clear : (o : Option Plain) (R : Type 0) → is_some o ≡ true → (R → ⊥) → (tree : Plain) × (o ≡ Some tree) × (R → ⊥)
 clear None R e n = absurd (cc)
 clear (Some tree) R e n = (tree, refl, n)
+
+-- a link where it is certain that none leads back
+pub never_back : (modules : Modules) (name : List ℕ) (l : Link) → is_some (modules l.href) ≡ true → (LeadsBack modules name l → ⊥)
+    → HasCode modules name l None
+never_back modules name l h n = clear (modules l.href) (Reaches modules l.href name) h (λ r. n (h, r))
+
+-- the link at a place is one of them
+pub stands_among : (links : List sheet.Link) (i : ℕ) (item : sheet.Link) → i < length links → item ≡ get_or links i item
+    → Contains (links_in links) (link_in item)
+stands_among [] i item h is = absurd (omega (arith, h))
+stands_among (l ∷ ls) zero item h is =
+    subst (λ (x : sheet.Link). Contains (links_in (l ∷ ls)) (link_in x)) (sym is)
+    (Contains-append_left (link_in l ∷ []) (links_in ls) (link_in l) (Contains-push [] (link_in l)))
+stands_among (l ∷ ls) (suc i) item h is =
+    Contains-append_right (link_in l ∷ []) (links_in ls) (link_in item) (stands_among ls i item (omega (arith, h)) is)
 
 pub no_code : (modules : Modules) (name : List ℕ) (l : Link) (leads : Bool) → is_some (modules l.href) ≡ true → leads ≡ false
     → Decides leads (Reaches modules l.href name) → HasCode modules name l None
@@ -58,11 +75,3 @@ stops modules name links i item c path h is some same =
 
 pub no_module : (modules : Modules) (name : List ℕ) → modules name ≡ None → FirstFault modules name (spec.links_in modules name) None
 no_module modules name e = subst (λ (o : Option Plain). FirstFault modules name (spec.links_by o) None) (sym e) no_fault
-
-pub its_fault : {E : Type 0} (modules : Modules) (name : List ℕ) (tree : Plain) (links items : List sheet.Link) (r : Result (Option found.Fault) E)
-    → modules name ≡ Some tree → links ≡ items → links_in items ≡ links_of 1 tree
-    → IfOk r (λ fault. IsSome (modules name) → FirstFault modules name (links_in links) (faults_in fault))
-    → IfOk r (λ fault. FirstFault modules name (spec.links_in modules name) (faults_in fault))
-its_fault modules name tree links items (Ok fault) e f g h =
-    subst (λ (ls : List Link). FirstFault modules name ls (faults_in fault)) (ap links_in f ∙ g ∙ sym (ap spec.links_by e)) (h (ap is_some e))
-its_fault modules name tree links items (Err why) e f g h = tt

@@ -1,22 +1,25 @@
 // The names that lead to no module, or back to their own.
-ghost use Rattle.std.specs.Prelude.{◌≡◌, IfOk, IsSome, is_some};
+ghost use Rattle.std.specs.Prelude.{◌≡◌, IfOk, IsSome, is_some, map, true};
 ghost use Rattle.std.specs.Bool.{Decides};
 ghost use Rattle.spec_structure.specs.Modules as spec;
+ghost use Rattle.xt_import.specs.Table.{HasNumbers, LeadsBack, NoneLeadsBack, lists_of, names_of};
 ghost use Rattle.xt_import.specs.View.{modules_in};
 ghost use Rattle.xt_sheet.specs.View.{faults_in, link_in, links_in};
 
-use crate::order::{is_among, reading_order};
+use crate::numbers::is_acyclic;
+use crate::order::{is_among, link_table, reading_order};
+use crate::table::LinkTable;
 use indexmap::IndexMap;
 use spec_expression::StaticCode;
 use std::alloc::Global;
-use xt_sheet::{Fault, Link, check};
+use xt_sheet::{Fault, Link};
 use xt_text::{Memory, Text};
 use xt_tree::Doc;
 
 /// The first xsl:import or xsl:include element of the module of this name, in document order, that has a fault: S03
 /// where no module has the name that stands there, S04 where the module of that name is this one or leads to it. None
-/// where no link has a fault, or where there is no module of this name. The modules that a link leads to are read for
-/// each link anew.
+/// where no link has a fault, or where there is no module of this name. What a link leads to is read for it anew only
+/// where some module that is reached leads back to itself.
 pub fn link_fault(
     alloc: Global,
     modules: &IndexMap<String, Doc>,
@@ -24,26 +27,45 @@ pub fn link_fault(
 ) -> Result<Option<Fault>, Memory>
     ensures { IfOk result (λ fault. spec.FirstFault (modules_in modules.now.entries) name.now (spec.links_in (modules_in modules.now.entries) name.now) (faults_in fault)) }
 {
-    match modules.get(name.as_str()) {
+    let table = link_table(alloc, modules, name.as_str())?;
+    let acyclic = is_acyclic(alloc, &table)?;
+    fault_by(alloc, modules, &table, name, acyclic)
+}
+
+// The fault of the module of this name by the table of all that it leads to.
+fn fault_by(
+    alloc: Global,
+    modules: &IndexMap<String, Doc>,
+    table: &LinkTable,
+    name: &Text,
+    acyclic: bool,
+) -> Result<Option<Fault>, Memory>
+    ensures { IfOk result (λ fault. spec.AreInReadingOrder (modules_in modules.now.entries) name.now (names_of table.now.entries)
+        → lists_of table.now.entries ≡ map (spec.links_in (modules_in modules.now.entries)) (names_of table.now.entries)
+        → (acyclic ≡ true → HasNumbers table.now.entries)
+        → spec.FirstFault (modules_in modules.now.entries) name.now (spec.links_in (modules_in modules.now.entries) name.now) (faults_in fault)) }
+{
+    match table.get(name.as_str()) {
         None => Ok(None),
-        Some(document) => {
-            let module = check(alloc, document)?;
-            first_fault(alloc, modules, name, module.links.as_slice())
-        }
+        Some(links) => first_fault(alloc, modules, name, links.as_slice(), acyclic),
     }
 }
 
-// The first fault of these links of the module of this name, wherever there is one.
-fn first_fault(
+/// The first fault of these links of the module of this name, wherever there is one. Where it is certain that none of
+/// them leads back to it, that is not looked for.
+pub(crate) fn first_fault(
     alloc: Global,
     modules: &IndexMap<String, Doc>,
     name: &Text,
     links: &[Link],
+    acyclic: bool,
 ) -> Result<Option<Fault>, Memory>
-    ensures { IfOk result (λ fault. IsSome (modules_in modules.now.entries name.now) → spec.FirstFault (modules_in modules.now.entries) name.now (links_in links.now) (faults_in fault)) }
+    ensures { IfOk result (λ fault. IsSome (modules_in modules.now.entries name.now)
+        → (acyclic ≡ true → NoneLeadsBack (modules_in modules.now.entries) name.now (links_in links.now))
+        → spec.FirstFault (modules_in modules.now.entries) name.now (links_in links.now) (faults_in fault)) }
 {
     for link in links {
-        match link_code(alloc, modules, name, link)? {
+        match link_code(alloc, modules, name, link, acyclic)? {
             None => {}
             Some(code) => {
                 let path = link.path.copy(alloc)?;
@@ -60,11 +82,17 @@ fn link_code(
     modules: &IndexMap<String, Doc>,
     name: &Text,
     link: &Link,
+    acyclic: bool,
 ) -> Result<Option<StaticCode>, Memory>
-    ensures { IfOk result (λ code. IsSome (modules_in modules.now.entries name.now) → spec.HasCode (modules_in modules.now.entries) name.now (link_in link.now) code) }
+    ensures { IfOk result (λ code. IsSome (modules_in modules.now.entries name.now)
+        → (acyclic ≡ true → LeadsBack (modules_in modules.now.entries) name.now (link_in link.now) → ⊥)
+        → spec.HasCode (modules_in modules.now.entries) name.now (link_in link.now) code) }
 {
     if !is_held(modules, &link.href) {
         return Ok(Some(StaticCode::NoSuchModule));
+    }
+    if acyclic {
+        return Ok(None);
     }
     if leads_to(alloc, modules, &link.href, name)? {
         return Ok(Some(StaticCode::ImportCycle));

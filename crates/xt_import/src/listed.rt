@@ -3,14 +3,18 @@ ghost use Rattle.std.specs.Prelude.{◌≡◌, IfOk};
 ghost use Rattle.std.specs.List.{All};
 ghost use Rattle.std.specs.Str.{chars};
 ghost use Rattle.spec_structure.specs.Modules as spec;
+ghost use Rattle.xt_import.specs.Table.{AreKnown, IsKnown, names_of};
 ghost use Rattle.xt_import.specs.Tree.{IsJudged, names_in};
 ghost use Rattle.xt_import.specs.View.{modules_in};
+ghost use Rattle.xt_sheet.specs.View.{links_in};
 
-use crate::fault::link_fault;
-use crate::order::reading_order;
+use crate::fault::first_fault;
+use crate::numbers::is_acyclic;
+use crate::order::link_table;
+use crate::table::LinkTable;
 use indexmap::IndexMap;
 use std::alloc::Global;
-use xt_sheet::Fault;
+use xt_sheet::{Fault, Link};
 use xt_text::{Memory, Text};
 use xt_tree::Doc;
 
@@ -41,23 +45,27 @@ pub fn tree(
     ensures names { IfOk result (λ tree. spec.AreInReadingOrder (modules_in modules.now.entries) (chars main.now) (names_in tree.modules.items)) }
     ensures link_faults { IfOk result (λ tree. All (IsJudged (modules_in modules.now.entries)) tree.modules.items) }
 {
-    let names = reading_order(alloc, modules, main)?;
-    let listed = judged(alloc, modules, names.as_slice())?;
+    let table = link_table(alloc, modules, main)?;
+    let acyclic = is_acyclic(alloc, &table)?;
+    let listed = judged(alloc, modules, &table, acyclic)?;
     Ok(ImportTree { modules: listed })
 }
 
-// The modules of these names with the faults of their links.
+// The modules of this table with the faults of their links.
 fn judged(
     alloc: Global,
     modules: &IndexMap<String, Doc>,
-    names: &[Text],
+    table: &LinkTable,
+    acyclic: bool,
 ) -> Result<Vec<ListedModule>, Memory>
-    ensures names { IfOk result (λ listed. names_in listed.items ≡ names.now) }
-    ensures link_faults { IfOk result (λ listed. All (IsJudged (modules_in modules.now.entries)) listed.items) }
+    ensures names { IfOk result (λ listed. names_in listed.items ≡ names_of table.now.entries) }
+    ensures link_faults { IfOk result (λ listed. AreKnown (modules_in modules.now.entries) acyclic table.now.entries
+        → All (IsJudged (modules_in modules.now.entries)) listed.items) }
 {
     let mut listed = Vec::new(alloc);
-    for name in names {
-        listed.push(judged_module(alloc, modules, name)?)?;
+    for (name, links) in table {
+        let name = Text::from_str(alloc, name.as_str())?;
+        listed.push(judged_module(alloc, modules, name, links.as_slice(), acyclic)?)?;
     }
     Ok(listed)
 }
@@ -65,12 +73,14 @@ fn judged(
 fn judged_module(
     alloc: Global,
     modules: &IndexMap<String, Doc>,
-    name: &Text,
+    name: Text,
+    links: &[Link],
+    acyclic: bool,
 ) -> Result<ListedModule, Memory>
-    ensures name { IfOk result (λ listed. listed.name ≡ name.now) }
-    ensures link_fault { IfOk result (λ listed. IsJudged (modules_in modules.now.entries) listed) }
+    ensures name { IfOk result (λ listed. listed.name ≡ name) }
+    ensures link_fault { IfOk result (λ listed. IsKnown (modules_in modules.now.entries) acyclic name (links_in links.now)
+        → IsJudged (modules_in modules.now.entries) listed) }
 {
-    let link_fault = link_fault(alloc, modules, name)?;
-    let name = name.copy(alloc)?;
+    let link_fault = first_fault(alloc, modules, &name, links, acyclic)?;
     Ok(ListedModule { name, link_fault })
 }

@@ -1,0 +1,9 @@
+-- How far a walk has still to go.
+use Rattle.std.specs.Prelude.{ℕ, ◌+◌, length, Option, None, Some}
+use Rattle.std.specs.declared.alloc.Global.{Global}
+use Rattle.std.specs.declared.vec.Vec.{Vec}
+
+-- to enter each module that a module leads to, and to leave it
+abbrev pub links_left : Option (Vec ℕ Global) → ℕ
+links_left None = 0
+links_left (Some places) = length places.items + 1
