@@ -1,0 +1,9 @@
+mod Tests
+mod Parts
+mod Taking
+mod Counts
+mod Rest
+mod Digits
+mod Pieces
+mod Patterns
+mod Uris

@@ -1,0 +1,13 @@
+use Rattle.std.proofs.Common.{◌∙◌, ◌+◌, drop, map, ap, arith}
+use Rattle.spec_compile.specs.Value.{each, test_of}
+use Rattle.xp_syntax.specs.View as view
+use Rattle.xt_attributes.specs.Gathering.{appended, gathered_in, seen, seen-part}
+use Rattle.xt_attributes.proofs.Parts.{next_part}
+use Rattle.xt_attributes.proofs.names.tests_of.Goals as goal
+
+pub loop-word-preserved : goal.loop-word-preserved
+loop-word-preserved c =
+    ap (λ so_far. appended so_far (each (test_of c.args.scope.now) (drop (c.loop-word.word-index + 1) c.args.words.now)))
+    (ap (seen (λ tests. map view.test_of tests)) c.in_ok-push.ensures ∙ seen-part view.test_of (gathered_in c.loop-word.tests) c.in_ok-test.test)
+    ∙ next_part (test_of c.args.scope.now) c.args.words.now c.loop-word.word-index _ (seen (λ tests. map view.test_of tests) (gathered_in c.loop-word.tests)) _ (omega arith)
+    (c.in_ok-test.ensures ∙ ap (test_of c.args.scope.now) c.word-item.is) c.loop-word.invariant

@@ -1,0 +1,5 @@
+pub mod View
+pub mod Answers
+pub mod Gathering
+pub mod Sought
+pub mod Stray

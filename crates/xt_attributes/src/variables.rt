@@ -1,0 +1,196 @@
+// The variables that stand in the value of an attribute.
+ghost use Rattle.std.specs.Prelude.{◌≡◌, ◌++◌, ◌∷◌, [], IfOk, OnOk, map};
+ghost use Rattle.std.specs.List.{flat_map};
+ghost use Rattle.spec_compile.specs.Content.{variables_by};
+ghost use Rattle.spec_compile.specs.Walk as spec;
+ghost use Rattle.spec_expression.specs.Syntax.{exprs, links, steps};
+ghost use Rattle.xp_syntax.specs.PartView.{alternative_of, avt_of, avt_part_of, pattern_of, pattern_step_of};
+ghost use Rattle.xp_syntax.specs.View.{expr_of, link_of, step_of};
+ghost use Rattle.xt_attributes.specs.View.{entry_in, value_in};
+
+use crate::entries::Entry;
+use crate::value::Value;
+use std::alloc::Global;
+use xp_syntax::{Alternative, Avt, AvtPart, Expr, Link, Pattern, PatternStep, Step};
+use xt_names::Expanded;
+use xt_text::Memory;
+
+fn copy_of(alloc: Global, name: &Expanded) -> Result<Expanded, Memory>
+    ensures { IfOk result (λ copy. copy ≡ name.now) }
+{
+    let uri = name.uri().copy(alloc)?;
+    let local = name.local().copy(alloc)?;
+    Ok(Expanded::new(uri, local))
+}
+
+fn add_name(alloc: Global, name: &Expanded, into: &mut Vec<Expanded>) -> Result<(), Memory>
+    ensures { OnOk result (into.new.items ≡ into.old.items ++ name.now ∷ []) }
+{
+    let copy = copy_of(alloc, name)?;
+    into.push(copy)?;
+    Ok(())
+}
+
+#[cycle(add)]
+fn add_in(alloc: Global, expr: &Expr, into: &mut Vec<Expanded>) -> Result<(), Memory>
+    ensures { OnOk result (into.new.items ≡ into.old.items ++ spec.variables_in (expr_of expr.now)) }
+{
+    match expr {
+        Expr::Number(_) => Ok(()),
+        Expr::Literal(_) => Ok(()),
+        Expr::Variable(name) => add_name(alloc, name, into),
+        Expr::Call(_, arguments) => add_in_all(alloc, arguments.as_slice(), into),
+        Expr::Chain(first, links) => {
+            add_in(alloc, first, into)?;
+            add_in_links(alloc, links.as_slice(), into)
+        }
+        Expr::Negation(_, operand) => add_in(alloc, operand, into),
+        Expr::Filter(base, predicates) => {
+            add_in(alloc, base, into)?;
+            add_in_all(alloc, predicates.as_slice(), into)
+        }
+        Expr::Root => Ok(()),
+        Expr::Here => Ok(()),
+        Expr::Path(base, steps) => {
+            add_in(alloc, base, into)?;
+            add_in_steps(alloc, steps.as_slice(), into)
+        }
+    }
+}
+
+#[cycle(add)]
+fn add_in_all(alloc: Global, list: &[Expr], into: &mut Vec<Expanded>) -> Result<(), Memory>
+    ensures { OnOk result (into.new.items ≡ into.old.items ++ spec.variables_in_all (exprs (map expr_of list.now))) }
+{
+    for expr in list {
+        add_in(alloc, expr, into)?;
+    }
+    Ok(())
+}
+
+#[cycle(add)]
+fn add_in_links(alloc: Global, list: &[Link], into: &mut Vec<Expanded>) -> Result<(), Memory>
+    ensures { OnOk result (into.new.items ≡ into.old.items ++ spec.variables_in_links (links (map link_of list.now))) }
+{
+    for link in list {
+        add_in(alloc, &link.operand, into)?;
+    }
+    Ok(())
+}
+
+#[cycle(add)]
+fn add_in_steps(alloc: Global, list: &[Step], into: &mut Vec<Expanded>) -> Result<(), Memory>
+    ensures { OnOk result (into.new.items ≡ into.old.items ++ spec.variables_in_steps (steps (map step_of list.now))) }
+{
+    for step in list {
+        add_in_all(alloc, step.predicates.as_slice(), into)?;
+    }
+    Ok(())
+}
+
+fn add_in_pattern_step(
+    alloc: Global,
+    step: &PatternStep,
+    into: &mut Vec<Expanded>,
+) -> Result<(), Memory>
+    ensures { OnOk result (into.new.items ≡ into.old.items ++ spec.variables_in_all (pattern_step_of step.now).step.predicates) }
+{
+    add_in_all(alloc, step.step.predicates.as_slice(), into)
+}
+
+fn add_in_pattern_steps(
+    alloc: Global,
+    steps: &[PatternStep],
+    into: &mut Vec<Expanded>,
+) -> Result<(), Memory>
+    ensures { OnOk result (into.new.items ≡ into.old.items ++ flat_map (λ s. spec.variables_in_all s.step.predicates) (map pattern_step_of steps.now)) }
+{
+    for step in steps {
+        add_in_pattern_step(alloc, step, into)?;
+    }
+    Ok(())
+}
+
+fn add_in_alternative(
+    alloc: Global,
+    alternative: &Alternative,
+    into: &mut Vec<Expanded>,
+) -> Result<(), Memory>
+    ensures { OnOk result (into.new.items ≡ into.old.items ++ spec.variables_in_alternative (alternative_of alternative.now)) }
+{
+    add_in_pattern_steps(alloc, alternative.steps.as_slice(), into)
+}
+
+fn add_in_alternatives(
+    alloc: Global,
+    alternatives: &[Alternative],
+    into: &mut Vec<Expanded>,
+) -> Result<(), Memory>
+    ensures { OnOk result (into.new.items ≡ into.old.items ++ flat_map spec.variables_in_alternative (map alternative_of alternatives.now)) }
+{
+    for alternative in alternatives {
+        add_in_alternative(alloc, alternative, into)?;
+    }
+    Ok(())
+}
+
+fn add_in_pattern(alloc: Global, pattern: &Pattern, into: &mut Vec<Expanded>) -> Result<(), Memory>
+    ensures { OnOk result (into.new.items ≡ into.old.items ++ spec.variables_in_pattern (pattern_of pattern.now)) }
+{
+    add_in_alternatives(alloc, pattern.alternatives.as_slice(), into)
+}
+
+fn add_in_part(alloc: Global, part: &AvtPart, into: &mut Vec<Expanded>) -> Result<(), Memory>
+    ensures { OnOk result (into.new.items ≡ into.old.items ++ spec.variables_in_part (avt_part_of part.now)) }
+{
+    match part {
+        AvtPart::Text(_) => Ok(()),
+        AvtPart::Expr(expr) => add_in(alloc, expr, into),
+    }
+}
+
+fn add_in_parts(alloc: Global, parts: &[AvtPart], into: &mut Vec<Expanded>) -> Result<(), Memory>
+    ensures { OnOk result (into.new.items ≡ into.old.items ++ flat_map spec.variables_in_part (map avt_part_of parts.now)) }
+{
+    for part in parts {
+        add_in_part(alloc, part, into)?;
+    }
+    Ok(())
+}
+
+/// Adds the variables that stand in a value template. Want of memory alone is an error, after which some are added.
+pub fn add_template_variables(
+    alloc: Global,
+    template: &Avt,
+    into: &mut Vec<Expanded>,
+) -> Result<(), Memory>
+    ensures { OnOk result (into.new.items ≡ into.old.items ++ spec.variables_in_template (avt_of template.now)) }
+{
+    add_in_parts(alloc, template.parts.as_slice(), into)
+}
+
+/// Adds the variables that stand in a value. Want of memory alone is an error, after which some are added.
+pub fn add_variables(alloc: Global, value: &Value, into: &mut Vec<Expanded>) -> Result<(), Memory>
+    ensures { OnOk result (into.new.items ≡ into.old.items ++ variables_by (value_in value.now)) }
+{
+    match value {
+        Value::Expr(expr) => add_in(alloc, expr, into),
+        Value::Pattern(pattern) => add_in_pattern(alloc, pattern, into),
+        Value::Avt(template) => add_template_variables(alloc, template, into),
+        _ => Ok(()),
+    }
+}
+
+/// Adds the variables that stand in these values.
+pub(crate) fn add_entry_variables(
+    alloc: Global,
+    list: &[Entry],
+    into: &mut Vec<Expanded>,
+) -> Result<(), Memory>
+    ensures { OnOk result (into.new.items ≡ into.old.items ++ flat_map (λ e. variables_by e.value) (map entry_in list.now)) }
+{
+    for entry in list {
+        add_variables(alloc, &entry.value, into)?;
+    }
+    Ok(())
+}
