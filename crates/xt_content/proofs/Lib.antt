@@ -1,0 +1,9 @@
+pub mod Steps
+pub mod Siblings
+pub mod Natures
+pub mod Views
+pub mod Standing
+pub mod Kept
+pub mod Parting
+pub mod Outlines
+pub mod Attributes

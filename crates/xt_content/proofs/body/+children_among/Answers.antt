@@ -1,0 +1,92 @@
+use Rattle.std.proofs.Common.{◌+◌, drop, map, sym, ap, ◌∙◌, refl, subst, arith}
+use Rattle.spec_compile.specs.Content.{around_of, children_among, text_among}
+use Rattle.spec_structure.specs.Inside.{role_of}
+use Rattle.xt_content.specs.View.{around_in, below_in, met_in, visit_in}
+use Rattle.xt_content.specs.Visit.{element_by, nothing_visited}
+use Rattle.xt_content.proofs.Siblings.{at_element, before_rest, begins, ends, holds, holds_fault, later_is, skips, stops, turn}
+use Rattle.xt_content.proofs.Steps.{Continues, answers_stop, exits, last_turn, next_turn}
+use Rattle.xt_sheet.specs.View.{in_force}
+use Rattle.xt_tree.specs.View as nodes
+use Rattle.xt_tree.specs.View.{forest_of, tree_of, written_of}
+use Rattle.xt_content.proofs.body.+children_among.Goals as goal
+
+pub children_among-loop-i-init : goal.children_among-loop-i-init
+children_among-loop-i-init t c =
+    let all = children_among (around_in c.args.around.now) c.args.kind c.args.path.now 1 (forest_of c.args.siblings.now) in
+    subst (λ b. Continues (before_rest all b) all) (sym c.new-found.ensures) (begins all)
+
+pub children_among-returns-in_err-visit : goal.children_among-returns-in_err-visit
+children_among-returns-in_err-visit t c =
+    let around = around_in c.args.around.now in
+    let path = c.args.path.now in
+    let done = below_in c.loop-i.found in
+    let next = next_turn (λ rest. before_rest (children_among around c.loop-i.kind path (c.loop-i.i + 1) (forest_of rest)) done) c.args.siblings.now c.loop-i.i c.index-siblings-i.result (omega arith) c.loop-i.invariant in
+    let here = rw (← c.index-siblings-i.is) at next in
+    exits _ c.from_residual.ensures.1
+    (stops around c.loop-i.kind path (c.loop-i.i + 1) done (tree_of c.index-siblings-i.result.value) (map (λ n. tree_of n.value) (drop (c.loop-i.i + 1) c.args.siblings.now)) here
+    (later_is around c.loop-i.kind path (c.loop-i.i + 1) c.args.siblings.now (c.loop-i.i + 1) (tree_of c.index-siblings-i.result.value) (rw c.deref.ensures at c.in_err-visit.ensures)))
+
+pub children_among-loop-i-preserved : goal.children_among-loop-i-preserved
+children_among-loop-i-preserved t c =
+    let around = around_in c.args.around.now in
+    let path = c.args.path.now in
+    let done = below_in c.loop-i.found in
+    let next = next_turn (λ rest. before_rest (children_among around c.loop-i.kind path (c.loop-i.i + 1) (forest_of rest)) done) c.args.siblings.now c.loop-i.i c.index-siblings-i.result (omega arith) c.loop-i.invariant in
+    let here = rw (← c.index-siblings-i.is) at next in
+    let heard = later_is around c.loop-i.kind path (c.loop-i.i + 1) c.args.siblings.now (c.loop-i.i + 1) (tree_of c.index-siblings-i.result.value) (rw c.deref.ensures at c.in_ok-visit.ensures) in
+    subst (λ so_far. Continues (before_rest (children_among around c.in_ok-visit.visit.next path (c.loop-i.i + 1 + 1) (forest_of (drop (c.loop-i.i + 1) c.args.siblings.now))) so_far)
+    (children_among around c.args.kind path 1 (forest_of c.args.siblings.now)))
+    (sym c.in_ok-push.ensures)
+    (turn around c.loop-i.kind path (c.loop-i.i + 1) done (visit_in c.in_ok-visit.visit) (tree_of c.index-siblings-i.result.value)
+    (map (λ n. tree_of n.value) (drop (c.loop-i.i + 1) c.args.siblings.now)) here heard.so)
+
+pub children_among-returns : goal.children_among-returns
+children_among-returns t c =
+    let around = around_in c.args.around.now in
+    let path = c.args.path.now in
+    ends around c.loop-i.kind path (c.loop-i.i + 1) (below_in c.loop-i.found) refl
+    (last_turn (λ rest. before_rest (children_among around c.loop-i.kind path (c.loop-i.i + 1) (forest_of rest)) (below_in c.loop-i.found)) c.args.siblings.now c.loop-i.i (omega arith) c.loop-i.invariant)
+
+pub visit-returns-in_err-met-in-Element : goal.visit-returns-in_err-met-in-Element
+visit-returns-in_err-met-in-Element t c =
+    exits _ c.from_residual-in_err-met-in-Element.ensures.1
+    (at_element (around_in c.args.around.now) c.args.kind c.args.path.now c.args.position (forest_of c.args.later.now) (tree_of c.args.node.now).content (tree_of c.args.node.now).children (tree_of c.args.node.now).children
+    (around_in c.in_ok-inner-in-Element.inner) c.in_ok-here-in-Element.here c.in-Element.name (map written_of c.in-Element.attributes.items)
+    (ap nodes.content_of (sym c.in-Element.is) ∙ c.content.ensures)
+    (c.in_ok-inner-in-Element.ensures ∙ ap (λ a. around_of (around_in c.args.around.now) c.in-Element.name (map written_of a)) c.as_slice.ensures.value)
+    c.in_ok-here-in-Element.ensures refl
+    (answers_stop _ (rw c.as_slice-in-Element.ensures.value at c.in_err-met-in-Element.ensures)))
+
+pub visit-returns-in-None : goal.visit-returns-in-None
+visit-returns-in-None t c =
+    at_element (around_in c.args.around.now) c.args.kind c.args.path.now c.args.position (forest_of c.args.later.now) (tree_of c.args.node.now).content (tree_of c.args.node.now).children (tree_of c.args.node.now).children
+    (around_in c.in_ok-inner-in-Element.inner) c.in_ok-here-in-Element.here c.in-Element.name (map written_of c.in-Element.attributes.items)
+    (ap nodes.content_of (sym c.in-Element.is) ∙ c.content.ensures)
+    (c.in_ok-inner-in-Element.ensures ∙ ap (λ a. around_of (around_in c.args.around.now) c.in-Element.name (map written_of a)) c.as_slice.ensures.value)
+    c.in_ok-here-in-Element.ensures refl
+    (skips (around_in c.in_ok-inner-in-Element.inner) c.args.kind c.in_ok-here-in-Element.here c.in-Element.name (map written_of c.in-Element.attributes.items) (tree_of c.args.node.now).children (role_of (in_force c.in_ok-inner-in-Element.inner.inside) c.in-Element.name) (sym c.in-None.is ∙ c.content_by.ensures) (rw c.as_slice-in-Element.ensures.value at c.in_ok-met-in-Element.ensures)
+    (c.visit_nothing.ensures ∙ ap nothing_visited c.next_kind-next.ensures))
+
+pub visit-returns-in_err-found-in-Some : goal.visit-returns-in_err-found-in-Some
+visit-returns-in_err-found-in-Some t c =
+    exits _ c.from_residual-in_err-found-in-Some.ensures.1
+    (at_element (around_in c.args.around.now) c.args.kind c.args.path.now c.args.position (forest_of c.args.later.now) (tree_of c.args.node.now).content (tree_of c.args.node.now).children (forest_of c.children.result.now)
+    (around_in c.in_ok-inner-in-Element.inner) c.in_ok-here-in-Element.here c.in-Element.name (map written_of c.in-Element.attributes.items)
+    (ap nodes.content_of (sym c.in-Element.is) ∙ c.content.ensures)
+    (c.in_ok-inner-in-Element.ensures ∙ ap (λ a. around_of (around_in c.args.around.now) c.in-Element.name (map written_of a)) c.as_slice.ensures.value)
+    c.in_ok-here-in-Element.ensures c.children.ensures.forest
+    (holds_fault (around_in c.in_ok-inner-in-Element.inner) c.args.kind c.in_ok-here-in-Element.here c.in-Element.name (map written_of c.in-Element.attributes.items) (forest_of c.children.result.now) (role_of (in_force c.in_ok-inner-in-Element.inner.inside) c.in-Element.name) (sym c.in-Some.is ∙ c.content_by.ensures) (rw c.as_slice-in-Element.ensures.value at c.in_ok-met-in-Element.ensures) c.in_err-found-in-Some.ensures))
+
+pub visit-returns-in-Element : goal.visit-returns-in-Element
+visit-returns-in-Element t c =
+    at_element (around_in c.args.around.now) c.args.kind c.args.path.now c.args.position (forest_of c.args.later.now) (tree_of c.args.node.now).content (tree_of c.args.node.now).children (forest_of c.children.result.now)
+    (around_in c.in_ok-inner-in-Element.inner) c.in_ok-here-in-Element.here c.in-Element.name (map written_of c.in-Element.attributes.items)
+    (ap nodes.content_of (sym c.in-Element.is) ∙ c.content.ensures)
+    (c.in_ok-inner-in-Element.ensures ∙ ap (λ a. around_of (around_in c.args.around.now) c.in-Element.name (map written_of a)) c.as_slice.ensures.value)
+    c.in_ok-here-in-Element.ensures c.children.ensures.forest
+    (holds (around_in c.in_ok-inner-in-Element.inner) c.args.kind c.in_ok-here-in-Element.here c.in-Element.name (map written_of c.in-Element.attributes.items) (forest_of c.children.result.now) (role_of (in_force c.in_ok-inner-in-Element.inner.inside) c.in-Element.name) (sym c.in-Some.is ∙ c.content_by.ensures) (rw c.as_slice-in-Element.ensures.value at c.in_ok-met-in-Element.ensures) c.in_ok-found-in-Some.ensures
+    (λ i. record {
+      below = (c.in_ok-one-in-Some.ensures ∙ ap (λ f. element_by (around_in c.in_ok-inner-in-Element.inner) c.in_ok-here-in-Element.here (met_in c.in_ok-met-in-Element.met) (text_among f) (below_in c.in_ok-found-in-Some.found))
+          (c.children-in-Some.ensures.forest ∙ sym c.children.ensures.forest)) i;
+      next = c.next_kind-next.ensures i;
+    }))
