@@ -1,0 +1,4 @@
+mod Elements
+mod Labels
+mod Steps
+mod Turns
