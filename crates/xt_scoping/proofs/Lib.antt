@@ -1,0 +1,9 @@
+pub mod Sets
+pub mod Adding
+pub mod Outlines
+pub mod Doubled
+pub mod Seeing
+pub mod Uses
+pub mod Reaching
+pub mod Telling
+pub mod Turning
