@@ -1,0 +1,12 @@
+pub mod Ranking
+pub mod Lasting
+pub mod Alternatives
+pub mod Tests
+pub mod Declaring
+pub mod Reading
+pub mod Inserted
+pub mod Stocked
+pub mod Places
+pub mod Whole
+pub mod Found
+pub mod Putting

@@ -1,0 +1,7 @@
+pub mod Opened
+pub mod Placed
+pub mod Rank
+pub mod Rules
+pub mod Space
+pub mod Stock
+pub mod View

@@ -1,0 +1,82 @@
+// The second pass: the first of the faults between elements.
+ghost use Rattle.std.specs.Prelude.{◌≡◌, Some, IfOk, if◌then◌else◌, map};
+ghost use Rattle.std.specs.List.{filter};
+ghost use Rattle.spec_compile.specs.Sheet as spec;
+ghost use Rattle.xt_compile.specs.View.{refusals_in};
+ghost use Rattle.xt_scoping.specs.View.{violation_in};
+ghost use Rattle.xt_sheet.specs.View.{fault_in, faults_in};
+
+use crate::fault::{StaticRefusal, earlier_of, refusal_at};
+use std::alloc::Global;
+use xt_scoping::Violation;
+use xt_sheet::Fault;
+use xt_text::{Memory, Text};
+
+/// The first of the faults between elements: by module in the order of these names, then by place in document order,
+/// then by code. They are gone through for each module up to the first that has one.
+pub(crate) fn first_violation(
+    alloc: Global,
+    names: &[Text],
+    violations: &[Violation],
+) -> Result<Option<StaticRefusal>, Memory>
+    ensures { IfOk result (λ first. refusals_in first ≡ spec.first_violation names.now (map violation_in violations.now)) }
+{
+    for name in names {
+        match first_in(alloc, name, violations)? {
+            None => {}
+            Some(fault) => {
+                let name = name.copy(alloc)?;
+                return Ok(Some(refusal_at(name, fault)));
+            }
+        }
+    }
+    Ok(None)
+}
+
+// The first of those in the module of this name.
+fn first_in(alloc: Global, name: &Text, violations: &[Violation]) -> Result<Option<Fault>, Memory>
+    ensures { IfOk result (λ first. faults_in first ≡ spec.first_in (filter (spec.is_in name.now) (map violation_in violations.now))) }
+{
+    let mut first = None;
+    let mut left = violations.len();
+    while left > 0 {
+        left -= 1;
+        first = with_earlier(alloc, name, &violations[left], first)?;
+    }
+    Ok(first)
+}
+
+// The earlier of a fault, where it stands in the module of this name, and the first of those behind it.
+fn with_earlier(
+    alloc: Global,
+    name: &Text,
+    violation: &Violation,
+    behind: Option<Fault>,
+) -> Result<Option<Fault>, Memory>
+    ensures { IfOk result (λ first. faults_in first ≡ (if spec.is_in name.now (violation_in violation.now) then spec.earlier_of (Some (spec.fault_there (violation_in violation.now))) (faults_in behind) else faults_in behind)) }
+{
+    if !is_in(name, violation) {
+        return Ok(behind);
+    }
+    let here = fault_there(alloc, violation)?;
+    Ok(earlier_of(Some(here), behind))
+}
+
+fn fault_there(alloc: Global, violation: &Violation) -> Result<Fault, Memory>
+    ensures { IfOk result (λ fault. fault_in fault ≡ spec.fault_there (violation_in violation.now)) }
+{
+    Ok(Fault {
+        code: violation.code,
+        path: violation.place.path.copy(alloc)?,
+    })
+}
+
+// Whether a fault stands in the module of this name.
+fn is_in(name: &Text, violation: &Violation) -> bool
+    ensures { result ≡ spec.is_in name.now (violation_in violation.now) }
+{
+    match &violation.place.module {
+        None => false,
+        Some(other) => other.same(name),
+    }
+}
