@@ -1,0 +1,114 @@
+//! Stylesheets of a size, for `tools/bench-stylesheets`: each three words of the command line are a bench, a shape and
+//! a size, whose outcome is printed as counts. Times are measured from outside.
+//!
+//! | Shape | The modules |
+//! |---|---|
+//! | `chain` | so many, each of which leads to the next, by xsl:import and by xsl:include in turn |
+//! | `fan` | a principal one that leads to so many others |
+//! | `web` | so many, each of which leads to the next ten |
+//! | `ring` | a `chain` whose last leads back to the first |
+//! | `templates` | one, with so many template rules and global variables |
+//!
+//! The bench `make` only makes the modules, `order` reads them, `tree` looks for the faults of their links, `fault` for
+//! those of the principal one, `sheets` puts the stylesheets of the import tree in their order, and `structure` looks for
+//! the fault of structure of the principal module.
+#![tactic(auto)]
+
+mod modules;
+mod templates;
+
+use indexmap::IndexMap;
+use modules::modules_of;
+use std::alloc::Global;
+use std::{env, io};
+use xt_import::{ListedModule, link_fault, reading_order, stylesheets, tree};
+use xt_sheet::{Fault, check};
+use xt_text::{Memory, Text};
+use xt_tree::Doc;
+
+fn main(rt: HostRuntime) -> io::Result<()> {
+    let alloc = rt.alloc();
+    let words: Vec<String> = env::args(&rt)?.collect(alloc)?;
+    let benches = match words.as_slice() {
+        [_, benches @ ..] => benches,
+        [] => &[],
+    };
+    for bench in benches.chunks(3) {
+        if let [bench, shape, size] = bench {
+            let size = size.as_str().parse::<u64>().unwrap_or(0);
+            match outcome(alloc, bench.as_str(), shape.as_str(), size) {
+                Ok(text) => rt.println(text)?,
+                Err(Memory) => rt.println("memory")?,
+            }
+        }
+    }
+    Ok(())
+}
+
+fn outcome(alloc: Global, bench: &str, shape: &str, size: u64) -> Result<String, Memory> {
+    let modules = modules_of(alloc, shape, size)?;
+    let found = match bench {
+        "make" => count(alloc, modules.len(), "modules")?,
+        "order" => ordered(alloc, &modules)?,
+        "tree" => listed(alloc, &modules)?,
+        "fault" => first_fault(alloc, &modules)?,
+        "sheets" => sheets_in_order(alloc, &modules)?,
+        "structure" => structure(alloc, &modules)?,
+        _ => String::from_str(alloc, "no such bench")?,
+    };
+    Ok(format!(in alloc; "{bench} {shape} {size}: {found}")?)
+}
+
+fn count(alloc: Global, number: usize, what: &str) -> Result<String, Memory> {
+    Ok(format!(in alloc; "{number} {what}")?)
+}
+
+fn ordered(alloc: Global, modules: &IndexMap<String, Doc>) -> Result<String, Memory> {
+    let names = reading_order(alloc, modules, "main")?;
+    count(alloc, names.len(), "read")
+}
+
+fn listed(alloc: Global, modules: &IndexMap<String, Doc>) -> Result<String, Memory> {
+    let tree = tree(alloc, modules, "main")?;
+    let faults = tree
+        .modules
+        .iter()
+        .filter(|module| has_fault(module))
+        .count();
+    let listed = tree.modules.len();
+    Ok(format!(in alloc; "{listed} read, {faults} with a fault")?)
+}
+
+fn has_fault(module: &ListedModule) -> bool {
+    module.link_fault.is_some()
+}
+
+fn first_fault(alloc: Global, modules: &IndexMap<String, Doc>) -> Result<String, Memory> {
+    let main = Text::from_str(alloc, "main")?;
+    told(alloc, link_fault(alloc, modules, &main)?)
+}
+
+fn told(alloc: Global, fault: Option<Fault>) -> Result<String, Memory> {
+    match fault {
+        None => Ok(String::from_str(alloc, "none")?),
+        Some(fault) => count(alloc, usize::from(fault.code.number()), "is its code"),
+    }
+}
+
+fn sheets_in_order(alloc: Global, modules: &IndexMap<String, Doc>) -> Result<String, Memory> {
+    let main = Text::from_str(alloc, "main")?;
+    match stylesheets(alloc, modules, &main)? {
+        None => Ok(String::from_str(alloc, "none")?),
+        Some(sheets) => count(alloc, sheets.len(), "stylesheets"),
+    }
+}
+
+fn structure(alloc: Global, modules: &IndexMap<String, Doc>) -> Result<String, Memory> {
+    match modules.get("main") {
+        None => Ok(String::from_str(alloc, "no module")?),
+        Some(document) => {
+            let module = check(alloc, document)?;
+            told(alloc, module.fault)
+        }
+    }
+}
