@@ -49,7 +49,7 @@ pub data Question (N : Type 0) : Type 0 where
   Order : (nodes : List N) → Question N
   -- the nodes that have a value in the keys of a name
   Key : (name : Expanded) → (value : List ℕ) → Question N
-  -- the template rule of a node
+  -- the element of the template rule of a node; none where that is a built-in rule
   Choice : (node : N) → (mode : Option Expanded) → (candidates : Candidates) → Question N
   -- a copy of the node with what is below it
   Copy : (node : N) → Question N
@@ -66,8 +66,6 @@ pub data Answer (N : Type 0) : Type 0 where
   SomeNodes : (nodes : List N) → Answer N
   SomeText : (text : List ℕ) → Answer N
   Named : (kind : Kind) → (name : Option Expanded) → (written : List ℕ) → Answer N
-  -- the number of a rule; without one it is a built-in rule
-  Chosen : (rule : Option ℕ) → Answer N
   Copied : (stream : Stream) → Answer N
   Resolved : (unit : ResolvedUnit N) → Answer N
   Passed : (value : Option (List ℕ)) → Answer N

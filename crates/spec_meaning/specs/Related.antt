@@ -58,7 +58,6 @@ pub data Answers {N M : Type 0} (R : N → M → Type 0) : Answer N → Answer M
   some_nodes : {ns : List N} {ms : List M} → Each R ns ms → Answers R (question.SomeNodes ns) (question.SomeNodes ms)
   some_text : {text : List ℕ} → Answers R (question.SomeText text) (question.SomeText text)
   named : {kind : Kind} {name : Option Expanded} {written : List ℕ} → Answers R (question.Named kind name written) (question.Named kind name written)
-  chosen : {rule : Option ℕ} → Answers R (question.Chosen rule) (question.Chosen rule)
   copied : {stream : Stream} → Answers R (question.Copied stream) (question.Copied stream)
   some_unit : {u : ResolvedUnit N} {v : ResolvedUnit M} → Units R u v → Answers R (question.Resolved u) (question.Resolved v)
   passed : {text : Option (List ℕ)} → Answers R (question.Passed text) (question.Passed text)

@@ -6,6 +6,7 @@
 use crate::trees::parsed;
 use cases::{Fault, Word, one, text_of};
 use std::alloc::Global;
+use std::rc::Rc;
 use xp_syntax::{
     Avt, AvtPart, Binding, Branch, Control, Count, Expr, Form, Instr, LiteralTag, MadeName,
     NumberLevel, NumberSource, Numbering, Place, Selection, Site, SortKey, WithContent,
@@ -82,11 +83,12 @@ fn form(alloc: Global, kind: &str, rest: &str) -> Result<Form, Fault> {
 }
 
 /// A content of one text.
-pub fn content(alloc: Global) -> Result<Vec<Instr>, Memory> {
+pub fn content(alloc: Global) -> Result<Rc<Vec<Instr>>, Memory> {
     let text = Text::from_str(alloc, "x")?;
     let form = Form::WithoutContent(WithoutContent::Text(text));
     let site = nowhere(alloc)?;
-    one(alloc, Instr { site, form })
+    let content = one(alloc, Instr { site, form })?;
+    Ok(Rc::new(alloc, content)?)
 }
 
 fn without_content(alloc: Global, kind: &str, rest: &str) -> Result<WithoutContent, Fault> {
@@ -180,6 +182,7 @@ fn control(alloc: Global, kind: &str, rest: &str) -> Result<Control, Fault> {
         "apply-templates" => apply_templates(alloc, rest),
         "call-template" => {
             let parameters = one(alloc, binding(alloc, rest)?)?;
+            let parameters = Rc::new(alloc, parameters)?;
             Ok(Control::CallTemplate(name(alloc, "t")?, parameters))
         }
         _ => Err(Fault::NoCase),
@@ -190,10 +193,11 @@ fn choose(alloc: Global, test: &str) -> Result<Control, Fault> {
     let test = parsed(alloc, test)?;
     let content = content(alloc)?;
     let branch = branch(alloc, test, content)?;
-    Ok(Control::Choose(one(alloc, branch)?))
+    let branches = one(alloc, branch)?;
+    Ok(Control::Choose(Rc::new(alloc, branches)?))
 }
 
-fn branch(alloc: Global, test: Expr, content: Vec<Instr>) -> Result<Branch, Memory> {
+fn branch(alloc: Global, test: Expr, content: Rc<Vec<Instr>>) -> Result<Branch, Memory> {
     let site = nowhere(alloc)?;
     Ok(Branch {
         site,
@@ -204,6 +208,7 @@ fn branch(alloc: Global, test: Expr, content: Vec<Instr>) -> Result<Branch, Memo
 
 // Sorted by the string-value.
 fn apply_templates(alloc: Global, select: &str) -> Result<Control, Fault> {
+    let parameters = Rc::new(alloc, Vec::new(alloc))?;
     let select = parsed(alloc, select)?;
     let keys = one(alloc, sort_key(alloc)?)?;
     let selection = Selection {
@@ -211,7 +216,7 @@ fn apply_templates(alloc: Global, select: &str) -> Result<Control, Fault> {
         mode: None,
         keys,
     };
-    Ok(Control::ApplyTemplates(selection, Vec::new(alloc)))
+    Ok(Control::ApplyTemplates(selection, parameters))
 }
 
 fn sort_key(alloc: Global) -> Result<SortKey, Fault> {
@@ -230,6 +235,7 @@ fn sort_key(alloc: Global) -> Result<SortKey, Fault> {
 
 /// A parameter `v` that selects the value of this expression.
 pub fn binding(alloc: Global, select: &str) -> Result<Binding, Fault> {
+    let content = Rc::new(alloc, Vec::new(alloc))?;
     let name = name(alloc, "v")?;
     let select = parsed(alloc, select)?;
     let site = nowhere(alloc)?;
@@ -237,6 +243,6 @@ pub fn binding(alloc: Global, select: &str) -> Result<Binding, Fault> {
         site,
         name,
         select: Some(select),
-        content: Vec::new(alloc),
+        content,
     })
 }

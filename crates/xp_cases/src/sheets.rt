@@ -6,6 +6,7 @@ use crate::instructions::{binding, content, differ, name, nowhere};
 use crate::trees::parsed;
 use cases::{Fault, Word, one, push_yes, text_of};
 use std::alloc::Global;
+use std::rc::Rc;
 use xp_syntax::{
     Alias, Alternative, AttributeSet, Axis, Declared, GlobalBinding, Key, Method, Pattern,
     PatternStep, Rule, Rules, Separator, Sheet, SpaceRule, SpaceRules, Start, Step, Template, Test,
@@ -100,6 +101,7 @@ fn push_unit(
 fn template(alloc: Global, change: &str) -> Result<Template, Fault> {
     let parameter = binding(alloc, word(change, "parameter", "2", "1"))?;
     let parameters = one(alloc, parameter)?;
+    let parameters = Rc::new(alloc, parameters)?;
     let name = name(alloc, word(change, "template-name", "u", "t"))?;
     let content = content(alloc)?;
     Ok(Template {
@@ -118,13 +120,14 @@ fn global(alloc: Global, change: &str) -> Result<GlobalBinding, Fault> {
 }
 
 fn attribute_set(alloc: Global, change: &str) -> Result<AttributeSet, Memory> {
+    let attributes = Rc::new(alloc, Vec::new(alloc))?;
     let used = name(alloc, word(change, "used-set", "y", "x"))?;
     let sets = one(alloc, used)?;
     let name = name(alloc, word(change, "set-name", "t", "s"))?;
     Ok(AttributeSet {
         name,
         sets,
-        attributes: Vec::new(alloc),
+        attributes,
     })
 }
 

@@ -20,21 +20,21 @@ instr_step i = record { site = site_of i.site; form = i.form }
 
 abbrev pub form_step : Form-F tree.Control tree.Form tree.Binding tree.Branch tree.Instr → tree.Form
 form_step (Form-F.WithoutContent i) = tree.without_content (without_content_of i)
-form_step (Form-F.WithContent i is) = tree.with_content (with_content_of i) (tree.instrs is.items)
+form_step (Form-F.WithContent i is) = tree.with_content (with_content_of i) (tree.instrs is.value.items)
 form_step (Form-F.Control c) = tree.control c
 
 abbrev pub control_step : Control-F tree.Control tree.Form tree.Binding tree.Branch tree.Instr → tree.Control
-control_step (Control-F.ForEach e keys is) = tree.for_each (expr_of e) (map sort_key_of keys.items) (tree.instrs is.items)
-control_step (Control-F.If e is) = tree.conditional (expr_of e) (tree.instrs is.items)
-control_step (Control-F.Choose bs) = tree.choose (tree.branches bs.items)
-control_step (Control-F.ApplyTemplates s bs) = tree.apply_templates (selection_of s) (tree.bindings bs.items)
-control_step (Control-F.CallTemplate name bs) = tree.call_template name (tree.bindings bs.items)
+control_step (Control-F.ForEach e keys is) = tree.for_each (expr_of e) (map sort_key_of keys.items) (tree.instrs is.value.items)
+control_step (Control-F.If e is) = tree.conditional (expr_of e) (tree.instrs is.value.items)
+control_step (Control-F.Choose bs) = tree.choose (tree.branches bs.value.items)
+control_step (Control-F.ApplyTemplates s bs) = tree.apply_templates (selection_of s) (tree.bindings bs.value.items)
+control_step (Control-F.CallTemplate name bs) = tree.call_template name (tree.bindings bs.value.items)
 
 abbrev pub branch_step : Branch-F tree.Control tree.Form tree.Binding tree.Branch tree.Instr → tree.Branch
-branch_step b = record { site = site_of b.site; test = option_map expr_of b.test; content = tree.instrs b.content.items }
+branch_step b = record { site = site_of b.site; test = option_map expr_of b.test; content = tree.instrs b.content.value.items }
 
 abbrev pub binding_step : Binding-F tree.Control tree.Form tree.Binding tree.Branch tree.Instr → tree.Binding
-binding_step b = record { site = site_of b.site; name = b.name; select = option_map expr_of b.select; content = tree.instrs b.content.items }
+binding_step b = record { site = site_of b.site; name = b.name; select = option_map expr_of b.select; content = tree.instrs b.content.value.items }
 
 abbrev pub instr_of : Instr → tree.Instr
 instr_of = fold-Instr tree.Control tree.Form tree.Binding tree.Branch tree.Instr control_step form_step binding_step branch_step instr_step

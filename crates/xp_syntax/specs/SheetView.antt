@@ -40,13 +40,13 @@ abbrev pub space_rules_of : SpaceRules → sheets.SpaceRules
 space_rules_of rs = record { rules = map space_rule_of rs.rules.items }
 
 abbrev pub template_of : Template → sheets.Template
-template_of t = record { name = t.name; parameters = bindings (map binding_of t.parameters.items); content = instrs (map instr_of t.content.items) }
+template_of t = record { name = t.name; parameters = bindings (map binding_of t.parameters.value.items); content = instrs (map instr_of t.content.value.items) }
 
 abbrev pub global_of : GlobalBinding → sheets.GlobalBinding
 global_of g = record { is_parameter = g.is_parameter; binding = binding_of g.binding }
 
 abbrev pub attribute_set_of : AttributeSet → sheets.AttributeSet
-attribute_set_of s = record { name = s.name; sets = s.sets.items; attributes = instrs (map instr_of s.attributes.items) }
+attribute_set_of s = record { name = s.name; sets = s.sets.items; attributes = instrs (map instr_of s.attributes.value.items) }
 
 abbrev pub key_of : Key → sheets.Key
 key_of k = record { name = k.name; pattern = pattern_of k.pattern; value = expr_of k.value }

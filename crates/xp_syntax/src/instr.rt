@@ -11,6 +11,7 @@ use crate::site::Site;
 use crate::sort_key::SortKey;
 use crate::with_content::WithContent;
 use crate::without_content::WithoutContent;
+use std::rc::Rc;
 use xt_names::Expanded;
 
 /// An instruction, a literal result element or a text in a template (XSLT 1.0, sections 5 to 13).
@@ -22,14 +23,14 @@ pub struct Instr {
     pub form: Form,
 }
 
-/// What an instruction is, with all that it contains.
+/// What an instruction is, with all that it contains. Contents are shared with whatever runs them.
 #[cycle(instr)]
 #[derive(Drop)]
 pub enum Form {
     /// An instruction without a content.
     WithoutContent(WithoutContent),
     /// An instruction that makes something of its content.
-    WithContent(WithContent, Vec<Instr>),
+    WithContent(WithContent, Rc<Vec<Instr>>),
     /// An instruction that says whether, how often or which contents run.
     Control(Control),
 }
@@ -39,15 +40,15 @@ pub enum Form {
 #[derive(Drop)]
 pub enum Control {
     /// xsl:for-each, with what it selects, how that is sorted, and its content (XSLT 1.0, section 8).
-    ForEach(Expr, Vec<SortKey>, Vec<Instr>),
+    ForEach(Expr, Vec<SortKey>, Rc<Vec<Instr>>),
     /// xsl:if, with its test and its content (XSLT 1.0, section 9.1).
-    If(Expr, Vec<Instr>),
+    If(Expr, Rc<Vec<Instr>>),
     /// xsl:choose, with at least one branch (XSLT 1.0, section 9.2).
-    Choose(Vec<Branch>),
+    Choose(Rc<Vec<Branch>>),
     /// xsl:apply-templates, with its parameters (XSLT 1.0, section 5.4).
-    ApplyTemplates(Selection, Vec<Binding>),
+    ApplyTemplates(Selection, Rc<Vec<Binding>>),
     /// xsl:call-template, with the template's name and its parameters (XSLT 1.0, section 6).
-    CallTemplate(Expanded, Vec<Binding>),
+    CallTemplate(Expanded, Rc<Vec<Binding>>),
 }
 
 /// An xsl:when, or an xsl:otherwise, which has no test and stands last (XSLT 1.0, section 9.2).
@@ -56,7 +57,7 @@ pub enum Control {
 pub struct Branch {
     pub site: Site,
     pub test: Option<Expr>,
-    pub content: Vec<Instr>,
+    pub content: Rc<Vec<Instr>>,
 }
 
 /// An xsl:param, xsl:with-param or global xsl:variable (XSLT 1.0, section 11). Where it selects
@@ -67,7 +68,7 @@ pub struct Binding {
     pub site: Site,
     pub name: Expanded,
     pub select: Option<Expr>,
-    pub content: Vec<Instr>,
+    pub content: Rc<Vec<Instr>>,
 }
 
 /// Which nodes xsl:apply-templates takes, in which order and mode (XSLT 1.0, sections 5.4 and 5.7).

@@ -10,6 +10,7 @@ use crate::instr::{Binding, Instr, same_bindings, same_instrs};
 use crate::names::{same_name, same_names};
 use crate::pattern::Pattern;
 use crate::site::Site;
+use std::rc::Rc;
 use xt_names::Expanded;
 
 /// A template, a global variable or parameter, an attribute set or a key: an element at the top of a
@@ -37,8 +38,8 @@ pub enum Declared {
 pub struct Template {
     pub name: Option<Expanded>,
     /// Each xsl:param with its default (XSLT 1.0, section 11.6).
-    pub parameters: Vec<Binding>,
-    pub content: Vec<Instr>,
+    pub parameters: Rc<Vec<Binding>>,
+    pub content: Rc<Vec<Instr>>,
 }
 
 /// An xsl:variable or xsl:param at the top (XSLT 1.0, section 11.4).
@@ -56,7 +57,7 @@ pub struct AttributeSet {
     /// The names of the sets that it uses, in their order.
     pub sets: Vec<Expanded>,
     /// Its xsl:attribute instructions.
-    pub attributes: Vec<Instr>,
+    pub attributes: Rc<Vec<Instr>>,
 }
 
 /// An xsl:key (XSLT 1.0, section 12.2).

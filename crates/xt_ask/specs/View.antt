@@ -7,7 +7,6 @@ use Rattle.spec_meaning.specs.Supplies as supplies
 use Rattle.xp_syntax.specs.View.{test_of}
 use Rattle.xp_syntax.specs.PartView.{place_of}
 use Rattle.xp_syntax.specs.SheetView.{unit_of}
-use Rattle.xt_tree.specs.StreamView.{stream_of}
 use Rattle.xt_tree.specs.ValueView.{value_of}
 use Rattle.xt_tree.specs.declared.node_ref.NodeRef.{NodeRef}
 use Rattle.xt_ask.specs.declared.question.Candidates.{Candidates}
@@ -65,7 +64,7 @@ abbrev pub sets_of : NamedSets → plain.NamedSets NodeRef
 sets_of s = record { name = s.name; elements = s.elements.items }
 
 abbrev pub resolved_of : ResolvedUnit → plain.ResolvedUnit NodeRef
-resolved_of u = record { unit = unit_of u.unit; templates = map template_of u.templates.items; sets = map sets_of u.sets.items; counts = u.counts }
+resolved_of u = record { unit = unit_of u.unit.value; templates = map template_of u.templates.items; sets = map sets_of u.sets.items; counts = u.counts }
 
 abbrev pub answer_of : Answer → plain.Answer NodeRef
 answer_of answers.Gone = plain.Gone
@@ -73,8 +72,7 @@ answer_of (answers.Refused why) = plain.Refused (refusal_of why)
 answer_of (answers.Nodes nodes) = plain.SomeNodes nodes.items
 answer_of (answers.Text text) = plain.SomeText text
 answer_of (answers.Named kind name written) = plain.Named kind name written
-answer_of (answers.Chosen rule) = plain.Chosen rule
-answer_of (answers.Copied items) = plain.Copied (stream_of items.value)
+answer_of (answers.Copied copy) = plain.Copied copy
 answer_of (answers.Resolved unit) = plain.Resolved (resolved_of unit.value)
 answer_of (answers.Passed value) = plain.Passed value
 

@@ -13,7 +13,7 @@ use std::rc::Rc;
 use xp_syntax::Unit;
 use xt_names::Expanded;
 use xt_text::{Memory, Text};
-use xt_tree::{Items, NodeRef};
+use xt_tree::{Fragment, NodeRef};
 
 /// A named template of the stylesheet, by the node of its element.
 #[derive(Drop)]
@@ -32,7 +32,7 @@ pub struct NamedSets {
 /// A unit of the stylesheet, with the templates and attribute sets that it names.
 #[derive(Drop)]
 pub struct ResolvedUnit {
-    pub unit: Unit,
+    pub unit: Rc<Unit>,
     pub templates: Vec<NamedTemplate>,
     pub sets: Vec<NamedSets>,
     /// Of a global variable or parameter, whether it is the one of its name that counts.
@@ -58,16 +58,14 @@ pub enum Answer {
     Gone,
     /// An xsl:key is refused.
     Refused(Refusal),
-    /// To a step, an order or a key.
+    /// To a step, an order, a key or a choice, whose node is the element of the template rule.
     Nodes(Vec<NodeRef>),
     /// To a text or a place.
     Text(Text),
     /// The kind of a node, its expanded name and its name as it is written.
     Named(Kind, Option<Expanded>, Text),
-    /// The number of a template rule; without one it is a built-in rule.
-    Chosen(Option<u64>),
     /// The copy of a node.
-    Copied(Rc<Items>),
+    Copied(Fragment),
     /// A unit of the stylesheet.
     Resolved(Rc<ResolvedUnit>),
     /// A parameter from outside, where it is given.
@@ -93,8 +91,7 @@ impl Answer {
                 let name = copy_name_if(alloc, name)?;
                 Ok(Answer::Named(*kind, name, written.copy(alloc)?))
             }
-            Answer::Chosen(rule) => Ok(Answer::Chosen(*rule)),
-            Answer::Copied(items) => Ok(Answer::Copied(items.clone()?)),
+            Answer::Copied(copy) => Ok(Answer::Copied(Fragment::new(copy.items().clone()?))),
             Answer::Resolved(unit) => Ok(Answer::Resolved(unit.clone()?)),
             Answer::Passed(value) => Ok(Answer::Passed(copy_text_if(alloc, value)?)),
         }
@@ -114,8 +111,9 @@ impl Answer {
             (Answer::Named(kind, name, written), Answer::Named(other_kind, other, others)) => {
                 Ok(kind == other_kind && same_name_if(name, other) && written.same(others))
             }
-            (Answer::Chosen(rule), Answer::Chosen(other)) => Ok(rule == other),
-            (Answer::Copied(items), Answer::Copied(others)) => same_streams(alloc, items, others),
+            (Answer::Copied(copy), Answer::Copied(other)) => {
+                same_streams(alloc, copy.items(), other.items())
+            }
             (Answer::Resolved(unit), Answer::Resolved(other)) => Ok(unit.same(other)),
             (Answer::Passed(value), Answer::Passed(other)) => Ok(same_text_if(value, other)),
             _ => Ok(false),

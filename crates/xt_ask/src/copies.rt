@@ -1,10 +1,12 @@
 // Copies of what others hold.
 ghost use Rattle.std.specs.Prelude.{◌≡◌, IfOk};
 ghost use Rattle.xp_syntax.specs.View.{test_of};
+ghost use Rattle.xp_syntax.specs.PartView.{place_of};
 ghost use Rattle.xt_tree.specs.ValueView.{value_of};
 
 use std::alloc::Global;
 use xp_syntax::Test;
+use xt_base::Place;
 use xt_names::Expanded;
 use xt_text::{Memory, Text};
 use xt_tree::{Fragment, Value};
@@ -19,10 +21,7 @@ pub fn copy_name(alloc: Global, name: &Expanded) -> Result<Expanded, Memory>
 }
 
 /// The same name, where there is one, in memory of its own.
-pub(crate) fn copy_name_if(
-    alloc: Global,
-    name: &Option<Expanded>,
-) -> Result<Option<Expanded>, Memory>
+pub fn copy_name_if(alloc: Global, name: &Option<Expanded>) -> Result<Option<Expanded>, Memory>
     ensures { IfOk result (λ n. n ≡ name.now) }
 {
     match name {
@@ -39,6 +38,15 @@ pub(crate) fn copy_text_if(alloc: Global, text: &Option<Text>) -> Result<Option<
         None => Ok(None),
         Some(text) => Ok(Some(text.copy(alloc)?)),
     }
+}
+
+/// The same place, in memory of its own.
+pub fn copy_place(alloc: Global, place: &Place) -> Result<Place, Memory>
+    ensures { IfOk result (λ p. place_of p ≡ place_of place.now) }
+{
+    let module = copy_text_if(alloc, &place.module)?;
+    let path = place.path.copy(alloc)?;
+    Ok(Place { module, path })
 }
 
 /// The same node test, in memory of its own.

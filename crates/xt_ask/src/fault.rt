@@ -1,8 +1,5 @@
 // Why an evaluation ends with no value.
-ghost use Rattle.std.specs.Prelude.{◌≡◌, IfOk};
-ghost use Rattle.xp_syntax.specs.PartView.{place_of};
-
-use crate::copies::copy_text_if;
+use crate::copies::copy_place;
 use spec_expression::DynCode;
 use std::alloc::{AllocError, AllocFailed, Global};
 use xt_base::Place;
@@ -45,14 +42,6 @@ impl Refusal {
             _ => false,
         }
     }
-}
-
-fn copy_place(alloc: Global, place: &Place) -> Result<Place, Memory>
-    ensures { IfOk result (λ p. place_of p ≡ place_of place.now) }
-{
-    let module = copy_text_if(alloc, &place.module)?;
-    let path = place.path.copy(alloc)?;
-    Ok(Place { module, path })
 }
 
 /// Why there is no value.

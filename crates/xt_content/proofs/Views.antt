@@ -1,6 +1,7 @@
 -- What the trees of the program stand for, level by level.
 use Rattle.std.proofs.Common.{◌≡◌, Option, Vec, Global, map, rules}
 use Rattle.std.specs.Option.{option_map}
+use Rattle.std.specs.declared.rc.Rc.{Rc}
 use Rattle.spec_document.specs.Name.{Expanded}
 use Rattle.spec_stylesheet.specs.Instruction as tree
 use Rattle.xp_syntax.specs.View.{expr_of}
@@ -19,39 +20,42 @@ use Rattle.xp_syntax.specs.declared.sort_key.SortKey.{SortKey}
 use Rattle.xp_syntax.specs.declared.with_content.WithContent as with
 use Rattle.xp_syntax.specs.declared.without_content.WithoutContent as without
 
+abbrev Shared : Type 0 → Type 0
+Shared T = Rc (Vec T Global) Global
+
 pub view-Instr : (s : Site) (f : Form) → instr_of (roll-Instr (record { site = s; form = f })) ≡ record { site = site_of s; form = form_of f }
 view-Instr s f = search (rules, the_lemmas)
 
 pub view-WithoutContent : (w : without.WithoutContent) → form_of (WithoutContent w) ≡ tree.without_content (without_content_of w)
 view-WithoutContent w = search (rules, the_lemmas)
 
-pub view-WithContent : (w : with.WithContent) (is : Vec Instr Global) → form_of (WithContent w is) ≡ tree.with_content (with_content_of w) (tree.instrs (map instr_of is.items))
+pub view-WithContent : (w : with.WithContent) (is : Shared Instr) → form_of (WithContent w is) ≡ tree.with_content (with_content_of w) (tree.instrs (map instr_of is.value.items))
 view-WithContent w is = search (rules, the_lemmas)
 
 pub view-Control : (c : Control) → form_of (form.Control c) ≡ tree.control (control_of c)
 view-Control c = search (rules, the_lemmas)
 
-pub view-ForEach : (e : Expr) (keys : Vec SortKey Global) (is : Vec Instr Global)
-    → control_of (ForEach e keys is) ≡ tree.for_each (expr_of e) (map sort_key_of keys.items) (tree.instrs (map instr_of is.items))
+pub view-ForEach : (e : Expr) (keys : Vec SortKey Global) (is : Shared Instr)
+    → control_of (ForEach e keys is) ≡ tree.for_each (expr_of e) (map sort_key_of keys.items) (tree.instrs (map instr_of is.value.items))
 view-ForEach e keys is = search (rules, the_lemmas)
 
-pub view-If : (e : Expr) (is : Vec Instr Global) → control_of (If e is) ≡ tree.conditional (expr_of e) (tree.instrs (map instr_of is.items))
+pub view-If : (e : Expr) (is : Shared Instr) → control_of (If e is) ≡ tree.conditional (expr_of e) (tree.instrs (map instr_of is.value.items))
 view-If e is = search (rules, the_lemmas)
 
-pub view-Choose : (bs : Vec Branch Global) → control_of (Choose bs) ≡ tree.choose (tree.branches (map branch_of bs.items))
+pub view-Choose : (bs : Shared Branch) → control_of (Choose bs) ≡ tree.choose (tree.branches (map branch_of bs.value.items))
 view-Choose bs = search (rules, the_lemmas)
 
-pub view-ApplyTemplates : (s : Selection) (bs : Vec Binding Global) → control_of (ApplyTemplates s bs) ≡ tree.apply_templates (selection_of s) (tree.bindings (map binding_of bs.items))
+pub view-ApplyTemplates : (s : Selection) (bs : Shared Binding) → control_of (ApplyTemplates s bs) ≡ tree.apply_templates (selection_of s) (tree.bindings (map binding_of bs.value.items))
 view-ApplyTemplates s bs = search (rules, the_lemmas)
 
-pub view-CallTemplate : (name : Expanded) (bs : Vec Binding Global) → control_of (CallTemplate name bs) ≡ tree.call_template name (tree.bindings (map binding_of bs.items))
+pub view-CallTemplate : (name : Expanded) (bs : Shared Binding) → control_of (CallTemplate name bs) ≡ tree.call_template name (tree.bindings (map binding_of bs.value.items))
 view-CallTemplate name bs = search (rules, the_lemmas)
 
-pub view-Binding : (s : Site) (name : Expanded) (e : Option Expr) (is : Vec Instr Global)
+pub view-Binding : (s : Site) (name : Expanded) (e : Option Expr) (is : Shared Instr)
     → binding_of (roll-Binding (record { site = s; name = name; select = e; content = is }))
-    ≡ record { site = site_of s; name = name; select = option_map expr_of e; content = tree.instrs (map instr_of is.items) }
+    ≡ record { site = site_of s; name = name; select = option_map expr_of e; content = tree.instrs (map instr_of is.value.items) }
 view-Binding s name e is = search (rules, the_lemmas)
 
-pub view-Branch : (s : Site) (e : Option Expr) (is : Vec Instr Global)
-    → branch_of (roll-Branch (record { site = s; test = e; content = is })) ≡ record { site = site_of s; test = option_map expr_of e; content = tree.instrs (map instr_of is.items) }
+pub view-Branch : (s : Site) (e : Option Expr) (is : Shared Instr)
+    → branch_of (roll-Branch (record { site = s; test = e; content = is })) ≡ record { site = site_of s; test = option_map expr_of e; content = tree.instrs (map instr_of is.value.items) }
 view-Branch s e is = search (rules, the_lemmas)

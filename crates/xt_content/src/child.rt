@@ -10,6 +10,7 @@ ghost use Rattle.xt_content.specs.Visit.{before, followed};
 
 use crate::outline::{Outline, Outlined};
 use std::alloc::Global;
+use std::rc::Rc;
 use xp_syntax::{Binding, Branch, Instr, SortKey};
 use xt_text::Memory;
 
@@ -143,9 +144,9 @@ pub fn parted(alloc: Global, children: Vec<Child>) -> Result<Parts, Memory>
 }
 
 /// The instructions among the children, in their order. Want of memory alone is an error.
-pub fn content_in(alloc: Global, children: Vec<Child>) -> Result<Vec<Instr>, Memory>
-    ensures { IfOk result (λ content. instrs (map instr_of content.items) ≡ spec.content_in (children_in children.items)) }
+pub fn content_in(alloc: Global, children: Vec<Child>) -> Result<Rc<Vec<Instr>>, Memory>
+    ensures { IfOk result (λ content. instrs (map instr_of content.value.items) ≡ spec.content_in (children_in children.items)) }
 {
     let parts = parted(alloc, children)?;
-    Ok(parts.content)
+    Ok(Rc::new(alloc, parts.content)?)
 }

@@ -99,7 +99,8 @@ fn apply_templates(alloc: Global, entries: &mut Entries, parts: Parts) -> Result
         mode,
         keys: parts.sort_keys,
     };
-    Ok(Control::ApplyTemplates(selection, parts.parameters))
+    let parameters = Rc::new(alloc, parts.parameters)?;
+    Ok(Control::ApplyTemplates(selection, parameters))
 }
 
 fn director(
@@ -113,17 +114,20 @@ fn director(
     match kind {
         Director::ForEach => {
             let select = expr_at(alloc, entries, "select")?;
-            Ok(Control::ForEach(select, parts.sort_keys, parts.content))
+            let content = Rc::new(alloc, parts.content)?;
+            Ok(Control::ForEach(select, parts.sort_keys, content))
         }
         Director::If => {
             let test = expr_at(alloc, entries, "test")?;
-            Ok(Control::If(test, parts.content))
+            let content = Rc::new(alloc, parts.content)?;
+            Ok(Control::If(test, content))
         }
-        Director::Choose => Ok(Control::Choose(parts.branches)),
+        Director::Choose => Ok(Control::Choose(Rc::new(alloc, parts.branches)?)),
         Director::ApplyTemplates => apply_templates(alloc, entries, parts),
         Director::CallTemplate => {
             let name = name_at(alloc, entries, "name");
-            Ok(Control::CallTemplate(name, parts.parameters))
+            let parameters = Rc::new(alloc, parts.parameters)?;
+            Ok(Control::CallTemplate(name, parameters))
         }
     }
 }

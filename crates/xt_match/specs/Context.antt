@@ -1,11 +1,22 @@
 -- Where the pattern of a rule stands, as the program has it.
-use Rattle.std.specs.Prelude.{◌≡◌, List, None}
+use Rattle.std.specs.Prelude.{◌≡◌, List, None, map}
+use Rattle.std.specs.declared.rc.Rc.{Rc}
+use Rattle.std.specs.Global.{Global}
 use Rattle.spec_stylesheet.specs.Sheet as sheet
 use Rattle.spec_transform.specs.Choice.{context_for}
 use Rattle.xt_tree.specs.declared.node_ref.NodeRef.{NodeRef}
+use Rattle.xp_syntax.specs.SheetView.{unit_of}
+use Rattle.xt_ask.specs.declared.answer.ResolvedUnit.{ResolvedUnit}
 use Rattle.xt_ask.specs.declared.context.Context.{Context}
 use Rattle.xt_ask.specs.declared.context.Focus.{Focus}
 use Rattle.xt_ask.specs.View.{context_of}
+
+-- the units of a stylesheet, whatever they are resolved to
+abbrev pub unit_in : Rc ResolvedUnit Global → sheet.Unit
+unit_in resolved = unit_of resolved.value.unit.value
+
+abbrev pub units_in : List (Rc ResolvedUnit Global) → List sheet.Unit
+units_in units = map unit_in units
 
 -- at the node, whose position is not known
 abbrev pub at : NodeRef → Focus

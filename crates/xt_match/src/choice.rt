@@ -3,15 +3,16 @@ ghost use Rattle.std.specs.Prelude.{◌≡◌, IfOk, map};
 ghost use Rattle.spec_meaning.specs.Supplies.{at_hand};
 ghost use Rattle.spec_transform.specs.Choice as definition;
 ghost use Rattle.xp_axes.specs.View.{same_ref};
-ghost use Rattle.xp_syntax.specs.SheetView.{rule_of, rules_of, unit_of};
+ghost use Rattle.xp_syntax.specs.SheetView.{rule_of, rules_of};
 ghost use Rattle.xt_ask.specs.View.{answer_of, candidates_of, context_of, supplies_of};
 ghost use Rattle.xt_ask.specs.Runs.{Runs, itself};
-ghost use Rattle.xt_match.specs.Context.{IsContextOf};
+ghost use Rattle.xt_match.specs.Context.{IsContextOf, units_in};
 
 use crate::pattern::{ask_called, matches_one};
 use std::alloc::Global;
-use xp_syntax::{Rule, Rules, Unit};
-use xt_ask::{Answer, Bindings, Candidates, Context, EvalFault, Evaluate, Supplies};
+use std::rc::Rc;
+use xp_syntax::{Rule, Rules};
+use xt_ask::{Answer, Bindings, Candidates, Context, EvalFault, Evaluate, ResolvedUnit, Supplies};
 use xt_names::{Expanded, Scope};
 use xt_text::Memory;
 use xt_tree::NodeRef;
@@ -42,18 +43,23 @@ fn may_be_chosen(mode: &Option<Expanded>, candidates: Candidates, rule: &Rule) -
 }
 
 // The namespaces in scope at the template of a rule.
-fn scope_for(alloc: Global, units: &[Unit], rule: &Rule) -> Result<Scope, Memory>
-    ensures { IfOk result (λ scope. scope ≡ definition.scope_for (map unit_of units.now) (rule_of rule.now)) }
+fn scope_for(alloc: Global, units: &[Rc<ResolvedUnit>], rule: &Rule) -> Result<Scope, Memory>
+    ensures { IfOk result (λ scope. scope ≡ definition.scope_for (units_in units.now) (rule_of rule.now)) }
 {
     match units.get(rule.unit as usize) {
-        Some(unit) => unit.site.scope.copy(),
+        Some(resolved) => resolved.unit.site.scope.copy(),
         None => Scope::root(alloc),
     }
 }
 
 // Where the pattern of a rule stands.
-fn context_for(alloc: Global, units: &[Unit], rule: &Rule, node: NodeRef) -> Result<Context, Memory>
-    ensures { IfOk result (IsContextOf (map unit_of units.now) (rule_of rule.now) node) }
+fn context_for(
+    alloc: Global,
+    units: &[Rc<ResolvedUnit>],
+    rule: &Rule,
+    node: NodeRef,
+) -> Result<Context, Memory>
+    ensures { IfOk result (IsContextOf (units_in units.now) (rule_of rule.now) node) }
 {
     let scope = scope_for(alloc, units, rule)?;
     Ok(Context {
@@ -68,7 +74,7 @@ fn context_for(alloc: Global, units: &[Unit], rule: &Rule, node: NodeRef) -> Res
 fn is_chosen<W: Evaluate>(
     alloc: Global,
     rule: &Rule,
-    units: &[Unit],
+    units: &[Rc<ResolvedUnit>],
     node: NodeRef,
     called: &Answer,
     mode: &Option<Expanded>,
@@ -76,7 +82,7 @@ fn is_chosen<W: Evaluate>(
     supplies: &Supplies,
     world: &mut W,
 ) -> Result<bool, EvalFault>
-    ensures runs { Runs itself (at_hand (supplies_of supplies.now) 0) 0 (definition.is_chosen same_ref (definition.context_for (map unit_of units.now) node) mode.now (candidates_of candidates) (rule_of rule.now) node (answer_of called.now)) (W.state world.old) (W.state world.new) result }
+    ensures runs { Runs itself (at_hand (supplies_of supplies.now) 0) 0 (definition.is_chosen same_ref (definition.context_for (units_in units.now) node) mode.now (candidates_of candidates) (rule_of rule.now) node (answer_of called.now)) (W.state world.old) (W.state world.new) result }
     ensures name { W.name world.new ≡ W.name world.old }
 {
     if may_be_chosen(mode, candidates, rule) {
@@ -92,7 +98,7 @@ fn is_chosen<W: Evaluate>(
 fn first_that_matches<W: Evaluate>(
     alloc: Global,
     rules: &[Rule],
-    units: &[Unit],
+    units: &[Rc<ResolvedUnit>],
     node: NodeRef,
     called: &Answer,
     mode: &Option<Expanded>,
@@ -100,7 +106,7 @@ fn first_that_matches<W: Evaluate>(
     supplies: &Supplies,
     world: &mut W,
 ) -> Result<Option<u64>, EvalFault>
-    ensures runs { Runs itself (at_hand (supplies_of supplies.now) 0) 0 (definition.first_that_matches same_ref (definition.context_for (map unit_of units.now) node) mode.now (candidates_of candidates) 0 (map rule_of rules.now) node (answer_of called.now)) (W.state world.old) (W.state world.new) result }
+    ensures runs { Runs itself (at_hand (supplies_of supplies.now) 0) 0 (definition.first_that_matches same_ref (definition.context_for (units_in units.now) node) mode.now (candidates_of candidates) 0 (map rule_of rules.now) node (answer_of called.now)) (W.state world.old) (W.state world.new) result }
     ensures name { W.name world.new ≡ W.name world.old }
 {
     for (number, rule) in rules.iter().enumerate() {
@@ -122,14 +128,14 @@ fn first_that_matches<W: Evaluate>(
 pub fn choose<W: Evaluate>(
     alloc: Global,
     rules: &Rules,
-    units: &[Unit],
+    units: &[Rc<ResolvedUnit>],
     node: NodeRef,
     mode: &Option<Expanded>,
     candidates: Candidates,
     supplies: &Supplies,
     world: &mut W,
 ) -> Result<Option<u64>, EvalFault>
-    ensures runs { Runs itself (at_hand (supplies_of supplies.now) 0) 0 (definition.chosen same_ref (definition.context_for (map unit_of units.now) node) node mode.now (candidates_of candidates) (rules_of rules.now).rules) (W.state world.old) (W.state world.new) result }
+    ensures runs { Runs itself (at_hand (supplies_of supplies.now) 0) 0 (definition.chosen same_ref (definition.context_for (units_in units.now) node) node mode.now (candidates_of candidates) (rules_of rules.now).rules) (W.state world.old) (W.state world.new) result }
     ensures name { W.name world.new ≡ W.name world.old }
 {
     let called = ask_called(world, node)?;

@@ -4,7 +4,7 @@
 //!
 //! ```text
 //! let is_counted = matches(alloc, &count, node, &context, &supplies, world)?;
-//! let rule = choose(alloc, &rules, &units, node, &mode, Candidates::AllRules, &supplies, world)?;   // None: a built-in rule
+//! let rule = choose(alloc, &rules, units, node, &mode, Candidates::AllRules, &supplies, world)?;   // None: a built-in rule
 //! ```
 #![tactic(auto)]
 

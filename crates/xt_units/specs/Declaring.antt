@@ -1,10 +1,17 @@
 -- What each element at the top declares.
-use Rattle.std.specs.Prelude.{Bool, List, [], codes, unwrap_or}
+use Rattle.std.specs.Prelude.{Bool, List, [], Option, codes, unwrap_or}
+use Rattle.spec_document.specs.Name.{Expanded}
 use Rattle.spec_document.specs.Scope.{Scope}
+use Rattle.spec_stylesheet.specs.Instruction.{bindings, instrs}
 use Rattle.spec_stylesheet.specs.Place.{Site}
+use Rattle.spec_stylesheet.specs.Sheet.{Template}
 use Rattle.spec_compile.specs.Content.{Child, content_in, name_at, sets_at}
 use Rattle.spec_compile.specs.Unit.{Declaration, ATemplate, AGlobal, ASet, ASpaceRule, AnOutput, AnAlias, alias_by, global_of, method_in, prefix_at, priority_in, template_of, tests_in}
 use Rattle.spec_compile.specs.Value.{Entry, at, name_in, pattern_in}
+use Rattle.xt_content.specs.Kind.{Parted}
+
+abbrev pub made_template : Option Expanded → Parted → Template
+made_template name parts = record { name = name; parameters = bindings parts.parameters; content = instrs parts.content }
 
 abbrev pub template_by : List Entry → List Child → Declaration
 template_by v children = ATemplate (template_of v children) (at pattern_in (codes "match") v) (at priority_in (codes "priority") v) (at name_in (codes "mode") v)

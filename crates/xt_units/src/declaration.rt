@@ -4,22 +4,25 @@ ghost use Rattle.std.specs.Option.{option_map};
 ghost use Rattle.spec_compile.specs.Content as content;
 ghost use Rattle.spec_compile.specs.Unit as spec;
 ghost use Rattle.xp_syntax.specs.PartView.{pattern_of};
+ghost use Rattle.xp_syntax.specs.SheetView.{template_of};
 ghost use Rattle.xp_syntax.specs.View.{test_of};
 ghost use Rattle.xt_attributes.specs.View.{entries_in};
-ghost use Rattle.xt_content.specs.View.{around_in, children_in};
-ghost use Rattle.xt_units.specs.Declaring.{attribute_set_by, global_by, output_by, space_rule_by, template_by};
+ghost use Rattle.xt_content.specs.View.{around_in, children_in, parts_in};
+ghost use Rattle.xt_units.specs.Declaring.{attribute_set_by, global_by, made_template, output_by, space_rule_by, template_by};
 ghost use Rattle.xt_units.specs.View.{declaration_in};
 
 use crate::alias::alias;
 use crate::top_level::{Declaration, NamedSpace, RuleTemplate};
 use spec_structure::XsltElement;
 use std::alloc::Global;
+use std::rc::Rc;
 use xp_syntax::{AttributeSet, GlobalBinding, Key, Pattern, Template, Test};
 use xt_attributes::{Entries, into_method, into_priority, into_tests};
 use xt_content::{
-    Around, Child, binding_of, content_in, expr_at, name_at, names_at, parted, site_of, take_name,
-    take_pattern,
+    Around, Child, Parts, binding_of, content_in, expr_at, name_at, names_at, parted, site_of,
+    take_name, take_pattern,
 };
+use xt_names::Expanded;
 use xt_text::{Memory, Path};
 
 /// What this element declares, at this path and where `around` is in force inside it.
@@ -56,16 +59,25 @@ fn template(alloc: Global, entries: Entries, children: Vec<Child>) -> Result<Dec
     let mode = take_name(&mut entries, "mode");
     let priority = into_priority(entries.take("priority"));
     let parts = parted(alloc, children)?;
+    let template = template_with(alloc, name, parts)?;
     Ok(Declaration::Template(RuleTemplate {
-        template: Template {
-            name,
-            parameters: parts.parameters,
-            content: parts.content,
-        },
+        template,
         pattern,
         priority,
         mode,
     }))
+}
+
+fn template_with(alloc: Global, name: Option<Expanded>, parts: Parts) -> Result<Template, Memory>
+    ensures { IfOk result (λ t. template_of t ≡ made_template name (parts_in parts)) }
+{
+    let parameters = Rc::new(alloc, parts.parameters)?;
+    let content = Rc::new(alloc, parts.content)?;
+    Ok(Template {
+        name,
+        parameters,
+        content,
+    })
 }
 
 fn global(

@@ -12,6 +12,7 @@ ghost use Rattle.xt_units.specs.View.{declaration_in, top_levels_of};
 use crate::path::top;
 use crate::top_level::{Declaration, RuleTemplate, TopLevel};
 use std::alloc::Global;
+use std::rc::Rc;
 use xp_syntax::{Alternative, Pattern, Site, Start, Template};
 use xt_content::{
     Around, Below, Child, ContentFault, Outline, Uses, content_at, content_in, site_of,
@@ -95,9 +96,10 @@ fn template_for_the_root(alloc: Global, children: Vec<Child>) -> Result<Declarat
     ensures { IfOk result (λ d. declaration_in d ≡ spec.simplified_template (children_in children.items)) }
 {
     let content = content_in(alloc, children)?;
+    let parameters = Rc::new(alloc, Vec::new(alloc))?;
     let template = Template {
         name: None,
-        parameters: Vec::new(alloc),
+        parameters,
         content,
     };
     Ok(Declaration::Template(RuleTemplate {

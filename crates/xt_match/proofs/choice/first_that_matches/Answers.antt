@@ -1,26 +1,27 @@
 use Rattle.std.proofs.Common.{refl, ◌∙◌, arith, map}
 use Rattle.spec_transform.specs.Choice.{context_for, first_that_matches}
 use Rattle.xp_axes.specs.View.{same_ref}
-use Rattle.xp_syntax.specs.SheetView.{rule_of, unit_of}
+use Rattle.xt_match.specs.Context.{units_in}
+use Rattle.xp_syntax.specs.SheetView.{rule_of}
 use Rattle.xt_ask.specs.View.{answer_of, candidates_of}
 use Rattle.xt_ask.proofs.Steps.{runs_then, runs_stop, runs_gives, runs_from, goes_on, next_turn, exits}
 use Rattle.xt_match.proofs.choice.first_that_matches.Goals as goal
 
 pub returns-in_err-is_chosen-clause-runs : goal.returns-in_err-is_chosen-clause-runs
 returns-in_err-is_chosen-clause-runs g c =
-    let turn = rw (← c.index-rules-number.is) at (next_turn (λ rules. first_that_matches same_ref (context_for (map unit_of c.args.units.now) c.args.node) c.args.mode.now (candidates_of c.args.candidates) c.loop-number.number (map rule_of rules) c.args.node (answer_of c.args.called.now)) c.args.rules.now c.loop-number.number c.index-rules-number.result (omega arith) (c.loop-number.invariant.same)) in
+    let turn = rw (← c.index-rules-number.is) at (next_turn (λ rules. first_that_matches same_ref (context_for (units_in c.args.units.now) c.args.node) c.args.mode.now (candidates_of c.args.candidates) c.loop-number.number (map rule_of rules) c.args.node (answer_of c.args.called.now)) c.args.rules.now c.loop-number.number c.index-rules-number.result (omega arith) (c.loop-number.invariant.same)) in
     exits _ c.from_residual.ensures.1 (runs_from turn (runs_stop _ (c.in_err-is_chosen.ensures.runs)))
 
 pub returns-then-is_chosen-clause-runs : goal.returns-then-is_chosen-clause-runs
 returns-then-is_chosen-clause-runs g c =
-    let turn = rw (← c.index-rules-number.is) at (next_turn (λ rules. first_that_matches same_ref (context_for (map unit_of c.args.units.now) c.args.node) c.args.mode.now (candidates_of c.args.candidates) c.loop-number.number (map rule_of rules) c.args.node (answer_of c.args.called.now)) c.args.rules.now c.loop-number.number c.index-rules-number.result (omega arith) (c.loop-number.invariant.same)) in
+    let turn = rw (← c.index-rules-number.is) at (next_turn (λ rules. first_that_matches same_ref (context_for (units_in c.args.units.now) c.args.node) c.args.mode.now (candidates_of c.args.candidates) c.loop-number.number (map rule_of rules) c.args.node (answer_of c.args.called.now)) c.args.rules.now c.loop-number.number c.index-rules-number.result (omega arith) (c.loop-number.invariant.same)) in
     runs_from turn (runs_then _ (c.in_ok-is_chosen.ensures.runs) (rw c.if-is_chosen.true (runs_gives refl)))
 
 pub loop-number-preserved : goal.loop-number-preserved
 loop-number-preserved g c =
     record {
       same =
-          let turn = rw (← c.index-rules-number.is) at (next_turn (λ rules. first_that_matches same_ref (context_for (map unit_of c.args.units.now) c.args.node) c.args.mode.now (candidates_of c.args.candidates) c.loop-number.number (map rule_of rules) c.args.node (answer_of c.args.called.now)) c.args.rules.now c.loop-number.number c.index-rules-number.result (omega arith) (c.loop-number.invariant.same)) in
+          let turn = rw (← c.index-rules-number.is) at (next_turn (λ rules. first_that_matches same_ref (context_for (units_in c.args.units.now) c.args.node) c.args.mode.now (candidates_of c.args.candidates) c.loop-number.number (map rule_of rules) c.args.node (answer_of c.args.called.now)) c.args.rules.now c.loop-number.number c.index-rules-number.result (omega arith) (c.loop-number.invariant.same)) in
           let on = goes_on _ turn (c.in_ok-is_chosen.ensures.runs) in
           rw c.if-is_chosen.false at on;
       name = c.is_chosen.ensures.name ∙ c.loop-number.invariant.name;

@@ -1,9 +1,9 @@
 use Rattle.std.proofs.Common.{◌∙◌, ap, codes, refl}
 use Rattle.std.specs.Option.{option_and_then}
 use Rattle.std.specs.Str.{chars}
-use Rattle.spec_stylesheet.specs.Instruction.{bindings, instrs}
 use Rattle.spec_compile.specs.Unit.{ATemplate, priority_in}
 use Rattle.spec_compile.specs.Value.{name_in, pattern_in}
+use Rattle.xt_units.specs.Declaring.{made_template}
 use Rattle.xt_units.proofs.declaration.template.Goals as goal
 
 pub returns : goal.returns
@@ -17,5 +17,5 @@ returns c =
     let mode = c.take_name-mode.ensures.taken ∙ ap (option_and_then name_in) (past_match (codes "mode") refl ∙ past_name (codes "mode") refl) in
     let priority = c.into_priority-priority.ensures
     ∙ ap (option_and_then priority_in) (c.take.ensures.taken ∙ past_mode (codes "priority") refl ∙ past_match (codes "priority") refl ∙ past_name (codes "priority") refl) in
-    λ i. ATemplate (record { name = name i; parameters = bindings (c.in_ok-parts.ensures i).parameters; content = instrs (c.in_ok-parts.ensures i).content })
-    (pattern i) (priority i) (mode i)
+    let template = c.in_ok-template.ensures ∙ (λ i. made_template (name i) (c.in_ok-parts.ensures i)) in
+    λ i. ATemplate (template i) (pattern i) (priority i) (mode i)
