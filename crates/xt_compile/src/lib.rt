@@ -15,6 +15,7 @@ mod between;
 mod compiled;
 mod declared;
 mod fault;
+mod first;
 mod opened;
 mod placing;
 mod rank;
@@ -25,3 +26,4 @@ mod stock;
 
 pub use compiled::sheet;
 pub use fault::{SheetFault, StaticRefusal};
+pub use first::refused_with;

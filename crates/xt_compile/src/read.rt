@@ -89,7 +89,7 @@ pub(crate) fn says(
 }
 
 // The first of the faults, or what is said.
-fn answer(
+pub(crate) fn answer(
     structure: Option<Fault>,
     link: Option<Fault>,
     says: Result<Vec<TopLevel>, Fault>,
