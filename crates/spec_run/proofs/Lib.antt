@@ -3,3 +3,10 @@ pub mod Fill
 pub mod Trails
 pub mod More
 pub mod Cuts
+pub mod Related
+pub mod Alike
+pub mod Meanings
+pub mod Chosen
+pub mod Copies
+pub mod Truths
+pub mod Coming

@@ -6,6 +6,7 @@ pub mod Content
 pub mod Meaning
 pub mod World
 pub mod NotYet
+pub mod Documents
 pub mod Outcome
 pub mod Going
 pub mod Passes

@@ -15,7 +15,7 @@ use Rattle.spec_compile.specs.Unit.{TopLevel}
 use Rattle.spec_compile.specs.Sheet as compile
 use Rattle.spec_compile.specs.Sheet.{earlier_of, fault_in, IsRead, refusal_at, IsSheet}
 use Rattle.spec_result.specs.Shape.{shaped}
-use Rattle.spec_transform.specs.Documents.{Documents, main_name}
+use Rattle.spec_run.specs.Documents.{Documents, main_name}
 use Rattle.spec_run.specs.Plan.{Refused, nowhere}
 use Rattle.spec_run.specs.Meaning.{Whole, run_of}
 use Rattle.spec_run.specs.World.{setting_of}

@@ -13,6 +13,7 @@ use Rattle.spec_stylesheet.specs.Sheet.{Sheet, Rule}
 use Rattle.spec_meaning.specs.Question as question
 use Rattle.spec_meaning.specs.Question.{Question, Answer, Gone, SomeNodes, Copied, Resolved, Passed, Candidates, NamedTemplate}
 use Rattle.spec_meaning.specs.Program.{Supply, Said, Gives, outcome_of}
+use Rattle.spec_meaning.specs.Supplies.{at_hand}
 use Rattle.spec_meaning.specs.Truth.{answer_by, entry_named, told_of}
 use Rattle.spec_transform.specs.Choice.{context_for, chosen}
 use Rattle.spec_run.specs.Copy.{copy_of}
@@ -102,8 +103,9 @@ unit_at named same units element = unit_by named units (find (λ u. same element
 
 -- ---- Rules, by the elements of their templates
 
-abbrev pub nothing_at_hand : {K : Type 0} → Supply K
-nothing_at_hand wanted = None
+-- where patterns are asked no global is at hand. Position and size are never asked of the run: a predicate has its own
+abbrev pub no_globals : {K : Type 0} → Supply K
+no_globals = at_hand (record { position = 1; size = 1; globals = [] }) 0
 
 abbrev pub element_of_unit : {K : Type 0} → (stylesheet.Place → K) → Option sheet.Unit → List K
 element_of_unit named None = []
@@ -120,7 +122,7 @@ rule_by named s _ = SomeNodes []
 -- the element of the template rule of a node, where these are the answers of the source; none where it is a built-in rule
 abbrev pub rule_at : {K : Type 0} → (stylesheet.Place → K) → (K → K → Bool) → Sheet → (Question K → Answer K) → K → Option Expanded → Candidates → Answer K
 rule_at named same s tree n mode candidates =
-    rule_by named s (outcome_of tree nothing_at_hand (chosen same (context_for s.units n) n mode candidates s.rules.rules))
+    rule_by named s (outcome_of tree no_globals (chosen same (context_for s.units n) n mode candidates s.rules.rules))
 
 -- ---- All
 
