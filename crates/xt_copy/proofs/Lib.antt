@@ -1,0 +1,4 @@
+pub mod Among
+pub mod Answers
+pub mod Onward
+pub mod Uris
