@@ -1,0 +1,5 @@
+pub mod Answering
+pub mod Choosing
+pub mod Elements
+pub mod Listed
+pub mod Turns

@@ -1,0 +1,8 @@
+use Rattle.std.proofs.Common.{◌≡◌, ◌++◌, drop}
+use Rattle.xt_world.specs.Units.{called_among, plain_units}
+use Rattle.xt_world.proofs.stylesheet.elements.Given as goal
+
+abbrev pub invariant-loop-unit : goal.invariant-loop-unit
+invariant-loop-unit l =
+    l.elements.items ++ called_among (plain_units l.units) (plain_units (drop l.unit-index l.units))
+    ≡ called_among (plain_units l.units) (plain_units l.units)

@@ -1,0 +1,3 @@
+pub mod Numbered
+pub mod Units
+pub mod View

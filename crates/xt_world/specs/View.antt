@@ -1,0 +1,72 @@
+-- What a world of a stylesheet and a source answers, by what it holds.
+use Rattle.std.specs.Prelude.{◌≡◌, ℕ, List, [], ◌∷◌, Option, None, Some, Result, Ok, Err, slice_get, if◌then◌else◌}
+use Rattle.std.specs.declared.rc.Rc.{Rc}
+use Rattle.std.specs.Global.{Global}
+use Rattle.spec_document.specs.Name.{Expanded}
+use Rattle.spec_document.specs.Forest.{Document}
+use Rattle.spec_document.specs.Order.{entries_of}
+use Rattle.spec_stylesheet.specs.Sheet.{Rule}
+use Rattle.spec_meaning.specs.Question as question
+use Rattle.spec_meaning.specs.Question.{Question, Answer, Gone, SomeNodes, Copied, Resolved, Passed, Candidates}
+use Rattle.spec_meaning.specs.Program.{Said, Gives, outcome_of}
+use Rattle.spec_meaning.specs.Truth.{answer_by, entry_named, told_of}
+use Rattle.spec_transform.specs.Choice.{context_for, chosen}
+use Rattle.spec_run.specs.Copy.{copy_of}
+use Rattle.spec_run.specs.World.{no_globals}
+use Rattle.xt_tree.specs.declared.node_ref.NodeRef.{NodeRef}
+use Rattle.xp_axes.specs.View.{ref_of, same_ref}
+use Rattle.xp_syntax.specs.SheetView.{rules_of}
+use Rattle.xt_ask.specs.View.{resolved_of}
+use Rattle.xt_ask.specs.declared.answer.ResolvedUnit.{ResolvedUnit}
+use Rattle.xt_ask.specs.declared.fault.EvalFault.{EvalFault}
+use Rattle.xt_ask.specs.declared.fault.EvalFault.TheVariants as faults
+use Rattle.xt_match.specs.Context.{units_in}
+use Rattle.xt_world.specs.declared.stylesheet.Stylesheet.{Stylesheet}
+
+-- the unit of this turn, where its element is called so
+abbrev pub unit_called : NodeRef → Option NodeRef → Option (Rc ResolvedUnit Global) → Answer NodeRef
+unit_called element None unit = Gone
+unit_called element (Some name) None = Gone
+unit_called element (Some name) (Some unit) = if same_ref element name then Resolved (resolved_of unit.value) else Gone
+
+abbrev pub unit_held : Stylesheet → NodeRef → Answer NodeRef
+unit_held s element = unit_called element (slice_get s.elements.items element.node.number) (slice_get s.units.items element.node.number)
+
+abbrev pub element_of : Option NodeRef → List NodeRef
+element_of None = []
+element_of (Some element) = element ∷ []
+
+-- the element of a rule's unit
+abbrev pub element_of_rule : Stylesheet → Option Rule → List NodeRef
+element_of_rule s None = []
+element_of_rule s (Some rule) = element_of (slice_get s.elements.items rule.unit)
+
+abbrev pub rule_held : Stylesheet → Said (Option ℕ) → Answer NodeRef
+rule_held s (Gives (Some number)) = SomeNodes (element_of_rule s (slice_get (rules_of s.rules).rules number))
+rule_held s _ = SomeNodes []
+
+-- the number of a choice that is made: a refusal chooses no rule
+abbrev pub GivesNumber : Result (Option ℕ) EvalFault → Option ℕ → Type 0
+GivesNumber (Ok chosen) number = number ≡ chosen
+GivesNumber (Err (faults.Refused why)) number = number ≡ None
+GivesNumber (Err (faults.Wants name)) number = number ≡ None
+GivesNumber (Err faults.Memory) number = ⊥
+
+-- which rule is chosen for a node
+abbrev pub said_of : Stylesheet → Document ℕ → NodeRef → Option Expanded → Candidates → Said (Option ℕ)
+said_of s document node mode candidates =
+    outcome_of (answer_by ref_of same_ref (entries_of document)) no_globals
+    (chosen same_ref (context_for (units_in s.units.items) node) node mode candidates (rules_of s.rules).rules)
+
+-- a copy of a node of the source
+abbrev pub copy_in : Document ℕ → NodeRef → Answer NodeRef
+copy_in document node = told_of (λ e. Copied (copy_of e.item)) (entry_named ref_of same_ref (entries_of document) node)
+
+abbrev pub truth_in : Stylesheet → Document ℕ → Question NodeRef → Answer NodeRef
+truth_in s document (question.Copy node) = copy_in document node
+truth_in s document (question.Choice node mode candidates) =
+    told_of (λ e. rule_held s (said_of s document node mode candidates)) (entry_named ref_of same_ref (entries_of document) node)
+truth_in s document (question.Unit element) = unit_held s element
+truth_in s document (question.Key name text) = SomeNodes []
+truth_in s document (question.External name) = Passed None
+truth_in s document q = answer_by ref_of same_ref (entries_of document) q
