@@ -1,0 +1,3 @@
+mod Nexts
+mod Starts
+mod Onwards

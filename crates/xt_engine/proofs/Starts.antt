@@ -1,0 +1,104 @@
+-- What is left of instantiations that begin.
+use Rattle.std.proofs.Common.{◌≡◌, ℕ, suc, List, [], length, Option, Vec, Global, refl, ap, ◌∙◌, subst, arith}
+use Rattle.spec_document.specs.declared.axis.Axis.TheVariants as axis
+use Rattle.spec_document.specs.declared.kind.Kind.{Kind}
+use Rattle.spec_document.specs.declared.kind.Kind.TheVariants as kind
+use Rattle.spec_document.specs.Name.{Expanded}
+use Rattle.spec_expression.specs.declared.NodeType.TheVariants as type
+use Rattle.spec_expression.specs.Syntax.{OfType}
+use Rattle.spec_stylesheet.specs.Place as places
+use Rattle.spec_meaning.specs.Question as question
+use Rattle.spec_meaning.specs.Question.{Question, Answer, nodes_in, text_in}
+use Rattle.spec_run.specs.Plan as plan
+use Rattle.spec_run.specs.Plan.{Plan, End, Put, Inquire}
+use Rattle.spec_run.specs.Going.{Asked, noted, put}
+use Rattle.spec_run.specs.Content.{built_in, children_applied, text_put, text_item, applied_to, kind_in}
+use Rattle.spec_run.specs.Passes.{asks, puts, stays}
+use Rattle.xp_syntax.specs.PartView.{place_of}
+use Rattle.xt_base.specs.declared.place.Place.{Place}
+use Rattle.xt_tree.specs.declared.node_ref.NodeRef.{NodeRef}
+use Rattle.xt_going.specs.View.{going_of}
+use Rattle.xt_frames.specs.declared.frame.Application.{Application}
+use Rattle.xt_frames.specs.declared.frame.Frame.{Frame}
+use Rattle.xt_frames.specs.declared.frame.Frame.TheVariants as frames
+use Rattle.xt_frames.specs.declared.run.Run.{Run}
+use Rattle.xt_frames.specs.declared.run.Next.{Next}
+use Rattle.xt_frames.specs.declared.run.Next.TheVariants.{Went}
+use Rattle.xt_frames.specs.View.{left_frame, left_over}
+use Rattle.xt_frames.specs.Left.{left_in, hand, steps, Comes, Does, Pushed}
+use Rattle.xt_frames.proofs.Lefts.{pushed, one_more, steps_at, passes_at, comes_after}
+use Rattle.xt_frames.proofs.Performs.{goes}
+use Rattle.xt_engine.specs.Start.{Begun}
+
+-- a question, and this is left by its answer
+pub begun_does : (ask : Question NodeRef → Answer NodeRef) (q : Question NodeRef) (next : Answer NodeRef → Plan NodeRef) (a : Answer NodeRef) (old mid new : Run) → a ≡ ask q → going_of mid.going ≡ noted (Asked q (ask q)) (going_of old.going)
+    → mid.room ≡ old.room → mid.supplies ≡ old.supplies → Begun (next a) mid new → Does ask (Inquire q next) (suc (length old.frames.items)) old new Went
+begun_does ask q next a old mid new is_a going room supplies b =
+    let few = b.few in
+    goes ask (Inquire q next) (next (ask q)) (noted (Asked q (ask q)) (going_of old.going)) old new (b.left ∙ ap next is_a) (ap going_of b.going ∙ going) (asks stays) (omega arith) (omega (arith, few)) (b.room ∙ room) (b.supplies ∙ supplies)
+
+-- ---- Built-in rules
+
+-- by the kind of the node
+abbrev pub built_for : Option Expanded → NodeRef → Kind → Plan NodeRef
+built_for mode n k = elim k [
+  | kind.Root ↦ children_applied mode n
+  | kind.Element ↦ children_applied mode n
+  | kind.Attribute ↦ text_put n
+  | kind.Text ↦ text_put n
+  | kind.Namespace ↦ End
+  | kind.Comment ↦ End
+  | kind.Instruction ↦ End
+]
+
+pub built_in_does : (ask : Question NodeRef → Answer NodeRef) (mode : Option Expanded) (n : NodeRef) (k : Kind) (old mid low new : Run) (next : Next) → k ≡ kind_in (ask (question.Name n))
+    → going_of mid.going ≡ noted (Asked (question.Name n) (ask (question.Name n))) (going_of old.going) → mid.room ≡ old.room → mid.supplies ≡ old.supplies → Begun End mid low
+    → Does ask (built_for mode n k) 1 low new next → Does ask (built_in mode n) (suc (length old.frames.items)) old new next
+built_in_does ask mode n k old mid low new next e going room supplies begun does =
+    let q = question.Name n in
+    let is_going = ap going_of begun.going ∙ going in
+    let same : built_for mode n k ≡ built_for mode n (kind_in (ask q)) = ap (built_for mode n) e in
+    let s = steps_at ask old low (begun.room ∙ room) (begun.supplies ∙ supplies) same is_going in
+    comes_after ask (built_in mode n) (built_for mode n k) (suc (length old.frames.items)) 1 old low new next does (passes_at same is_going (asks stays)) (omega (arith, s)) (begun.room ∙ room) (begun.supplies ∙ supplies) (λ x d l y. y)
+
+pub nothing_does : (ask : Question NodeRef → Answer NodeRef) (low : Run) → left_in low ≡ End → low.frames.items ≡ [] → Does ask End 1 low low Went
+nothing_does ask low left none =
+    let s = ap (λ p. steps ask (hand low) low.room p (going_of low.going)) left in
+    let n : length low.frames.items ≡ length {A = Frame} [] = ap length none in
+    record { so = (passes_at left refl stays, omega (arith, s, n)); room = refl; supplies = refl }
+
+-- of a run in which no frame is left
+of_none : (ask : Question NodeRef → Answer NodeRef) (p : Plan NodeRef) (old new : Run) → old.frames.items ≡ [] → Does ask p (suc (length old.frames.items)) old new Went → Does ask p 1 old new Went
+of_none ask p old new none does =
+    let P : List Frame → Type 0 = λ fs. Does ask p (suc (length fs)) old new Went in
+    subst P none does
+
+pub children_do : (ask : Question NodeRef → Answer NodeRef) (mode : Option Expanded) (n : NodeRef) (place : Place) (nodes : Vec NodeRef Global) (old mid new : Run)
+    → let q = question.Step n axis.Child (OfType type.Node) in old.frames.items ≡ [] → mid.frames ≡ old.frames → mid.room ≡ old.room → mid.supplies ≡ old.supplies → going_of mid.going ≡ noted (Asked q (ask q)) (going_of old.going)
+    → place_of place ≡ plan.nowhere → nodes.items ≡ nodes_in (ask q) → Pushed (frames.Application (record { place = place; mode = mode; nodes = nodes; next = 0; depth = 0 })) mid new → Does ask (children_applied mode n) 1 old new Went
+children_do ask mode n place nodes old mid new none same_frames room supplies going is_place are push =
+    let q = question.Step n axis.Child (OfType type.Node) in
+    let a : Application = record { place = place; mode = mode; nodes = nodes; next = 0; depth = 0 } in
+    let count = one_more mid.frames.items new.frames.items (frames.Application a) push.frames in
+    let m : length mid.frames.items ≡ length old.frames.items = ap (λ (fs : Vec Frame Global). length fs.items) same_frames in
+    let left : left_in new ≡ applied_to plan.nowhere mode 0 (nodes_in (ask q)) End =
+    pushed mid new (frames.Application a) push.frames
+    ∙ ap (λ (fs : Vec Frame Global). left_frame (frames.Application a) (left_over fs.items End)) same_frames
+    ∙ ap (λ fs. left_frame (frames.Application a) (left_over fs End)) none
+    ∙ ap (λ p. applied_to p mode 0 nodes.items End) is_place
+    ∙ ap (λ ns. applied_to plan.nowhere mode 0 ns End) are in
+    of_none ask _ old new none (goes ask (children_applied mode n) (applied_to plan.nowhere mode 0 (nodes_in (ask q)) End) (noted (Asked q (ask q)) (going_of old.going)) old new left (ap going_of push.going ∙ going) (asks stays) (omega arith) (omega (arith, count, m)) (push.room ∙ room) (push.supplies ∙ supplies))
+
+pub text_does : (ask : Question NodeRef → Answer NodeRef) (n : NodeRef) (text : List ℕ) (old mid new : Run)
+    → let q = question.Text n in old.frames.items ≡ [] → new.frames ≡ old.frames → new.room ≡ old.room → new.supplies ≡ old.supplies → going_of mid.going ≡ noted (Asked q (ask q)) (going_of old.going)
+    → text ≡ text_in (ask q) → going_of new.going ≡ put (text_item text) (going_of mid.going) → Does ask (text_put n) 1 old new Went
+text_does ask n text old mid new none same_frames room supplies going is_text written =
+    let q = question.Text n in
+    let g = noted (Asked q (ask q)) (going_of old.going) in
+    let m : length new.frames.items ≡ length old.frames.items = ap (λ (fs : Vec Frame Global). length fs.items) same_frames in
+    let left : left_in new ≡ End = ap (λ (fs : Vec Frame Global). left_over fs.items End) same_frames ∙ ap (λ fs. left_over fs End) none in
+    let is_going : going_of new.going ≡ put (text_item (text_in (ask q))) g = written ∙ ap (put (text_item text)) going ∙ ap (λ t. put (text_item t) g) is_text in
+    of_none ask _ old new none (goes ask (text_put n) End (put (text_item (text_in (ask q))) g) old new left is_going (asks (puts stays)) (omega arith) (omega (arith, m)) room supplies)
+
+pub comes_in : {needs : Expanded → ℕ → places.Place → Type 0} {t u : Question NodeRef → Answer NodeRef} {p : Plan NodeRef} {k : ℕ} {old new : Run} {next : Next} → t ≡ u → Comes needs t p k old new next → Comes needs u p k old new next
+comes_in {needs = needs} {p = p} {k = k} {old = old} {new = new} {next = next} e h = let P : (Question NodeRef → Answer NodeRef) → Type 0 = λ t. Comes needs t p k old new next in subst P e h

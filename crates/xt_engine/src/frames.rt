@@ -1,0 +1,168 @@
+// What is left of the frames that evaluate nothing: the next node of a loop, of an application or of copies, and the
+// ends of sinks.
+ghost use Rattle.std.specs.Prelude.{◌≡◌, ◌<◌, suc, length, get_or, IfOk};
+ghost use Rattle.spec_meaning.specs.Question as question;
+ghost use Rattle.xt_tree.specs.declared.node_ref.NodeRef.{NodeRef};
+ghost use Rattle.xt_run.specs.View.{target_of};
+ghost use Rattle.spec_run.specs.Content.{at, target_by};
+ghost use Rattle.xt_frames.specs.View.{here_of};
+ghost use Rattle.xt_ask.specs.View.{answer_of};
+ghost use Rattle.xt_frames.specs.declared.frame.Frame.TheVariants as Frame;
+ghost use Rattle.xt_frames.specs.Left.{StepsFrom};
+
+use std::alloc::Global;
+use xt_ask::{Answer, Bindings, Candidates, Focus, Question, World, copy_name_if, copy_place};
+use xt_frames::{
+    Application, Body, Copies, Frame, Loop, Next, Run, Standing, go_into, push, share_content, want,
+};
+use xt_names::Expanded;
+use xt_perform::{perform, put_copy};
+use xt_run::{Call, Target, Wrapping};
+use xt_text::Memory;
+
+/// Goes on with a content.
+pub(crate) fn go_on_body<W: World>(
+    alloc: Global,
+    run: &mut Run,
+    body: Body,
+    world: &mut W,
+) -> Result<Next, Memory>
+    ensures does { IfOk result (StepsFrom (W.state world.old).truth (Frame.Body body) run.old run.new) }
+    ensures truth { (W.state world.new).truth ≡ (W.state world.old).truth }
+    ensures name { W.name world.new ≡ W.name world.old }
+{
+    let content = share_content(&body.content)?;
+    let instrs = content.as_slice();
+    if body.next >= instrs.len() {
+        return Ok(Next::Went);
+    }
+    perform(alloc, run, &instrs[body.next], body, world)
+}
+
+/// Goes on after the content of what a sink becomes.
+pub(crate) fn go_on_wrap(alloc: Global, run: &mut Run, how: Wrapping) -> Result<Next, Memory>
+    ensures { IfOk result (λ next. (ask : question.Question NodeRef → question.Answer NodeRef) → StepsFrom ask (Frame.Wrap how) run.old run.new next) }
+{
+    run.going.end_wrapped(alloc, how)?;
+    Ok(Next::Went)
+}
+
+/// Goes on with the nodes of an xsl:for-each.
+pub(crate) fn go_on_loop(alloc: Global, run: &mut Run, left: Loop) -> Result<Next, Memory>
+    ensures { IfOk result (λ next. (ask : question.Question NodeRef → question.Answer NodeRef) → StepsFrom ask (Frame.Loop left) run.old run.new next) }
+{
+    if left.next >= left.nodes.as_slice().len() {
+        return Ok(Next::Went);
+    }
+    let place = copy_place(alloc, &left.place)?;
+    let content = share_content(&left.content)?;
+    let here = item_of(&left)?;
+    push(
+        run,
+        Frame::Loop(Loop {
+            place: left.place,
+            content: left.content,
+            nodes: left.nodes,
+            next: left.next + 1,
+            here: left.here,
+        }),
+    )?;
+    go_into(alloc, run, &place, content, here)
+}
+
+/// Where the content of a loop stands for its next node.
+fn item_of(left: &Loop) -> Result<Standing, Memory>
+    requires { left.now.next < length left.now.nodes.items }
+    ensures { IfOk result (λ h. (n : NodeRef) → here_of h ≡ at (get_or left.now.nodes.items left.now.next n) (suc left.now.next) (length left.now.nodes.items) (here_of left.now.here)) }
+{
+    let nodes = left.nodes.as_slice();
+    let shared = left.here.share()?;
+    Ok(Standing {
+        focus: Focus {
+            node: nodes[left.next],
+            position: Some(left.next as u64 + 1),
+            size: Some(nodes.len() as u64),
+        },
+        bindings: shared.bindings,
+        depth: shared.depth,
+        unit: shared.unit,
+    })
+}
+
+/// Goes on with nodes whose template rules are entered.
+pub(crate) fn go_on_application<W: World>(
+    alloc: Global,
+    run: &mut Run,
+    left: Application,
+    world: &mut W,
+) -> Result<Next, Memory>
+    ensures does { IfOk result (StepsFrom (W.state world.old).truth (Frame.Application left) run.old run.new) }
+    ensures truth { (W.state world.new).truth ≡ (W.state world.old).truth }
+    ensures name { W.name world.new ≡ W.name world.old }
+{
+    let nodes = left.nodes.as_slice();
+    if left.next >= nodes.len() {
+        return Ok(Next::Went);
+    }
+    let node = nodes[left.next];
+    let size = nodes.len() as u64;
+    let mode = copy_name_if(alloc, &left.mode)?;
+    let question = Question::Choice(node, mode, Candidates::AllRules);
+    let answer = run.going.ask(alloc, world, question)?;
+    let call = Call {
+        target: target_by(alloc, &left.mode, answer)?,
+        node,
+        parameters: Bindings::Empty,
+        position: Some(left.next as u64 + 1),
+        size: Some(size),
+        by: copy_place(alloc, &left.place)?,
+    };
+    let depth = left.depth;
+    let rest = Frame::Application(Application {
+        place: left.place,
+        mode: left.mode,
+        nodes: left.nodes,
+        next: left.next + 1,
+        depth,
+    });
+    want(run, rest, call, depth)
+}
+
+/// The template rule that was chosen: that of the first element, and without one a built-in rule.
+fn target_by(alloc: Global, mode: &Option<Expanded>, answer: Answer) -> Result<Target, Memory>
+    ensures { IfOk result (λ t. target_of t ≡ target_by mode.now (question.nodes_in (answer_of answer))) }
+{
+    let nodes = answer.into_nodes(alloc);
+    match nodes.as_slice() {
+        [] => Ok(Target::BuiltIn(copy_name_if(alloc, mode)?)),
+        [element, ..] => Ok(Target::Unit(*element)),
+    }
+}
+
+/// Goes on with nodes that are copied.
+pub(crate) fn go_on_copies<W: World>(
+    alloc: Global,
+    run: &mut Run,
+    left: Copies,
+    world: &mut W,
+) -> Result<Next, Memory>
+    ensures does { IfOk result (StepsFrom (W.state world.old).truth (Frame.Copies left) run.old run.new) }
+    ensures truth { (W.state world.new).truth ≡ (W.state world.old).truth }
+    ensures name { W.name world.new ≡ W.name world.old }
+{
+    let nodes = left.nodes.as_slice();
+    if left.next >= nodes.len() {
+        return Ok(Next::Went);
+    }
+    let node = nodes[left.next];
+    let answer = run.going.ask(alloc, world, Question::Copy(node))?;
+    put_copy(&mut run.going, &answer)?;
+    push(
+        run,
+        Frame::Copies(Copies {
+            nodes: left.nodes,
+            next: left.next + 1,
+        }),
+    )?;
+    Ok(Next::Went)
+}

@@ -1,0 +1,172 @@
+// A run, up to its end or to what it wants next.
+ghost use Rattle.std.specs.Prelude.{◌≡◌, IfOk};
+ghost use Rattle.spec_run.specs.Direct.{Finished};
+ghost use Rattle.xp_syntax.specs.PartView.{place_of};
+ghost use Rattle.xt_ask.specs.View.{supplies_of};
+ghost use Rattle.xt_run.specs.View.{call_of, refused_of};
+ghost use Rattle.xt_run.specs.Progress as progress;
+ghost use Rattle.xt_run.specs.Progress.{Goes, started, after_call, after_global};
+ghost use Rattle.xt_run.specs.Advances.{HaltsSo, gift_of, ran_of, made};
+ghost use Rattle.xt_going.specs.View.{going_of};
+ghost use Rattle.xt_frames.specs.Left.{progress_of, waiting_of};
+ghost use Rattle.xt_engine.specs.Onward.{Onward};
+
+use crate::step::step;
+use spec_expression::DynCode;
+use std::alloc::Global;
+use std::mem;
+use xt_ask::{Known, Supplies, World, copy_name, copy_place};
+use xt_base::Place;
+use xt_frames::{Frame, Next, Run, Waiting};
+use xt_going::Going;
+use xt_names::Expanded;
+use xt_run::{Call, Entered, Ran, Refused, RunFault, Turn};
+use xt_text::Memory;
+
+/// Starts one instantiation, with so many levels below its own.
+pub(crate) fn start(alloc: Global, call: &Call, room: u64) -> Result<Run, Memory>
+    ensures { IfOk result (λ run. progress_of run ≡ started (call_of call.now) room) }
+{
+    let mut frames = Vec::new(alloc);
+    frames.push(Frame::Start(call.target.copy(alloc)?, call.node))?;
+    Ok(Run {
+        room,
+        supplies: supplies_for(alloc, call),
+        waiting: Waiting::Nothing,
+        frames,
+        going: Going::new(alloc),
+    })
+}
+
+/// What is at hand for a call. Takes no memory.
+fn supplies_for(alloc: Global, call: &Call) -> Supplies
+    ensures { supplies_of result ≡ progress.supplies_for (call_of call.now) }
+{
+    Supplies {
+        position: call.position.unwrap_or(1),
+        size: call.size.unwrap_or(1),
+        globals: Vec::new(alloc),
+    }
+}
+
+/// Takes out what a run made that came to its end.
+fn finish(alloc: Global, run: &mut Run) -> Result<Ran, Memory>
+    ensures { IfOk result (λ ran. ran_of ran ≡ made (going_of run.old.going) Finished) }
+{
+    let stream = run.going.close(alloc)?;
+    let events = mem::replace(&mut run.going.events, Vec::new(alloc));
+    Ok(Ran {
+        stream,
+        value: None,
+        events,
+        height: run.going.height,
+    })
+}
+
+/// The refusal of a run, with what it wrote before.
+fn halt(alloc: Global, run: &mut Run, why: Refused) -> RunFault
+    ensures { HaltsSo (refused_of why) (going_of run.old.going) (Err result) }
+{
+    match run.going.written(alloc) {
+        Ok(before) => RunFault::Refused(why, before),
+        Err(Memory) => RunFault::Memory,
+    }
+}
+
+/// Goes on from where a run is.
+pub(crate) fn go<W: World>(alloc: Global, run: &mut Run, world: &mut W) -> Result<Turn, RunFault>
+    ensures onward { Onward (W.state world.old).truth (progress_of run.old) (Goes (going_of run.old.going) (supplies_of run.old.supplies)) (progress_of run.new) result }
+    ensures truth { (W.state world.new).truth ≡ (W.state world.old).truth }
+    ensures name { W.name world.new ≡ W.name world.old }
+{
+    loop {
+        match step(alloc, run, world)? {
+            Next::Went => {}
+            Next::Want(call, depth) => {
+                run.waiting = Waiting::ForCall(call.copy(alloc)?, depth);
+                return Ok(Turn::Want(call, depth));
+            }
+            Next::Needs(name, depth, place) => {
+                run.waiting = wait_for(alloc, &name, depth, &place)?;
+                return Ok(Turn::WantGlobal(name, depth, place));
+            }
+            Next::Done => return Ok(Turn::Done(finish(alloc, run)?)),
+            Next::Halt(why) => return Err(halt(alloc, run, why)),
+        }
+    }
+}
+
+/// To wait for a global that is needed at this place.
+fn wait_for(alloc: Global, name: &Expanded, depth: u64, place: &Place) -> Result<Waiting, Memory>
+    ensures { IfOk result (λ w. waiting_of w ≡ progress.ForGlobal name.now depth (place_of place.now)) }
+{
+    let name = copy_name(alloc, name)?;
+    let place = copy_place(alloc, place)?;
+    Ok(Waiting::ForGlobal(name, depth, place))
+}
+
+/// Goes on after an instantiation that was entered.
+pub(crate) fn go_on_call<W: World>(
+    alloc: Global,
+    run: &mut Run,
+    call: Call,
+    depth: u64,
+    given: Option<Entered>,
+    world: &mut W,
+) -> Result<Turn, RunFault>
+    ensures onward { Onward (W.state world.old).truth (progress_of run.old) (after_call (call_of call) depth (going_of run.old.going) (supplies_of run.old.supplies) (gift_of given)) (progress_of run.new) result }
+    ensures truth { (W.state world.new).truth ≡ (W.state world.old).truth }
+    ensures name { W.name world.new ≡ W.name world.old }
+{
+    match given {
+        Some(Entered::Stream(stream)) => {
+            run.going.leave_hole(call, depth)?;
+            run.going.give(stream)?;
+            go(alloc, run, world)
+        }
+        Some(Entered::Refused(why, stream)) => {
+            run.going.leave_hole(call, depth)?;
+            run.going.give(stream)?;
+            Err(halt(alloc, run, why))
+        }
+        Some(Entered::UnderWay) => Err(halt(alloc, run, circular(call.by))),
+        Some(Entered::Value(_)) => go(alloc, run, world),
+        None => go(alloc, run, world),
+    }
+}
+
+/// That a global needs itself, at this place.
+fn circular(place: Place) -> Refused
+    ensures { refused_of result ≡ progress.circular (place_of place) }
+{
+    Refused {
+        code: DynCode::GlobalCycle,
+        place,
+    }
+}
+
+/// Goes on with a global that is needed.
+pub(crate) fn go_on_global<W: World>(
+    alloc: Global,
+    run: &mut Run,
+    name: Expanded,
+    depth: u64,
+    place: Place,
+    given: Option<Entered>,
+    world: &mut W,
+) -> Result<Turn, RunFault>
+    ensures onward { Onward (W.state world.old).truth (progress_of run.old) (after_global name depth (place_of place) (going_of run.old.going) (supplies_of run.old.supplies) (gift_of given)) (progress_of run.new) result }
+    ensures truth { (W.state world.new).truth ≡ (W.state world.old).truth }
+    ensures name { W.name world.new ≡ W.name world.old }
+{
+    match given {
+        Some(Entered::Value(value)) => {
+            run.supplies.globals.push(Known { name, depth, value })?;
+            go(alloc, run, world)
+        }
+        Some(Entered::Refused(why, _)) => Err(halt(alloc, run, why)),
+        Some(Entered::UnderWay) => Err(halt(alloc, run, circular(place))),
+        Some(Entered::Stream(_)) => go(alloc, run, world),
+        None => go(alloc, run, world),
+    }
+}

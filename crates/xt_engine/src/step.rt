@@ -1,0 +1,61 @@
+// One step of a run, by the frame that is on top.
+ghost use Rattle.std.specs.Prelude.{◌≡◌, length, suc, IfOk};
+ghost use Rattle.xt_frames.specs.declared.frame.Frame.TheVariants as Frame;
+ghost use Rattle.xt_frames.specs.Left.{left_in, Steps, StepsFrom};
+
+use crate::frames::{go_on_application, go_on_body, go_on_copies, go_on_loop, go_on_wrap};
+use crate::start::go_on_start;
+use std::alloc::Global;
+use xt_ask::World;
+use xt_frames::{Branches, Frame, Next, Run};
+use xt_perform::{choose_from, go_on_attributes};
+use xt_text::Memory;
+
+/// One step of a run.
+pub(crate) fn step<W: World>(alloc: Global, run: &mut Run, world: &mut W) -> Result<Next, Memory>
+    ensures does { IfOk result (Steps (W.state world.old).truth (left_in run.old) (length run.old.frames.items) run.old run.new) }
+    ensures truth { (W.state world.new).truth ≡ (W.state world.old).truth }
+    ensures name { W.name world.new ≡ W.name world.old }
+{
+    match run.frames.pop() {
+        None => Ok(Next::Done),
+        Some(frame) => go_on(alloc, run, frame, world),
+    }
+}
+
+/// Goes on with a frame, which was taken off.
+fn go_on<W: World>(
+    alloc: Global,
+    run: &mut Run,
+    frame: Frame,
+    world: &mut W,
+) -> Result<Next, Memory>
+    ensures does { IfOk result (StepsFrom (W.state world.old).truth frame run.old run.new) }
+    ensures truth { (W.state world.new).truth ≡ (W.state world.old).truth }
+    ensures name { W.name world.new ≡ W.name world.old }
+{
+    match frame {
+        Frame::Start(target, node) => go_on_start(alloc, run, target, node, world),
+        Frame::Body(body) => go_on_body(alloc, run, body, world),
+        Frame::Attributes(attributes) => go_on_attributes(alloc, run, attributes, world),
+        Frame::Branches(branches) => go_on_branches(alloc, run, branches, world),
+        Frame::Loop(left) => go_on_loop(alloc, run, left),
+        Frame::Application(left) => go_on_application(alloc, run, left, world),
+        Frame::Copies(left) => go_on_copies(alloc, run, left, world),
+        Frame::Wrap(how) => go_on_wrap(alloc, run, how),
+    }
+}
+
+/// Goes on with branches.
+fn go_on_branches<W: World>(
+    alloc: Global,
+    run: &mut Run,
+    branches: Branches,
+    world: &mut W,
+) -> Result<Next, Memory>
+    ensures does { IfOk result (StepsFrom (W.state world.old).truth (Frame.Branches branches) run.old run.new) }
+    ensures truth { (W.state world.new).truth ≡ (W.state world.old).truth }
+    ensures name { W.name world.new ≡ W.name world.old }
+{
+    choose_from(alloc, run, branches, world)
+}

@@ -1,0 +1,255 @@
+// Expressions, evaluated where an instruction stands. What they read is noted at the element once they have a
+// value: it is dropped where a global is lacking, since they are evaluated again from their start then.
+ghost use Rattle.std.specs.Prelude.{◌≡◌, ℕ, List, Bool, IfOk};
+ghost use Rattle.spec_meaning.specs.Value as value;
+ghost use Rattle.spec_meaning.specs.Meaning.{meaning};
+ghost use Rattle.spec_transform.specs.Expansion.{expanded};
+ghost use Rattle.spec_run.specs.Plan as plan;
+ghost use Rattle.spec_run.specs.Names as names;
+ghost use Rattle.spec_run.specs.Content.{asked, text_meant, nodes_meant, truth_meant};
+ghost use Rattle.xp_syntax.specs.View.{expr_of};
+ghost use Rattle.xp_syntax.specs.PartView.{site_of, place_of, avt_of, made_name_of};
+ghost use Rattle.xt_tree.specs.declared.node_ref.NodeRef.{NodeRef};
+ghost use Rattle.xt_tree.specs.ValueView.{value_of};
+ghost use Rattle.xt_ask.specs.Runs.{itself, items};
+ghost use Rattle.xt_run.specs.View.{wrapping_of};
+ghost use Rattle.xt_going.specs.View.{going_of};
+ghost use Rattle.xt_frames.specs.View.{here_of};
+ghost use Rattle.xt_frames.specs.Left.{Found, hand, IsStill};
+
+use crate::noting::{
+    noted_attribute, noted_element, noted_expansion, noted_instruction, noted_nodes, noted_text,
+    noted_truth, noted_value,
+};
+use crate::settle::settle;
+use crate::{Came, Run, Standing};
+use std::alloc::Global;
+use xp_syntax::{Avt, Expr, MadeName, Site};
+use xt_ask::World;
+use xt_run::Wrapping;
+use xt_text::{Memory, Text};
+use xt_tree::{NodeRef, Value};
+
+/// The value of an expression.
+pub fn value<W: World>(
+    alloc: Global,
+    run: &mut Run,
+    expr: &Expr,
+    site: &Site,
+    here: &Standing,
+    world: &mut W,
+) -> Result<Came<Value>, Memory>
+    ensures found { IfOk result (λ came. (k : value.Value NodeRef → plan.Plan NodeRef) → Found value_of (W.state world.old).truth (hand run.old) run.old.room (asked (site_of site.now) (here_of here.now) (meaning (expr_of expr.now)) k) k here.now.depth (place_of site.now.place) (going_of run.old.going) (going_of run.new.going) came) }
+    ensures still { IsStill run.old run.new }
+    ensures truth { (W.state world.new).truth ≡ (W.state world.old).truth }
+    ensures name { W.name world.new ≡ W.name world.old }
+{
+    let context = here.context(site)?;
+    let mut reads = Vec::new(alloc);
+    let found = noted_value(
+        alloc,
+        expr,
+        here.focus,
+        &context,
+        &run.supplies,
+        world,
+        &mut reads,
+    );
+    settle(alloc, run, &site.place, reads, found)
+}
+
+/// The value of an expression as a string.
+pub fn text<W: World>(
+    alloc: Global,
+    run: &mut Run,
+    expr: &Expr,
+    site: &Site,
+    here: &Standing,
+    world: &mut W,
+) -> Result<Came<Text>, Memory>
+    ensures found { IfOk result (λ came. (k : List ℕ → plan.Plan NodeRef) → Found itself (W.state world.old).truth (hand run.old) run.old.room (asked (site_of site.now) (here_of here.now) (text_meant (expr_of expr.now)) k) k here.now.depth (place_of site.now.place) (going_of run.old.going) (going_of run.new.going) came) }
+    ensures still { IsStill run.old run.new }
+    ensures truth { (W.state world.new).truth ≡ (W.state world.old).truth }
+    ensures name { W.name world.new ≡ W.name world.old }
+{
+    let context = here.context(site)?;
+    let mut reads = Vec::new(alloc);
+    let found = noted_text(
+        alloc,
+        expr,
+        here.focus,
+        &context,
+        &run.supplies,
+        world,
+        &mut reads,
+    );
+    settle(alloc, run, &site.place, reads, found)
+}
+
+/// The nodes that an expression selects.
+pub fn nodes<W: World>(
+    alloc: Global,
+    run: &mut Run,
+    expr: &Expr,
+    site: &Site,
+    here: &Standing,
+    world: &mut W,
+) -> Result<Came<Vec<NodeRef>>, Memory>
+    ensures found { IfOk result (λ came. (k : List NodeRef → plan.Plan NodeRef) → Found items (W.state world.old).truth (hand run.old) run.old.room (asked (site_of site.now) (here_of here.now) (nodes_meant (expr_of expr.now)) k) k here.now.depth (place_of site.now.place) (going_of run.old.going) (going_of run.new.going) came) }
+    ensures still { IsStill run.old run.new }
+    ensures truth { (W.state world.new).truth ≡ (W.state world.old).truth }
+    ensures name { W.name world.new ≡ W.name world.old }
+{
+    let context = here.context(site)?;
+    let mut reads = Vec::new(alloc);
+    let found = noted_nodes(
+        alloc,
+        expr,
+        here.focus,
+        &context,
+        &run.supplies,
+        world,
+        &mut reads,
+    );
+    settle(alloc, run, &site.place, reads, found)
+}
+
+/// The value of an expression as a boolean.
+pub fn truth<W: World>(
+    alloc: Global,
+    run: &mut Run,
+    expr: &Expr,
+    site: &Site,
+    here: &Standing,
+    world: &mut W,
+) -> Result<Came<bool>, Memory>
+    ensures found { IfOk result (λ came. (k : Bool → plan.Plan NodeRef) → Found itself (W.state world.old).truth (hand run.old) run.old.room (asked (site_of site.now) (here_of here.now) (truth_meant (expr_of expr.now)) k) k here.now.depth (place_of site.now.place) (going_of run.old.going) (going_of run.new.going) came) }
+    ensures still { IsStill run.old run.new }
+    ensures truth { (W.state world.new).truth ≡ (W.state world.old).truth }
+    ensures name { W.name world.new ≡ W.name world.old }
+{
+    let context = here.context(site)?;
+    let mut reads = Vec::new(alloc);
+    let found = noted_truth(
+        alloc,
+        expr,
+        here.focus,
+        &context,
+        &run.supplies,
+        world,
+        &mut reads,
+    );
+    settle(alloc, run, &site.place, reads, found)
+}
+
+/// The string of a value template.
+pub fn expansion<W: World>(
+    alloc: Global,
+    run: &mut Run,
+    avt: &Avt,
+    site: &Site,
+    here: &Standing,
+    world: &mut W,
+) -> Result<Came<Text>, Memory>
+    ensures found { IfOk result (λ came. (k : List ℕ → plan.Plan NodeRef) → Found itself (W.state world.old).truth (hand run.old) run.old.room (asked (site_of site.now) (here_of here.now) (expanded (avt_of avt.now)) k) k here.now.depth (place_of site.now.place) (going_of run.old.going) (going_of run.new.going) came) }
+    ensures still { IsStill run.old run.new }
+    ensures truth { (W.state world.new).truth ≡ (W.state world.old).truth }
+    ensures name { W.name world.new ≡ W.name world.old }
+{
+    let context = here.context(site)?;
+    let mut reads = Vec::new(alloc);
+    let found = noted_expansion(
+        alloc,
+        avt,
+        here.focus,
+        &context,
+        &run.supplies,
+        world,
+        &mut reads,
+    );
+    settle(alloc, run, &site.place, reads, found)
+}
+
+/// The element that an xsl:element makes.
+pub fn element<W: World>(
+    alloc: Global,
+    run: &mut Run,
+    made: &MadeName,
+    site: &Site,
+    here: &Standing,
+    world: &mut W,
+) -> Result<Came<Wrapping>, Memory>
+    ensures found { IfOk result (λ came. (k : plan.Wrapping → plan.Plan NodeRef) → Found wrapping_of (W.state world.old).truth (hand run.old) run.old.room (asked (site_of site.now) (here_of here.now) (names.element_meant (made_name_of made.now)) k) k here.now.depth (place_of site.now.place) (going_of run.old.going) (going_of run.new.going) came) }
+    ensures still { IsStill run.old run.new }
+    ensures truth { (W.state world.new).truth ≡ (W.state world.old).truth }
+    ensures name { W.name world.new ≡ W.name world.old }
+{
+    let context = here.context(site)?;
+    let mut reads = Vec::new(alloc);
+    let found = noted_element(
+        alloc,
+        made,
+        here.focus,
+        &context,
+        &run.supplies,
+        world,
+        &mut reads,
+    );
+    settle(alloc, run, &site.place, reads, found)
+}
+
+/// The attribute that an xsl:attribute makes.
+pub fn attribute<W: World>(
+    alloc: Global,
+    run: &mut Run,
+    made: &MadeName,
+    site: &Site,
+    here: &Standing,
+    world: &mut W,
+) -> Result<Came<Wrapping>, Memory>
+    ensures found { IfOk result (λ came. (k : plan.Wrapping → plan.Plan NodeRef) → Found wrapping_of (W.state world.old).truth (hand run.old) run.old.room (asked (site_of site.now) (here_of here.now) (names.attribute_meant (made_name_of made.now)) k) k here.now.depth (place_of site.now.place) (going_of run.old.going) (going_of run.new.going) came) }
+    ensures still { IsStill run.old run.new }
+    ensures truth { (W.state world.new).truth ≡ (W.state world.old).truth }
+    ensures name { W.name world.new ≡ W.name world.old }
+{
+    let context = here.context(site)?;
+    let mut reads = Vec::new(alloc);
+    let found = noted_attribute(
+        alloc,
+        made,
+        here.focus,
+        &context,
+        &run.supplies,
+        world,
+        &mut reads,
+    );
+    settle(alloc, run, &site.place, reads, found)
+}
+
+/// The processing instruction that an xsl:processing-instruction makes.
+pub fn instruction<W: World>(
+    alloc: Global,
+    run: &mut Run,
+    avt: &Avt,
+    site: &Site,
+    here: &Standing,
+    world: &mut W,
+) -> Result<Came<Wrapping>, Memory>
+    ensures found { IfOk result (λ came. (k : plan.Wrapping → plan.Plan NodeRef) → Found wrapping_of (W.state world.old).truth (hand run.old) run.old.room (asked (site_of site.now) (here_of here.now) (names.instruction_meant (avt_of avt.now)) k) k here.now.depth (place_of site.now.place) (going_of run.old.going) (going_of run.new.going) came) }
+    ensures still { IsStill run.old run.new }
+    ensures truth { (W.state world.new).truth ≡ (W.state world.old).truth }
+    ensures name { W.name world.new ≡ W.name world.old }
+{
+    let context = here.context(site)?;
+    let mut reads = Vec::new(alloc);
+    let found = noted_instruction(
+        alloc,
+        avt,
+        here.focus,
+        &context,
+        &run.supplies,
+        world,
+        &mut reads,
+    );
+    settle(alloc, run, &site.place, reads, found)
+}

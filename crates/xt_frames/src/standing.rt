@@ -1,0 +1,62 @@
+// Where instructions stand.
+ghost use Rattle.std.specs.Prelude.{◌≡◌, map, IfOk};
+
+use std::rc::Rc;
+use xp_syntax::{Instr, Site};
+use xt_ask::{Bindings, Context, Focus, ResolvedUnit};
+use xt_text::Memory;
+
+/// Where an instruction stands (XSLT 1.0, sections 1 and 11): the current node, the local variables in scope, how
+/// deep its content stands below the level of the instantiation, and the unit, with what its names name.
+#[derive(Drop)]
+pub struct Standing {
+    pub focus: Focus,
+    pub bindings: Bindings,
+    pub depth: u64,
+    pub unit: Rc<ResolvedUnit>,
+}
+
+impl Standing {
+    ghost use Rattle.std.specs.Prelude.{◌≡◌, IfOk};
+    ghost use Rattle.spec_run.specs.Content.{context_at};
+    ghost use Rattle.xp_syntax.specs.PartView.{site_of};
+    ghost use Rattle.xt_ask.specs.View.{context_of};
+    ghost use Rattle.xt_frames.specs.View.{here_of};
+
+    /// The same, shared.
+    pub fn share(&self) -> Result<Standing, Memory>
+        ensures here { IfOk result (λ s. here_of s ≡ here_of self.now) }
+        ensures depth { IfOk result (λ s. s.depth ≡ self.now.depth) }
+    {
+        let bindings = self.bindings.share()?;
+        let unit = self.unit.clone()?;
+        Ok(Standing {
+            focus: self.focus,
+            bindings,
+            depth: self.depth,
+            unit,
+        })
+    }
+
+    /// What an expression at this element sees beside the focus.
+    pub fn context(&self, site: &Site) -> Result<Context, Memory>
+        ensures context { IfOk result (λ c. context_of self.now.focus c ≡ context_at (here_of self.now) (site_of site.now)) }
+        ensures depth { IfOk result (λ c. c.depth ≡ self.now.depth) }
+    {
+        let bindings = self.bindings.share()?;
+        let scope = site.scope.copy()?;
+        Ok(Context {
+            current: self.focus.node,
+            bindings,
+            scope,
+            depth: self.depth,
+        })
+    }
+}
+
+/// The same content, shared.
+pub fn share_content(content: &Rc<Vec<Instr>>) -> Result<Rc<Vec<Instr>>, Memory>
+    ensures { IfOk result (λ c. c.value ≡ content.now.value) }
+{
+    Ok(content.clone()?)
+}

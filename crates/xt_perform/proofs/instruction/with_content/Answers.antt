@@ -1,0 +1,32 @@
+use Rattle.xt_frames.specs.declared.frame.Frame.TheVariants as frames
+use Rattle.xt_frames.proofs.Lefts.{if_ok}
+use Rattle.xt_frames.proofs.Performs.{does_performs}
+use Rattle.xt_perform.proofs.instruction.with_content.Goals as goal
+
+pub returns-in-Literal-clause-does : goal.returns-in-Literal-clause-does
+returns-in-Literal-clause-does g c =
+    let truth = (g.W.World.state c.args.world.now).truth in
+    if_ok c.literal.result c.literal.ensures (λ next h. rw c.in-Literal.is (does_performs truth _ (frames.Body c.args.body) c.args.run.now c.literal.new.run next (h truth)))
+
+pub returns-in-Element-clause-does : goal.returns-in-Element-clause-does
+returns-in-Element-clause-does g c = if_ok c.element.result c.element.ensures.does (λ next h. rw c.in-Element.is (h c.in-Element.field-1.items))
+
+pub returns-in-Comment-clause-does : goal.returns-in-Comment-clause-does
+returns-in-Comment-clause-does g c =
+    let truth = (g.W.World.state c.args.world.now).truth in
+    if_ok c.collect.result c.collect.ensures (λ next h. rw c.in-Comment.is (does_performs truth _ (frames.Body c.args.body) c.args.run.now c.collect.new.run next (h truth)))
+
+pub returns-in-Copy-clause-does : goal.returns-in-Copy-clause-does
+returns-in-Copy-clause-does g c =
+    let truth = (g.W.World.state c.args.world.now).truth in
+    if_ok c.copy.result c.copy.ensures.does (λ next h. rw c.in-Copy.is (does_performs truth _ (frames.Body c.args.body) c.args.run.now c.copy.new.run next (h)))
+
+pub returns-in-Variable-clause-does : goal.returns-in-Variable-clause-does
+returns-in-Variable-clause-does g c =
+    let truth = (g.W.World.state c.args.world.now).truth in
+    if_ok c.nothing.result c.nothing.ensures (λ next h. rw c.in-Variable.is (does_performs truth _ (frames.Body c.args.body) c.args.run.now c.nothing.new.run next (h truth)))
+
+pub returns-in-Message-clause-does : goal.returns-in-Message-clause-does
+returns-in-Message-clause-does g c =
+    let truth = (g.W.World.state c.args.world.now).truth in
+    if_ok c.nothing-in-Message.result c.nothing-in-Message.ensures (λ next h. rw c.in-Message.is (does_performs truth _ (frames.Body c.args.body) c.args.run.now c.nothing-in-Message.new.run next (h truth)))

@@ -1,0 +1,246 @@
+// Instructions that say whether, how often or which contents run (XSLT 1.0, sections 5.4, 6, 8 and 9).
+ghost use Rattle.std.specs.Prelude.{◌≡◌, ◌<◌, ◌+◌, List, suc, length, map, IfOk, if◌then◌else◌};
+ghost use Rattle.spec_stylesheet.specs.Instruction as made;
+ghost use Rattle.spec_stylesheet.specs.Instruction.{instrs};
+ghost use Rattle.spec_meaning.specs.Question as question;
+ghost use Rattle.spec_meaning.specs.Stream.{Ended};
+ghost use Rattle.spec_run.specs.Plan.{Put};
+ghost use Rattle.spec_run.specs.Content as contents;
+ghost use Rattle.xp_syntax.specs.View.{expr_of};
+ghost use Rattle.xp_syntax.specs.PartView.{site_of};
+ghost use Rattle.xp_syntax.specs.InstrView.{instr_of, control_of, branch_of, selection_of};
+ghost use Rattle.xt_tree.specs.declared.node_ref.NodeRef.{NodeRef};
+ghost use Rattle.xt_ask.specs.View.{template_of};
+ghost use Rattle.xt_frames.specs.declared.frame.Frame.TheVariants as Frame;
+ghost use Rattle.xt_frames.specs.View.{here_of, inside, after_body};
+ghost use Rattle.xt_frames.specs.Left.{left_in, Does, Performs};
+
+use crate::choose::{choose_from, share_branches};
+use crate::simple::{advanced, into_content, nothing};
+use std::alloc::Global;
+use std::rc::Rc;
+use xp_syntax::{Branch, Control, Expr, Instr, Selection, Site};
+use xt_ask::{Bindings, NamedTemplate, World, copy_name_if, copy_place};
+use xt_frames::{
+    Application, Body, Branches, Came, Frame, Loop, Next, Run, go_into, lack, nodes, push,
+    share_content, truth, want,
+};
+use xt_names::Expanded;
+use xt_run::{Call, Target};
+use xt_text::Memory;
+use xt_tree::NodeRef;
+
+/// An instruction that says whether, how often or which contents run.
+pub(crate) fn control<W: World>(
+    alloc: Global,
+    run: &mut Run,
+    site: &Site,
+    what: &Control,
+    body: Body,
+    world: &mut W,
+) -> Result<Next, Memory>
+    requires { body.next < usize.MAX }
+    ensures does { IfOk result (Performs (W.state world.old).truth (Frame.Body body) (contents.planned_control (site_of site.now) (control_of what.now) (here_of body.here) (after_body body (left_in run.old))) run.old run.new) }
+    ensures truth { (W.state world.new).truth ≡ (W.state world.old).truth }
+    ensures name { W.name world.new ≡ W.name world.old }
+{
+    match what {
+        Control::ForEach(select, _, content) => {
+            for_each(alloc, run, site, select, content, body, world)
+        }
+        Control::If(test, content) => when(alloc, run, site, test, content, body, world),
+        Control::Choose(branches) => choose(alloc, run, branches, body, world),
+        Control::ApplyTemplates(selection, _) => apply(alloc, run, site, selection, body, world),
+        Control::CallTemplate(name, _) => call(alloc, run, site, name, body),
+    }
+}
+
+/// xsl:for-each (XSLT 1.0, section 8).
+fn for_each<W: World>(
+    alloc: Global,
+    run: &mut Run,
+    site: &Site,
+    select: &Expr,
+    content: &Rc<Vec<Instr>>,
+    body: Body,
+    world: &mut W,
+) -> Result<Next, Memory>
+    requires { body.next < usize.MAX }
+    ensures does { IfOk result (λ next. (keys : List made.SortKey) → Performs (W.state world.old).truth (Frame.Body body) (contents.planned_control (site_of site.now) (made.for_each (expr_of select.now) keys (instrs (map instr_of content.now.value.items))) (here_of body.here) (after_body body (left_in run.old))) run.old run.new next) }
+    ensures truth { (W.state world.new).truth ≡ (W.state world.old).truth }
+    ensures name { W.name world.new ≡ W.name world.old }
+{
+    match nodes(alloc, run, select, site, &body.here, world)? {
+        Came::Is(nodes) => {
+            let left = Loop {
+                place: copy_place(alloc, &site.place)?,
+                content: share_content(content)?,
+                nodes,
+                next: 0,
+                here: body.here.share()?,
+            };
+            push(run, Frame::Body(advanced(body)))?;
+            push(run, Frame::Loop(left))?;
+            Ok(Next::Went)
+        }
+        Came::Halts(why) => Ok(Next::Halt(why)),
+        Came::Lacks(name) => {
+            let depth = body.here.depth;
+            lack(alloc, run, Frame::Body(body), name, depth, &site.place)
+        }
+    }
+}
+
+/// xsl:if (XSLT 1.0, section 9.1).
+fn when<W: World>(
+    alloc: Global,
+    run: &mut Run,
+    site: &Site,
+    test: &Expr,
+    content: &Rc<Vec<Instr>>,
+    body: Body,
+    world: &mut W,
+) -> Result<Next, Memory>
+    requires { body.next < usize.MAX }
+    ensures does { IfOk result (Performs (W.state world.old).truth (Frame.Body body) (contents.planned_control (site_of site.now) (made.conditional (expr_of test.now) (instrs (map instr_of content.now.value.items))) (here_of body.here) (after_body body (left_in run.old))) run.old run.new) }
+    ensures truth { (W.state world.new).truth ≡ (W.state world.old).truth }
+    ensures name { W.name world.new ≡ W.name world.old }
+{
+    match truth(alloc, run, test, site, &body.here, world)? {
+        Came::Is(is_true) => go_into_if(alloc, run, site, is_true, content, body),
+        Came::Halts(why) => Ok(Next::Halt(why)),
+        Came::Lacks(name) => {
+            let depth = body.here.depth;
+            lack(alloc, run, Frame::Body(body), name, depth, &site.place)
+        }
+    }
+}
+
+/// Goes into the content where this is so.
+fn go_into_if(
+    alloc: Global,
+    run: &mut Run,
+    site: &Site,
+    is_so: bool,
+    content: &Rc<Vec<Instr>>,
+    body: Body,
+) -> Result<Next, Memory>
+    requires { body.next < usize.MAX }
+    ensures { IfOk result (λ next. (ask : question.Question NodeRef → question.Answer NodeRef) → Does ask (if is_so then inside (site_of site.now).place (instrs (map instr_of content.now.value.items)) (here_of body.here) (after_body body (left_in run.old)) else Put Ended (after_body body (left_in run.old))) (suc (length run.old.frames.items)) run.old run.new next) }
+{
+    if is_so {
+        into_content(alloc, run, site, content, body)
+    } else {
+        nothing(run, body)
+    }
+}
+
+/// xsl:choose (XSLT 1.0, section 9.2).
+fn choose<W: World>(
+    alloc: Global,
+    run: &mut Run,
+    branches: &Rc<Vec<Branch>>,
+    body: Body,
+    world: &mut W,
+) -> Result<Next, Memory>
+    requires { body.next < usize.MAX }
+    ensures does { IfOk result (Performs (W.state world.old).truth (Frame.Body body) (contents.planned_branches (made.branches (map branch_of branches.now.value.items)) (here_of body.here) (after_body body (left_in run.old))) run.old run.new) }
+    ensures truth { (W.state world.new).truth ≡ (W.state world.old).truth }
+    ensures name { W.name world.new ≡ W.name world.old }
+{
+    let left = Branches {
+        branches: share_branches(branches)?,
+        next: 0,
+        here: body.here.share()?,
+    };
+    push(run, Frame::Body(advanced(body)))?;
+    choose_from(alloc, run, left, world)
+}
+
+/// xsl:apply-templates (XSLT 1.0, section 5.4).
+fn apply<W: World>(
+    alloc: Global,
+    run: &mut Run,
+    site: &Site,
+    selection: &Selection,
+    body: Body,
+    world: &mut W,
+) -> Result<Next, Memory>
+    requires { body.next < usize.MAX }
+    ensures does { IfOk result (λ next. (bindings : made.Bindings) → Performs (W.state world.old).truth (Frame.Body body) (contents.planned_control (site_of site.now) (made.apply_templates (selection_of selection.now) bindings) (here_of body.here) (after_body body (left_in run.old))) run.old run.new next) }
+    ensures truth { (W.state world.new).truth ≡ (W.state world.old).truth }
+    ensures name { W.name world.new ≡ W.name world.old }
+{
+    match nodes(alloc, run, &selection.select, site, &body.here, world)? {
+        Came::Is(nodes) => {
+            let left = Application {
+                place: copy_place(alloc, &site.place)?,
+                mode: copy_name_if(alloc, &selection.mode)?,
+                nodes,
+                next: 0,
+                depth: body.here.depth,
+            };
+            push(run, Frame::Body(advanced(body)))?;
+            push(run, Frame::Application(left))?;
+            Ok(Next::Went)
+        }
+        Came::Halts(why) => Ok(Next::Halt(why)),
+        Came::Lacks(name) => {
+            let depth = body.here.depth;
+            lack(alloc, run, Frame::Body(body), name, depth, &site.place)
+        }
+    }
+}
+
+/// xsl:call-template (XSLT 1.0, section 6). A name that is no template's writes nothing.
+fn call(
+    alloc: Global,
+    run: &mut Run,
+    site: &Site,
+    name: &Expanded,
+    body: Body,
+) -> Result<Next, Memory>
+    requires { body.next < usize.MAX }
+    ensures { IfOk result (λ next. (ask : question.Question NodeRef → question.Answer NodeRef) → Does ask (contents.called (site_of site.now) (here_of body.here) (contents.template_called name.now (here_of body.here).templates) (after_body body (left_in run.old))) (suc (length run.old.frames.items)) run.old run.new next) }
+{
+    match template_called(name, body.here.unit.templates.as_slice()) {
+        None => nothing(run, body),
+        Some(element) => call_element(alloc, run, site, element, body),
+    }
+}
+
+/// The element of the template of this name.
+fn template_called(name: &Expanded, templates: &[NamedTemplate]) -> Option<NodeRef>
+    ensures { result ≡ contents.template_called name.now (map template_of templates.now) }
+{
+    for template in templates {
+        if template.name.same(name) {
+            return Some(template.element);
+        }
+    }
+    None
+}
+
+/// Calls the template of this element.
+fn call_element(
+    alloc: Global,
+    run: &mut Run,
+    site: &Site,
+    element: NodeRef,
+    body: Body,
+) -> Result<Next, Memory>
+    requires { body.next < usize.MAX }
+    ensures { IfOk result (λ next. (ask : question.Question NodeRef → question.Answer NodeRef) → Does ask (contents.called (site_of site.now) (here_of body.here) (Some element) (after_body body (left_in run.old))) (suc (length run.old.frames.items)) run.old run.new next) }
+{
+    let focus = body.here.focus;
+    let depth = body.here.depth;
+    let call = Call {
+        target: Target::Unit(element),
+        node: focus.node,
+        parameters: Bindings::Empty,
+        position: focus.position,
+        size: focus.size,
+        by: copy_place(alloc, &site.place)?,
+    };
+    want(run, Frame::Body(advanced(body)), call, depth)
+}

@@ -1,0 +1,225 @@
+// Copies (XSLT 1.0, sections 7.5 and 11.3).
+ghost use Rattle.std.specs.Prelude.{◌≡◌, ◌<◌, ◌+◌, suc, length, map, IfOk, OnOk};
+ghost use Rattle.spec_stylesheet.specs.Instruction as made;
+ghost use Rattle.spec_stylesheet.specs.Instruction.{instrs};
+ghost use Rattle.spec_meaning.specs.Question as question;
+ghost use Rattle.spec_meaning.specs.Convert as convert;
+ghost use Rattle.spec_run.specs.Plan as plan;
+ghost use Rattle.spec_run.specs.Going as goings;
+ghost use Rattle.spec_run.specs.Copy.{stream_in};
+ghost use Rattle.spec_run.specs.Content.{value_copied, copied_as, planned_with, kind_in};
+ghost use Rattle.xt_names.specs.View.{entry_of};
+ghost use Rattle.xp_syntax.specs.PartView.{site_of};
+ghost use Rattle.xp_syntax.specs.InstrView.{instr_of};
+ghost use Rattle.xt_tree.specs.declared.node_ref.NodeRef.{NodeRef};
+ghost use Rattle.xt_tree.specs.ValueView.{value_of};
+ghost use Rattle.xt_ask.specs.View.{answer_of};
+ghost use Rattle.xt_run.specs.View.{wrapping_of};
+ghost use Rattle.xt_going.specs.View.{going_of};
+ghost use Rattle.xt_perform.specs.Copied.{element_copied};
+ghost use Rattle.xt_frames.specs.declared.frame.Frame.TheVariants as Frame;
+ghost use Rattle.xt_frames.specs.View.{here_of, inside, after_body, left_frame};
+ghost use Rattle.xt_frames.specs.Left.{left_in, Does, Performs};
+
+use crate::making::collect;
+use crate::namespaces::read_namespaces;
+use crate::simple::{advanced, into_content};
+use spec_document::{Axis, Kind};
+use spec_expression::NodeType;
+use std::alloc::Global;
+use std::rc::Rc;
+use xp_syntax::{Instr, Site, Test};
+use xt_ask::{Answer, Question, World};
+use xt_frames::{Body, Copies, Frame, Next, Run, push, write_fragment, write_text};
+use xt_going::Going;
+use xt_names::{Expanded, Namespace};
+use xt_run::Wrapping;
+use xt_streams::without_attributes;
+use xt_text::{Memory, Text};
+use xt_tree::Value;
+
+/// Writes a value, before the rest: a number or a boolean as its text.
+pub(crate) fn write_value(
+    alloc: Global,
+    run: &mut Run,
+    value: Value,
+    rest: Frame,
+) -> Result<Next, Memory>
+    ensures { IfOk result (λ next. (ask : question.Question NodeRef → question.Answer NodeRef) → Does ask (value_copied (value_of value) (left_frame rest (left_in run.old))) (suc (length run.old.frames.items)) run.old run.new next) }
+{
+    match value {
+        Value::Nodes(nodes) => {
+            push(run, rest)?;
+            push(run, Frame::Copies(Copies { nodes, next: 0 }))?;
+            Ok(Next::Went)
+        }
+        Value::Fragment(fragment) => {
+            let kept = without_attributes(alloc, &fragment)?;
+            write_fragment(run, &kept, rest)
+        }
+        Value::Text(text) => write_text(run, text, rest),
+        Value::Number(number) => {
+            let text = number.text(alloc)?;
+            write_text(run, text, rest)
+        }
+        Value::Boolean(boolean) => {
+            let text = text_of_boolean(alloc, boolean)?;
+            write_text(run, text, rest)
+        }
+    }
+}
+
+fn text_of_boolean(alloc: Global, boolean: bool) -> Result<Text, Memory>
+    ensures { IfOk result (λ text. text ≡ convert.text_of_boolean boolean) }
+{
+    if boolean {
+        Text::from_str(alloc, "true")
+    } else {
+        Text::from_str(alloc, "false")
+    }
+}
+
+/// xsl:copy (XSLT 1.0, section 7.5).
+pub(crate) fn copy<W: World>(
+    alloc: Global,
+    run: &mut Run,
+    site: &Site,
+    content: &Rc<Vec<Instr>>,
+    body: Body,
+    world: &mut W,
+) -> Result<Next, Memory>
+    requires { body.next < usize.MAX }
+    ensures does { IfOk result (Does (W.state world.old).truth (plan.Inquire (question.Name body.here.focus.node) (λ a. copied_as (here_of body.here) a (inside (site_of site.now).place (instrs (map instr_of content.now.value.items)) (here_of body.here)) (after_body body (left_in run.old)))) (suc (length run.old.frames.items)) run.old run.new) }
+    ensures truth { (W.state world.new).truth ≡ (W.state world.old).truth }
+    ensures name { W.name world.new ≡ W.name world.old }
+{
+    let answer = run
+        .going
+        .ask(alloc, world, Question::Name(body.here.focus.node))?;
+    copy_as(alloc, run, site, content, body, answer, world)
+}
+
+/// The copy of the current node, whose kind and names are these.
+fn copy_as<W: World>(
+    alloc: Global,
+    run: &mut Run,
+    site: &Site,
+    content: &Rc<Vec<Instr>>,
+    body: Body,
+    called: Answer,
+    world: &mut W,
+) -> Result<Next, Memory>
+    requires { body.next < usize.MAX }
+    ensures does { IfOk result (Does (W.state world.old).truth (copied_as (here_of body.here) (answer_of called) (inside (site_of site.now).place (instrs (map instr_of content.now.value.items)) (here_of body.here)) (after_body body (left_in run.old))) (suc (length run.old.frames.items)) run.old run.new) }
+    ensures truth { (W.state world.new).truth ≡ (W.state world.old).truth }
+    ensures name { W.name world.new ≡ W.name world.old }
+{
+    match kind_in(&called) {
+        Kind::Root => into_content(alloc, run, site, content, body),
+        Kind::Element => copy_element(alloc, run, site, content, body, called, world),
+        Kind::Attribute => copy_node(alloc, run, body, world),
+        Kind::Namespace => copy_node(alloc, run, body, world),
+        Kind::Text => copy_node(alloc, run, body, world),
+        Kind::Comment => copy_node(alloc, run, body, world),
+        Kind::Instruction => copy_node(alloc, run, body, world),
+    }
+}
+
+/// The kind in an answer.
+pub fn kind_in(answer: &Answer) -> Kind
+    ensures { result ≡ kind_in (answer_of answer.now) }
+{
+    match answer {
+        Answer::Named(kind, _, _) => *kind,
+        _ => Kind::Comment,
+    }
+}
+
+/// The copy of an element, with its namespace nodes and the content.
+fn copy_element<W: World>(
+    alloc: Global,
+    run: &mut Run,
+    site: &Site,
+    content: &Rc<Vec<Instr>>,
+    body: Body,
+    called: Answer,
+    world: &mut W,
+) -> Result<Next, Memory>
+    requires { body.next < usize.MAX }
+    ensures does { IfOk result (Does (W.state world.old).truth (element_copied (here_of body.here) (answer_of called) (inside (site_of site.now).place (instrs (map instr_of content.now.value.items)) (here_of body.here)) (after_body body (left_in run.old))) (suc (length run.old.frames.items)) run.old run.new) }
+    ensures truth { (W.state world.new).truth ≡ (W.state world.old).truth }
+    ensures name { W.name world.new ≡ W.name world.old }
+{
+    let test = Test::OfType(NodeType::Node);
+    let question = Question::Step(body.here.focus.node, Axis::Namespace, test);
+    let answer = run.going.ask(alloc, world, question)?;
+    let nodes = answer.into_nodes(alloc);
+    let namespaces = read_namespaces(alloc, &mut run.going, nodes.as_slice(), world)?;
+    let end = element_called(alloc, called, namespaces)?;
+    collect(alloc, run, site, end, content, body)
+}
+
+/// The element of this name, with these namespace nodes.
+fn element_called(
+    alloc: Global,
+    called: Answer,
+    namespaces: Vec<Namespace>,
+) -> Result<Wrapping, Memory>
+    ensures { IfOk result (λ w. wrapping_of w ≡ plan.AsElement (question.written_in (answer_of called)) (question.uri_in (answer_of called)) (map entry_of namespaces.items)) }
+{
+    match called {
+        Answer::Named(_, name, written) => {
+            let uri = uri_of(alloc, &name)?;
+            Ok(Wrapping::Element {
+                name: written,
+                uri,
+                namespaces,
+            })
+        }
+        _ => Ok(Wrapping::Element {
+            name: Text::new(alloc),
+            uri: Text::new(alloc),
+            namespaces,
+        }),
+    }
+}
+
+/// The URI of a name, empty without one.
+fn uri_of(alloc: Global, name: &Option<Expanded>) -> Result<Text, Memory>
+    ensures { IfOk result (λ t. t ≡ question.uri_of name.now) }
+{
+    match name {
+        None => Ok(Text::new(alloc)),
+        Some(name) => name.uri().copy(alloc),
+    }
+}
+
+/// The copy of any other node: that of the whole node.
+fn copy_node<W: World>(
+    alloc: Global,
+    run: &mut Run,
+    body: Body,
+    world: &mut W,
+) -> Result<Next, Memory>
+    requires { body.next < usize.MAX }
+    ensures does { IfOk result (Does (W.state world.old).truth (plan.Inquire (question.Copy body.here.focus.node) (λ c. plan.Put (stream_in c) (after_body body (left_in run.old)))) (suc (length run.old.frames.items)) run.old run.new) }
+    ensures truth { (W.state world.new).truth ≡ (W.state world.old).truth }
+    ensures name { W.name world.new ≡ W.name world.old }
+{
+    let answer = run
+        .going
+        .ask(alloc, world, Question::Copy(body.here.focus.node))?;
+    put_copy(&mut run.going, &answer)?;
+    push(run, Frame::Body(advanced(body)))?;
+    Ok(Next::Went)
+}
+
+/// Puts the copy of a node.
+pub fn put_copy(going: &mut Going, answer: &Answer) -> Result<(), Memory>
+    ensures { OnOk result (going_of going.new ≡ goings.put (stream_in (answer_of answer.now)) (going_of going.old)) }
+{
+    match answer {
+        Answer::Copied(copy) => going.put_fragment(copy),
+        _ => Ok(()),
+    }
+}

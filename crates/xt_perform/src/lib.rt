@@ -1,0 +1,23 @@
+//! What each instruction does (XSLT 1.0, sections 5 to 9 and 11.3). An instruction is a step of a run: it evaluates
+//! its expressions, writes, and leaves its content as frames. Where an expression lacks a global, the frame of the
+//! instruction is left as it was, and nothing that it did stands.
+//!
+//! ```text
+//! let next = perform(alloc, run, &instr, body, world)?;     // the next instruction of the body, whose frame was taken off
+//! ```
+#![tactic(auto)]
+
+mod attributes;
+mod choose;
+mod control;
+mod copying;
+mod instruction;
+mod literal;
+mod making;
+mod namespaces;
+mod simple;
+
+pub use attributes::go_on_attributes;
+pub use choose::choose_from;
+pub use copying::{kind_in, put_copy};
+pub use instruction::perform;

@@ -1,0 +1,138 @@
+// Instructions without a content (XSLT 1.0, sections 7.2, 7.6.1 and 11.3).
+ghost use Rattle.std.specs.Prelude.{◌≡◌, ◌<◌, ◌+◌, suc, length, map, IfOk};
+ghost use Rattle.spec_stylesheet.specs.Instruction as made;
+ghost use Rattle.spec_stylesheet.specs.Instruction.{instrs};
+ghost use Rattle.spec_meaning.specs.Question as question;
+ghost use Rattle.spec_meaning.specs.Stream.{Ended};
+ghost use Rattle.spec_run.specs.Plan.{Put};
+ghost use Rattle.spec_run.specs.Content.{planned_without};
+ghost use Rattle.xp_syntax.specs.View.{expr_of};
+ghost use Rattle.xp_syntax.specs.PartView.{site_of, without_content_of};
+ghost use Rattle.xp_syntax.specs.InstrView.{instr_of};
+ghost use Rattle.xt_tree.specs.declared.node_ref.NodeRef.{NodeRef};
+ghost use Rattle.xt_frames.specs.declared.frame.Frame.TheVariants as Frame;
+ghost use Rattle.xt_frames.specs.View.{here_of, inside, after_body};
+ghost use Rattle.xt_frames.specs.Left.{left_in, Does, Performs};
+
+use crate::copying::write_value;
+use std::alloc::Global;
+use std::rc::Rc;
+use xp_syntax::{Expr, Instr, Site, WithoutContent};
+use xt_ask::World;
+use xt_frames::{
+    Body, Came, Frame, Next, Run, go_into, lack, push, share_content, text, value, write_text,
+};
+use xt_text::Memory;
+
+/// The body after its next instruction.
+pub(crate) fn advanced(body: Body) -> Body
+    requires { body.next < usize.MAX }
+    ensures { result ≡ record { content = body.content; next = body.next + 1; here = body.here } }
+{
+    Body {
+        content: body.content,
+        next: body.next + 1,
+        here: body.here,
+    }
+}
+
+/// An instruction that writes nothing.
+pub(crate) fn nothing(run: &mut Run, body: Body) -> Result<Next, Memory>
+    requires { body.next < usize.MAX }
+    ensures { IfOk result (λ next. (ask : question.Question NodeRef → question.Answer NodeRef) → Does ask (Put Ended (after_body body (left_in run.old))) (suc (length run.old.frames.items)) run.old run.new next) }
+{
+    push(run, Frame::Body(advanced(body)))?;
+    Ok(Next::Went)
+}
+
+/// Goes into the content of an instruction, before the rest of the body.
+pub(crate) fn into_content(
+    alloc: Global,
+    run: &mut Run,
+    site: &Site,
+    content: &Rc<Vec<Instr>>,
+    body: Body,
+) -> Result<Next, Memory>
+    requires { body.next < usize.MAX }
+    ensures { IfOk result (λ next. (ask : question.Question NodeRef → question.Answer NodeRef) → Does ask (inside (site_of site.now).place (instrs (map instr_of content.now.value.items)) (here_of body.here) (after_body body (left_in run.old))) (suc (length run.old.frames.items)) run.old run.new next) }
+{
+    let here = body.here.share()?;
+    let inner = share_content(content)?;
+    push(run, Frame::Body(advanced(body)))?;
+    go_into(alloc, run, &site.place, inner, here)
+}
+
+/// An instruction without a content.
+pub(crate) fn without_content<W: World>(
+    alloc: Global,
+    run: &mut Run,
+    site: &Site,
+    what: &WithoutContent,
+    body: Body,
+    world: &mut W,
+) -> Result<Next, Memory>
+    requires { body.next < usize.MAX }
+    ensures does { IfOk result (Performs (W.state world.old).truth (Frame.Body body) (planned_without (site_of site.now) (here_of body.here) (without_content_of what.now) (after_body body (left_in run.old))) run.old run.new) }
+    ensures truth { (W.state world.new).truth ≡ (W.state world.old).truth }
+    ensures name { W.name world.new ≡ W.name world.old }
+{
+    match what {
+        WithoutContent::Text(text) => {
+            let text = text.copy(alloc)?;
+            write_text(run, text, Frame::Body(advanced(body)))
+        }
+        WithoutContent::ValueOf(select) => value_of(alloc, run, site, select, body, world),
+        WithoutContent::CopyOf(select) => copy_of(alloc, run, site, select, body, world),
+        WithoutContent::Number(_) => nothing(run, body),
+        WithoutContent::ApplyImports => nothing(run, body),
+        WithoutContent::Fallback => nothing(run, body),
+    }
+}
+
+/// xsl:value-of (XSLT 1.0, section 7.6.1).
+fn value_of<W: World>(
+    alloc: Global,
+    run: &mut Run,
+    site: &Site,
+    select: &Expr,
+    body: Body,
+    world: &mut W,
+) -> Result<Next, Memory>
+    requires { body.next < usize.MAX }
+    ensures does { IfOk result (Performs (W.state world.old).truth (Frame.Body body) (planned_without (site_of site.now) (here_of body.here) (made.ValueOf (expr_of select.now)) (after_body body (left_in run.old))) run.old run.new) }
+    ensures truth { (W.state world.new).truth ≡ (W.state world.old).truth }
+    ensures name { W.name world.new ≡ W.name world.old }
+{
+    match text(alloc, run, select, site, &body.here, world)? {
+        Came::Is(text) => write_text(run, text, Frame::Body(advanced(body))),
+        Came::Halts(why) => Ok(Next::Halt(why)),
+        Came::Lacks(name) => {
+            let depth = body.here.depth;
+            lack(alloc, run, Frame::Body(body), name, depth, &site.place)
+        }
+    }
+}
+
+/// xsl:copy-of (XSLT 1.0, section 11.3).
+fn copy_of<W: World>(
+    alloc: Global,
+    run: &mut Run,
+    site: &Site,
+    select: &Expr,
+    body: Body,
+    world: &mut W,
+) -> Result<Next, Memory>
+    requires { body.next < usize.MAX }
+    ensures does { IfOk result (Performs (W.state world.old).truth (Frame.Body body) (planned_without (site_of site.now) (here_of body.here) (made.CopyOf (expr_of select.now)) (after_body body (left_in run.old))) run.old run.new) }
+    ensures truth { (W.state world.new).truth ≡ (W.state world.old).truth }
+    ensures name { W.name world.new ≡ W.name world.old }
+{
+    match value(alloc, run, select, site, &body.here, world)? {
+        Came::Is(value) => write_value(alloc, run, value, Frame::Body(advanced(body))),
+        Came::Halts(why) => Ok(Next::Halt(why)),
+        Came::Lacks(name) => {
+            let depth = body.here.depth;
+            lack(alloc, run, Frame::Body(body), name, depth, &site.place)
+        }
+    }
+}
