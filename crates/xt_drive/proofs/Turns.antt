@@ -1,0 +1,91 @@
+-- The turns of globals.
+use Rattle.std.proofs.Common.{◌≡◌, ℕ, ◌+◌, ◌<◌, ◌≤◌, List, [], ◌∷◌, ◌++◌, length, map, drop, get_or, Some, Result, Ok, Err, sym, ap, ◌∙◌}
+use Rattle.std.specs.Prelude.{IfOk, Box}
+use Rattle.std.specs.declared.alloc.Global.{Global as Allocator}
+use Rattle.std.proofs.lemmas.List.{at_drop_more, at_drop_all, map-append}
+use Rattle.spec_document.specs.Name.{Expanded}
+use Rattle.spec_meaning.specs.Stream.{Ended}
+use Rattle.spec_meaning.specs.Question.{Question, Answer}
+use Rattle.spec_meaning.specs.Program.{Valued}
+use Rattle.spec_meaning.specs.Context.{Bound}
+use Rattle.spec_result.specs.Recovery.{messages_of}
+use Rattle.spec_run.specs.Plan.{Call, nowhere}
+use Rattle.spec_run.specs.Direct.{Supplied, Known, Failed, Outcome}
+use Rattle.spec_run.specs.Meaning as means
+use Rattle.spec_run.specs.Meaning.{Setting, Past, Whole, going_into, global_call, held_by, value_of, refusal_of, at_turn, after_turn, meaning, run}
+use Rattle.xt_tree.specs.declared.node_ref.NodeRef.{NodeRef}
+use Rattle.xt_tree.specs.declared.value.Value as code
+use Rattle.xt_tree.specs.ValueView as view
+use Rattle.xt_run.specs.View.{refused_of}
+use Rattle.xt_run.specs.declared.call.Refused.{Refused}
+use Rattle.xt_text.specs.declared.memory.Memory.{Memory}
+use Rattle.xt_drive.specs.declared.globals.NamedGlobal.{NamedGlobal}
+use Rattle.xt_drive.specs.declared.globals.HeldGlobal.{HeldGlobal}
+use Rattle.xt_drive.specs.declared.outcome.Outcome.{Outcome as Came}
+use Rattle.xt_drive.specs.declared.outcome.Held.{Held}
+use Rattle.xt_drive.specs.declared.outcome.Held.TheVariants as held
+use Rattle.xt_drive.specs.declared.whole.Whole.{Whole as CodeWhole}
+use Rattle.xt_drive.specs.View.{named_of, held_of, setting_in, outcome_of, supplied_of, whole_of, IsTurnOf, IsTurn, IsFinished}
+
+abbrev Ask : Type 0
+Ask = Question NodeRef → Answer NodeRef
+
+-- what a global means at its turn, after those of these values
+abbrev pub meant : Setting NodeRef → ℕ → means.NamedGlobal NodeRef → List (Bound NodeRef) → Outcome NodeRef
+meant s levels g values = meaning s levels (going_into g.name (at_turn values)) 0 (global_call s.root g.element nowhere)
+
+-- in a world with the same truth, where these are the values and nothing is being evaluated
+pub meant_here : (root : NodeRef) (named : List NamedGlobal) (levels : ℕ) (g : NamedGlobal) {a b : Ask} {vs ws : List HeldGlobal} {us : List Expanded} → a ≡ b → vs ≡ ws → us ≡ []
+    → meaning (setting_in a root named) levels (going_into g.name (record { values = map held_of vs; under = us })) 0 (global_call root g.element nowhere) ≡ meant (setting_in b root named) levels (named_of g) (map held_of ws)
+meant_here root named levels g {b = b} {vs = vs} {ws = ws} {us = us} e f none =
+    let M : Ask → List HeldGlobal → List Expanded → Outcome NodeRef = λ x xs ns. meaning (setting_in x root named) levels (going_into g.name (record { values = map held_of xs; under = ns })) 0 (global_call root g.element nowhere) in
+    ap (λ x. M x vs us) e ∙ ap (λ xs. M b xs us) f ∙ ap (M b ws) none
+
+-- and what a call means there
+pub root_here : (root : NodeRef) (named : List NamedGlobal) (levels : ℕ) {a b : Ask} {vs ws : List HeldGlobal} {us : List Expanded} {c k : Call NodeRef} → a ≡ b → vs ≡ ws → us ≡ [] → c ≡ k
+    → meaning (setting_in a root named) levels (record { values = map held_of vs; under = us }) 0 c ≡ meaning (setting_in b root named) levels (at_turn (map held_of ws)) 0 k
+root_here root named levels {b = b} {vs = vs} {ws = ws} {us = us} {c = c} e f none same =
+    let M : Ask → List HeldGlobal → List Expanded → Call NodeRef → Outcome NodeRef = λ x xs ns k. meaning (setting_in x root named) levels (record { values = map held_of xs; under = ns }) 0 k in
+    ap (λ x. M x vs us c) e ∙ ap (λ xs. M b xs us c) f ∙ ap (λ ns. M b ws ns c) none ∙ ap (M b ws []) same
+
+pub turn_made : {h : Held} {o m : Outcome NodeRef} {told more : List (List ℕ)} → supplied_of h ≡ held_by o → more ≡ told ++ messages_of o.content → o ≡ m → IsTurnOf h m told more
+turn_made {told = told} e f same = record { held = e ∙ ap held_by same; told = f ∙ ap (λ (x : Outcome NodeRef). told ++ messages_of x.content) same }
+
+-- the turn of one of the globals
+pub next_turn : (s : Setting NodeRef) (levels : ℕ) (named : List NamedGlobal) (i : ℕ) (g : NamedGlobal) (values : List (Bound NodeRef)) (told : List (List ℕ)) (c : Call NodeRef) → i < length named → g ≡ get_or named i g
+    → run s levels (map named_of (drop i named)) values told c ≡ run s levels (named_of g ∷ map named_of (drop (i + 1) named)) values told c
+next_turn s levels named i g values told c h e =
+    at_drop_more (λ xs. run s levels (map named_of xs) values told c) named i g h ∙ ap (λ x. run s levels (named_of x ∷ map named_of (drop (i + 1) named)) values told c) (sym e)
+
+turn_is : (s : Setting NodeRef) (levels : ℕ) (g : means.NamedGlobal NodeRef) (gs : List (means.NamedGlobal NodeRef)) (values : List (Bound NodeRef)) (told more : List (List ℕ)) (c : Call NodeRef) (h : Held) (x : Supplied NodeRef)
+    → IsTurnOf h (meant s levels g values) told more → supplied_of h ≡ x
+    → run s levels (g ∷ gs) values told c ≡ after_turn (λ given. run s levels gs (values ++ record { name = g.name; value = value_of given } ∷ []) more c) more x
+turn_is s levels g gs values told more c h x is e =
+    let K : List (List ℕ) → Supplied NodeRef → Whole = λ t y. after_turn (λ given. run s levels gs (values ++ record { name = g.name; value = value_of given } ∷ []) t c) t y in
+    ap (K (told ++ messages_of (meant s levels g values).content)) (sym is.held ∙ e) ∙ ap (λ t. K t x) (sym is.told)
+
+pub turn_held : (s : Setting NodeRef) (levels : ℕ) (g : means.NamedGlobal NodeRef) (gs : List (means.NamedGlobal NodeRef)) (values : List (Bound NodeRef)) (told more : List (List ℕ)) (c : Call NodeRef) (h : Held) (v : code.Value)
+    → IsTurnOf h (meant s levels g values) told more → h ≡ held.Value v
+    → run s levels gs (values ++ record { name = g.name; value = view.value_of v } ∷ []) more c ≡ run s levels (g ∷ gs) values told c
+turn_held s levels g gs values told more c h v is e = sym (turn_is s levels g gs values told more c h (Known (Valued (view.value_of v))) is (ap supplied_of e))
+
+pub turn_refused : (s : Setting NodeRef) (levels : ℕ) (g : means.NamedGlobal NodeRef) (gs : List (means.NamedGlobal NodeRef)) (values : List (Bound NodeRef)) (told more : List (List ℕ)) (c : Call NodeRef) (h : Held) (why : Refused)
+    → IsTurnOf h (meant s levels g values) told more → supplied_of h ≡ Failed (refused_of why)
+    → record { content = Ended; messages = more; refusal = Some (refused_of why) } ≡ run s levels (g ∷ gs) values told c
+turn_refused s levels g gs values told more c h why is e = sym (turn_is s levels g gs values told more c h (Failed (refused_of why)) is e)
+
+pub values_more : (values : List HeldGlobal) (h : HeldGlobal) {all : List HeldGlobal} {b : Bound NodeRef} → all ≡ values ++ h ∷ [] → held_of h ≡ b → map held_of all ≡ map held_of values ++ b ∷ []
+values_more values h e f = ap (map held_of) e ∙ map-append held_of values (h ∷ []) ∙ ap (λ x. map held_of values ++ x ∷ []) f
+
+-- what came at a turn
+pub turn_of : (came : Result (Box Came Allocator) Memory) (h : Held) (told more : List (List ℕ)) (o : Outcome NodeRef) → IfOk came (λ x. outcome_of x.value ≡ o) → IsTurn h came told more → IsTurnOf h o told more
+turn_of (Err m) h told more o is t = absurd t
+turn_of (Ok x) h told more o is t = turn_made t.held t.told is
+
+-- after the last turn
+pub last_turn : (s : Setting NodeRef) (levels : ℕ) (named : List NamedGlobal) (i : ℕ) (values : List (Bound NodeRef)) (told : List (List ℕ)) (c : Call NodeRef) (came : Result (Box Came Allocator) Memory) (w : CodeWhole)
+    → length named ≤ i → IfOk came (λ x. outcome_of x.value ≡ meaning s levels (at_turn values) 0 c) → IsFinished w told came → whole_of w ≡ run s levels (map named_of (drop i named)) values told c
+last_turn s levels named i values told c (Err m) w h is f = absurd f
+last_turn s levels named i values told c (Ok x) w h is f =
+    f ∙ ap (λ (o : Outcome NodeRef). record { content = o.content; messages = told ++ messages_of o.content; refusal = refusal_of o.ending }) is
+    ∙ sym (at_drop_all (λ xs. run s levels (map named_of xs) values told c) named i h)

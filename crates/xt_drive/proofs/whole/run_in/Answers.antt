@@ -1,0 +1,81 @@
+use Rattle.std.proofs.Common.{◌∙◌, ◌+◌, [], map, drop, None, sym, ap, refl, arith}
+use Rattle.spec_meaning.specs.Question.{Choice, AllRules}
+use Rattle.spec_run.specs.Plan.{nowhere}
+use Rattle.spec_run.specs.Content.{rule_call}
+use Rattle.spec_run.specs.Meaning.{root_call, run}
+use Rattle.xt_drive.specs.View.{named_of, held_of, setting_in, supplied_of}
+use Rattle.xt_drive.proofs.Standing.{if_ok}
+use Rattle.xt_drive.proofs.Turns.{meant_here, root_here, turn_made, next_turn, turn_held, turn_refused, values_more, last_turn}
+use Rattle.xt_drive.proofs.whole.run_in.Goals as goal
+
+pub loop-global-init : goal.loop-global-init
+loop-global-init g c =
+    let s = setting_in (g.W.World.state c.args.world.now).truth c.args.root c.args.named.now in
+    record {
+      same = ap (λ vs. run s c.args.levels s.globals (map held_of vs) c.new-told.result.items (root_call s)) c.new-values.ensures.items ∙ ap (λ t. run s c.args.levels s.globals [] t (root_call s)) c.new-told.ensures.items;
+      truth = refl;
+      name = refl;
+    }
+
+pub loop-global-preserved : goal.loop-global-preserved
+loop-global-preserved g c =
+    let truth = (g.W.World.state c.args.world.now).truth in
+    let root = c.args.root in
+    let named = c.args.named.now in
+    let levels = c.args.levels in
+    let s = setting_in truth root named in
+    let inv = c.loop-global.invariant in
+    let i = c.loop-global.global-index in
+    let values = map held_of c.loop-global.values.items in
+    let told = c.loop-global.told.items in
+    let call = root_call s in
+    let n = c.global-item.result in
+    let next = next_turn s levels named i n values told call (omega arith) c.global-item.is in
+    let here = meant_here root named levels n inv.truth c.as_slice.ensures.value (c.as_slice-in-loop-global.ensures.value ∙ c.new-none.ensures.items) in
+    let made = turn_made c.in_ok-value.ensures.held c.in_ok-value.ensures.told here in
+    let gs = map named_of (drop (i + 1) named) in
+    let held = turn_held s levels (named_of n) gs values told c.turn.new.told.items call c.in_ok-value.field-0 c.in-Value.value made c.in-Value.is in
+    let more = values_more c.loop-global.values.items c.in_ok-held_global-in-Value.field-0 c.in_ok-push-in-Value.ensures.items c.in_ok-held_global-in-Value.ensures in
+    record {
+      same = ap (λ vs. run s levels gs vs c.turn.new.told.items call) more ∙ held ∙ sym next ∙ inv.same;
+      truth = c.turn.ensures.truth ∙ inv.truth;
+      name = c.turn.ensures.name ∙ inv.name;
+    }
+
+pub returns-in-Refused-clause-run : goal.returns-in-Refused-clause-run
+returns-in-Refused-clause-run g c =
+    let truth = (g.W.World.state c.args.world.now).truth in
+    let root = c.args.root in
+    let named = c.args.named.now in
+    let levels = c.args.levels in
+    let s = setting_in truth root named in
+    let inv = c.loop-global.invariant in
+    let i = c.loop-global.global-index in
+    let values = map held_of c.loop-global.values.items in
+    let told = c.loop-global.told.items in
+    let call = root_call s in
+    let n = c.global-item.result in
+    let next = next_turn s levels named i n values told call (omega arith) c.global-item.is in
+    let here = meant_here root named levels n inv.truth c.as_slice.ensures.value (c.as_slice-in-loop-global.ensures.value ∙ c.new-none.ensures.items) in
+    let made = turn_made c.in_ok-value.ensures.held c.in_ok-value.ensures.told here in
+    let gs = map named_of (drop (i + 1) named) in
+    let why = c.in-Refused.why in
+    let refused = turn_refused s levels (named_of n) gs values told c.turn.new.told.items call c.in_ok-value.field-0 why made (ap supplied_of c.in-Refused.is) in
+    if_ok c.halted.result c.halted.ensures (λ w h. h ∙ refused ∙ sym next ∙ inv.same)
+
+pub returns-clause-run : goal.returns-clause-run
+returns-clause-run g c =
+    let truth = (g.W.World.state c.args.world.now).truth in
+    let root = c.args.root in
+    let named = c.args.named.now in
+    let levels = c.args.levels in
+    let s = setting_in truth root named in
+    let inv = c.loop-global.invariant in
+    let i = c.loop-global.global-index in
+    let values = map held_of c.loop-global.values.items in
+    let told = c.loop-global.told.items in
+    let call = root_call s in
+    let same = c.in_ok-call.ensures.call ∙ ap (λ a. rule_call nowhere None 1 root 1 (a (Choice root None AllRules))) inv.truth in
+    let here = root_here root named levels (c.root_call.ensures.truth ∙ inv.truth) c.as_slice-2.ensures.value (c.as_slice-3.ensures.value ∙ c.new-none.ensures.items) same in
+    let came = if_ok c.means-came.result c.means-came.ensures.meaning (λ x h. h ∙ here) in
+    if_ok c.finished.result c.finished.ensures (λ w f. last_turn s levels named i values told call c.means-came.result w (omega arith) came f ∙ inv.same)

@@ -1,0 +1,14 @@
+use Rattle.std.proofs.Common.{◌≡◌, [], map, drop}
+use Rattle.spec_run.specs.Meaning.{run, root_call}
+use Rattle.xt_drive.specs.View.{named_of, held_of, setting_in}
+use Rattle.xt_drive.proofs.whole.run_in.Given as goal
+
+abbrev pub invariant-loop-global : goal.invariant-loop-global
+invariant-loop-global g l =
+    let truth = (g.W.World.state l.fn.world).truth in
+    let s = setting_in truth l.root l.named in
+    record {
+      same : run s l.levels (map named_of (drop l.global-index l.named)) (map held_of l.values.items) l.told.items (root_call s) ≡ run s l.levels s.globals [] [] (root_call s);
+      truth : (g.W.World.state l.world).truth ≡ truth;
+      name : g.W.World.name l.world ≡ g.W.World.name l.fn.world;
+    }

@@ -1,0 +1,208 @@
+// The whole run: the globals in their order, and then the root.
+ghost use Rattle.std.specs.Prelude.{◌≡◌, [], ◌++◌, IfOk, OnOk, Some};
+ghost use Rattle.std.specs.Option.{option_map};
+ghost use Rattle.spec_meaning.specs.Stream as stream;
+ghost use Rattle.spec_result.specs.Recovery.{messages_of};
+ghost use Rattle.spec_run.specs.Meaning as meant;
+ghost use Rattle.spec_run.specs.Meaning.{held_by, levels_of_a_run, refusal_of, run_of};
+ghost use Rattle.xt_tree.specs.StreamView.{stream_of};
+ghost use Rattle.xt_tree.specs.ValueView.{value_of};
+ghost use Rattle.xt_run.specs.View.{refused_of};
+ghost use Rattle.xt_drive.specs.View.{held_of, ending_of, outcome_of, meant_at_turn, setting_in, supplied_of, whole_of, IsTurn, IsFinished};
+
+use crate::calls::{global_call, nowhere, root_call};
+use crate::drive::means;
+use crate::globals::{Globals, HeldGlobal, NamedGlobal, with_name};
+use crate::outcome::{Ending, Held, Outcome, as_held};
+use std::alloc::Global;
+use std::rc::Rc;
+use xt_ask::{World, copy_name};
+use xt_names::Expanded;
+use xt_result::messages;
+use xt_run::{Call, Engine, Refused};
+use xt_text::{Memory, Text};
+use xt_tree::{Items, NodeRef, Value};
+
+/// What a whole run comes to.
+#[derive(Drop)]
+pub struct Whole {
+    /// The stream of the root; where it is refused, what was written until then. It is empty where a global is
+    /// refused at its turn.
+    pub content: Rc<Items>,
+    /// The texts of all messages in their order; where the run is refused, of those before that.
+    pub messages: Vec<Text>,
+    /// The first refusal, where there is one.
+    pub refusal: Option<Refused>,
+}
+
+// How many levels of contents may stand in one another.
+const fn levels_of_a_run() -> u64
+    ensures { result ≡ levels_of_a_run }
+{
+    1200
+}
+
+// The messages of the stream, after those that were there.
+fn add_messages(alloc: Global, told: &mut Vec<Text>, content: &Items) -> Result<(), Memory>
+    ensures { OnOk result (told.new.items ≡ told.old.items ++ messages_of (stream_of content.now)) }
+{
+    for text in messages(alloc, content)? {
+        told.push(text)?;
+    }
+    Ok(())
+}
+
+// The turn of a global: what it holds. Its messages come after those that were told.
+fn turn<E: Engine, W: World>(
+    alloc: Global,
+    engine: &mut E,
+    world: &mut W,
+    globals: &Globals,
+    global: &NamedGlobal,
+    levels: u64,
+    told: &mut Vec<Text>,
+) -> Result<Held, Memory>
+    ensures held { IfOk result (λ h. supplied_of h ≡ held_by (meant_at_turn (W.state world.old).truth globals.now global.now levels)) }
+    ensures told { OnOk result (told.new.items ≡ told.old.items ++ messages_of (meant_at_turn (W.state world.old).truth globals.now global.now levels).content) }
+    ensures truth { (W.state world.new).truth ≡ (W.state world.old).truth }
+    ensures name { W.name world.new ≡ W.name world.old }
+{
+    let name = copy_name(alloc, &global.name)?;
+    let under_way = with_name(alloc, name, globals.under_way)?;
+    let inner = Globals {
+        root: globals.root,
+        named: globals.named,
+        held: globals.held,
+        under_way: under_way.as_slice(),
+    };
+    let call = global_call(globals.root, global.element, nowhere(alloc));
+    let came = means(alloc, engine, world, &inner, &call, levels);
+    at_turn(alloc, told, came, call)
+}
+
+// What a global holds of which this came. Its messages come after those that were told. Its call is done with.
+fn at_turn(
+    alloc: Global,
+    told: &mut Vec<Text>,
+    came: Result<Box<Outcome>, Memory>,
+    call: Call,
+) -> Result<Held, Memory>
+    requires { IfOk came (λ o. stream.holes (outcome_of o.value).content ≡ 0) }
+    ensures { IfOk result (λ h. IsTurn h came told.old.items told.new.items) }
+{
+    let _ = call;
+    let outcome = Box::into_inner(came?);
+    add_messages(alloc, told, &outcome.content)?;
+    as_held(alloc, outcome)
+}
+
+// Why a call is refused, if it is.
+fn refusal(ending: Ending) -> Option<Refused>
+    ensures { option_map refused_of result ≡ refusal_of (ending_of ending) }
+{
+    match ending {
+        Ending::Finished => None,
+        Ending::Gave(_) => None,
+        Ending::Halted(why) => Some(why),
+    }
+}
+
+// What a run comes to whose root comes to this, after the messages that were told. Its call is done with.
+fn finished(
+    alloc: Global,
+    mut told: Vec<Text>,
+    came: Result<Box<Outcome>, Memory>,
+    call: Call,
+) -> Result<Whole, Memory>
+    ensures { IfOk result (λ w. IsFinished w told.items came) }
+{
+    let _ = call;
+    let Outcome { content, ending } = Box::into_inner(came?);
+    add_messages(alloc, &mut told, &content)?;
+    Ok(Whole {
+        content,
+        messages: told,
+        refusal: refusal(ending),
+    })
+}
+
+// What a run comes to of which a global is refused at its turn.
+fn halted(alloc: Global, told: Vec<Text>, why: Refused, written: Rc<Items>) -> Result<Whole, Memory>
+    ensures { IfOk result (λ w. whole_of w ≡ record { content = stream.Ended; messages = told.items; refusal = Some (refused_of why) }) }
+{
+    let _ = written;
+    Ok(Whole {
+        content: Rc::new(alloc, Items::new(alloc))?,
+        messages: told,
+        refusal: Some(why),
+    })
+}
+
+// A global with its value.
+fn held_global(alloc: Global, global: &NamedGlobal, value: Value) -> Result<HeldGlobal, Memory>
+    ensures { IfOk result (λ h. held_of h ≡ record { name = global.now.name; value = value_of value }) }
+{
+    Ok(HeldGlobal {
+        name: copy_name(alloc, &global.name)?,
+        value,
+    })
+}
+
+// The whole run, with so many levels.
+fn run_in<E: Engine, W: World>(
+    alloc: Global,
+    engine: &mut E,
+    world: &mut W,
+    root: NodeRef,
+    named: &[NamedGlobal],
+    levels: u64,
+) -> Result<Whole, Memory>
+    ensures run { IfOk result (λ w. let s = setting_in (W.state world.old).truth root named.now in whole_of w ≡ meant.run s levels s.globals [] [] (meant.root_call s)) }
+    ensures truth { (W.state world.new).truth ≡ (W.state world.old).truth }
+    ensures name { W.name world.new ≡ W.name world.old }
+{
+    let none: Vec<Expanded> = Vec::new(alloc);
+    let mut values: Vec<HeldGlobal> = Vec::new(alloc);
+    let mut told: Vec<Text> = Vec::new(alloc);
+    for global in named {
+        let globals = Globals {
+            root,
+            named,
+            held: values.as_slice(),
+            under_way: none.as_slice(),
+        };
+        match turn(alloc, engine, world, &globals, global, levels, &mut told)? {
+            Held::Value(value) => values.push(held_global(alloc, global, value)?)?,
+            Held::Refused(why, content) => return halted(alloc, told, why, content),
+        }
+    }
+    let call = root_call(alloc, world, root)?;
+    let globals = Globals {
+        root,
+        named,
+        held: values.as_slice(),
+        under_way: none.as_slice(),
+    };
+    let came = means(alloc, engine, world, &globals, &call, levels);
+    finished(alloc, told, came, call)
+}
+
+/// Runs a stylesheet in a world: its globals in stylesheet order, and then the rule for the root of the source
+/// (XSLT 1.0, sections 5.1 and 11.4), with 1,200 levels of contents. A global is evaluated at its turn, and before
+/// that for each reference to it; its messages stand at its turn. A refusal is no error: the run then ends there.
+///
+/// # Errors
+/// Want of memory. What is true in the world stays in any case.
+pub fn run<E: Engine, W: World>(
+    alloc: Global,
+    engine: &mut E,
+    world: &mut W,
+    root: NodeRef,
+    globals: &[NamedGlobal],
+) -> Result<Whole, Memory>
+    ensures run { IfOk result (λ w. whole_of w ≡ run_of (setting_in (W.state world.old).truth root globals.now)) }
+    ensures truth { (W.state world.new).truth ≡ (W.state world.old).truth }
+    ensures name { W.name world.new ≡ W.name world.old }
+{
+    run_in(alloc, engine, world, root, globals, levels_of_a_run())
+}
