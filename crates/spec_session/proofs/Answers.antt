@@ -1,56 +1,101 @@
--- No answer of the machine refuses by the number of want of memory.
-use Rattle.std.proofs.Common.{ℕ, Bool, true, false, List, Option, None, Some, lit<}
-use Rattle.std.specs.Prelude.{Result, Ok, Err, if◌then◌else◌}
+-- No answer of the machine refuses by the number of want of memory, and its modules are finitely many in each state that it comes to.
+use Rattle.std.proofs.Common.{◌≡◌, ℕ, Bool, true, false, List, [], ◌∷◌, Option, None, Some, bytes_eq, refl, lit<, subst, inl, inr, sym}
+use Rattle.std.specs.Prelude.{◌||◌, Result, Ok, Err, if◌then◌else◌}
 use Rattle.std.specs.Str.{chars}
 use Rattle.spec_document.specs.Scope.{root_scope}
-use Rattle.spec_document.specs.Forest.{Plain, Document}
+use Rattle.spec_document.specs.Forest.{Plain, Document, plain}
 use Rattle.spec_document.specs.Fault.{Fault}
 use Rattle.spec_session.specs.Command.{Command}
 use Rattle.spec_session.specs.Request.{Request, SetSource, SetModule, DropModule, Insert, Delete, SetText, SetAttribute, RemoveAttribute, Rename}
 use Rattle.spec_session.specs.Request.{SetParameter, Show, Write, Messages, Dump, Statistics, request_by, Words, is_text, is_taken, or_number, asked_by}
 use Rattle.spec_session.specs.Request.{words_of}
-use Rattle.spec_transform.specs.Documents.{Documents, with_source, with_module}
-use Rattle.spec_session.specs.Machine.{State, answer_of, answer_by, answer_to, kept_by, shows, document_named}
-use Rattle.spec_session.proofs.Steps.{IsOther}
+use Rattle.spec_structure.specs.Modules.{is_among}
+use Rattle.spec_run.specs.Documents.{Documents, with_source, with_module}
+use Rattle.spec_session.specs.Reply.{Reply}
+use Rattle.spec_session.specs.Machine.{State, initial, Step, Run, answer_of, answer_by, answer_to, kept_by, shows, document_named}
+use Rattle.spec_session.proofs.Steps.{AreFinite, IsOther, finite_after}
 use Rattle.spec_session.proofs.FaultNumbers.{FaultIsAbove, fault-above}
 
-kept : (make : Plain → Documents → Documents) (old : State) (result : Result (Document ℕ) Fault) → FaultIsAbove result → IsOther (kept_by make old result)
-kept make old (Ok document) h = tt
-kept make old (Err fault) h = h
+-- ---- The modules
+
+with_one_more : (name other : List ℕ) (names : List (List ℕ)) (nodes its : Plain) (before : Option Plain) (b : Bool)
+    → (before ≡ Some its → is_among other names ≡ true) → (if b then Some nodes else before) ≡ Some its → (b || is_among other names) ≡ true
+with_one_more name other names nodes its before true h e = refl
+with_one_more name other names nodes its before false h e = h e
+
+finite_with : (name : List ℕ) (nodes : Plain) (old : Documents) → AreFinite old → AreFinite (with_module name nodes old)
+finite_with name nodes old finite = record {
+  names = name ∷ finite.names;
+  all = λ other its e. with_one_more name other finite.names nodes its (old.modules other) (bytes_eq other name) (finite.all other its) e;
+}
+
+finite_source : (nodes : Plain) (old : Documents) → AreFinite old → AreFinite (with_source nodes old)
+finite_source nodes old finite = record { names = finite.names; all = finite.all }
+
+at_start : AreFinite initial.documents
+at_start = record { names = []; all = λ name its e. absurd (cc) }
+
+-- ---- Each answer
+
+kept : (make : Plain → Documents → Documents) (old : State) (result : Result (Document ℕ) Fault) → FaultIsAbove result
+    → ((nodes : Plain) → AreFinite (make nodes old.documents)) → IsOther (kept_by make old result)
+kept make old (Ok document) h finite = finite (plain document.nodes)
+kept make old (Err fault) h finite = h
 
 shown : (o : Option Plain) → IsOther (shows o)
 shown None = lit< tt
 shown (Some tree) = tt
 
-to : (old : State) (request : Request) → IsOther (answer_to old request)
-to old (SetSource body) = kept with_source old _ (fault-above root_scope old.made body)
-to old (SetModule name body) = kept (with_module name) old _ (fault-above root_scope old.made body)
-to old Show = tt
-to old (Dump document) = shown (document_named old document)
-to old (DropModule name) = lit< tt
-to old (Insert document path body) = lit< tt
-to old (Delete document path) = lit< tt
-to old (SetText document path value) = lit< tt
-to old (SetAttribute document path name value) = lit< tt
-to old (RemoveAttribute document path name) = lit< tt
-to old (Rename document path name) = lit< tt
-to old (SetParameter name value) = lit< tt
-to old Write = lit< tt
-to old Messages = lit< tt
-to old Statistics = lit< tt
+to : (old : State) → AreFinite old.documents → (request : Request) → IsOther (answer_to old request)
+to old finite (SetSource body) =
+    kept with_source old _ (fault-above root_scope old.made body) (λ nodes. finite_source nodes old.documents finite)
+to old finite (SetModule name body) =
+    kept (with_module name) old _ (fault-above root_scope old.made body) (λ nodes. finite_with name nodes old.documents finite)
+to old finite Show = tt
+to old finite (Dump document) = shown (document_named old document)
+to old finite (DropModule name) = lit< tt
+to old finite (Insert document path body) = lit< tt
+to old finite (Delete document path) = lit< tt
+to old finite (SetText document path value) = lit< tt
+to old finite (SetAttribute document path name value) = lit< tt
+to old finite (RemoveAttribute document path name) = lit< tt
+to old finite (Rename document path name) = lit< tt
+to old finite (SetParameter name value) = lit< tt
+to old finite Write = tt
+to old finite Messages = lit< tt
+to old finite Statistics = lit< tt
 
-formed : (old : State) (o : Option Request) → IsOther (answer_by old (or_number o 4))
-formed old None = lit< tt
-formed old (Some request) = to old request
+formed : (old : State) → AreFinite old.documents → (o : Option Request) → IsOther (answer_by old (or_number o 4))
+formed old finite None = lit< tt
+formed old finite (Some request) = to old finite request
 
-worded : (old : State) (words : Words) (body : List (List ℕ)) (taken : Bool)
+worded : (old : State) → AreFinite old.documents → (words : Words) (body : List (List ℕ)) (taken : Bool)
     → IsOther (answer_by old (if taken then or_number (asked_by words body) 4 else Err 3))
-worded old words body true = formed old (asked_by words body)
-worded old words body false = lit< tt
+worded old finite words body true = formed old finite (asked_by words body)
+worded old finite words body false = lit< tt
 
-texts : (old : State) (words : Words) (body : List (List ℕ)) (text : Bool) → IsOther (answer_by old (if text then request_by words body else Err 2))
-texts old words body true = worded old words body (is_taken words.first)
-texts old words body false = lit< tt
+texts : (old : State) → AreFinite old.documents → (words : Words) (body : List (List ℕ)) (text : Bool)
+    → IsOther (answer_by old (if text then request_by words body else Err 2))
+texts old finite words body true = worded old finite words body (is_taken words.first)
+texts old finite words body false = lit< tt
 
-pub is_other : (old : State) (command : Command) → IsOther (answer_of old command)
-is_other old command = texts old (words_of (chars command.line)) command.body (is_text command)
+pub is_other : (old : State) → AreFinite old.documents → (command : Command) → IsOther (answer_of old command)
+is_other old finite command = texts old finite (words_of (chars command.line)) command.body (is_text command)
+
+-- ---- Each state that a run comes to
+
+after_step : (old : State) → AreFinite old.documents → (command : Command) (reply : Reply) (new : State) → Step old command reply new
+    → AreFinite new.documents
+after_step old finite command reply new (inl g) = finite_after old finite (answer_of old command) (is_other old finite command) reply new g
+after_step old finite command reply new (inr g) = subst (λ (s : State). AreFinite s.documents) (sym g.1) finite
+
+after_run : (old : State) → AreFinite old.documents → (commands : List Command) (replies : List Reply) (new : State) → Run old commands replies new
+    → AreFinite new.documents
+after_run old finite [] [] new r = subst (λ (s : State). AreFinite s.documents) (sym r) finite
+after_run old finite [] (reply ∷ replies) new r = absurd r
+after_run old finite (command ∷ commands) [] new r = absurd r
+after_run old finite (command ∷ commands) (reply ∷ replies) new r =
+    after_run r.0 (after_step old finite command reply r.0 r.1) commands replies new r.2
+
+pub come_to : (commands : List Command) (replies : List Reply) (state : State) → Run initial commands replies state → AreFinite state.documents
+come_to commands replies state r = after_run initial at_start commands replies state r

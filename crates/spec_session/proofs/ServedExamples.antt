@@ -8,7 +8,7 @@ use Rattle.spec_lines.specs.Lines.{ended_lines}
 use Rattle.spec_session.specs.declared.kinds.Ending.TheVariants.{Finished, Quit, Unfinished}
 use Rattle.spec_session.specs.Command.{session_of, status_of}
 use Rattle.spec_session.specs.Reply.{Refused}
-use Rattle.spec_transform.specs.Documents.{Failed, no_main}
+use Rattle.spec_run.specs.Outcome.{Failed, no_main}
 use Rattle.spec_session.specs.Machine.{initial}
 use Rattle.spec_session.specs.Served.{AreReplies, IsServed, IsCutShort, Serves, asks_session}
 
@@ -31,7 +31,7 @@ unfolding chars is_utf8 encode digits
 show_is_answered = record {
   replies = Refused no_main ∷ [];
   state = initial;
-  run = (initial, inl ((Failed no_main, refl, refl), refl), refl);
+  run = (initial, inl ((Failed no_main [], refl, refl), refl), refl);
   bytes = refl;
 }
 

@@ -1,11 +1,17 @@
--- The machine has a step at each command, and but for want of memory only one.
-use Rattle.std.proofs.Common.{◌≡◌, ℕ, refl, sym, ◌∙◌, ap, arith, inl, inr}
+-- The machine has a step at each command in each state that it comes to, and but for want of memory only one.
+use Rattle.std.proofs.Common.{◌≡◌, ℕ, true, List, Option, None, Some, refl, sym, ◌∙◌, ap, subst, arith, inl, inr}
 use Rattle.std.specs.Prelude.{◌≢◌, ◌<◌}
+use Rattle.spec_document.specs.Forest.{Plain}
 use Rattle.spec_session.specs.Command.{Command}
-use Rattle.spec_session.specs.Reply.{Reply, OkDone, OkRefused, Refused, Shown, No}
-use Rattle.spec_transform.specs.Documents.{Documents, Outcome, Done, Failed, IsOutcome}
-use Rattle.spec_session.specs.Machine.{State, Answer, Refuses, Changes, ShowsResult, ShowsDocument, Gives, Step, answer_of}
-use Rattle.spec_session.specs.Machine.{change_reply, result_reply}
+use Rattle.spec_session.specs.Reply.{Reply, OkDone, OkRefused, Refused, Shown, Written, No}
+use Rattle.spec_document.specs.Name.{Expanded}
+use Rattle.spec_stylesheet.specs.declared.method.Method.{Method}
+use Rattle.spec_stylesheet.specs.declared.method.Method.TheVariants as method
+use Rattle.spec_structure.specs.Modules.{is_among}
+use Rattle.spec_run.specs.Documents.{Documents}
+use Rattle.spec_run.specs.Outcome.{Outcome, Done, Failed, IsOutcome}
+use Rattle.spec_session.specs.Machine.{State, Answer, Refuses, Changes, ShowsResult, WritesResult, ShowsDocument, Gives, Step, answer_of}
+use Rattle.spec_session.specs.Machine.{change_reply, result_reply, written_by, written_reply}
 
 number_in : Reply → ℕ
 number_in (No number) = number
@@ -13,43 +19,67 @@ number_in OkDone = 0
 number_in (OkRefused why) = 0
 number_in (Refused why) = 0
 number_in (Shown lines) = 0
+number_in (Written text) = 0
 
 -- what is given and is not for want of memory: it cannot be that nothing is
 abbrev pub HasReply : State → Answer → Type 0
 HasReply old answer = ¬ (¬ ((reply : Reply) × (new : State) × Gives old answer reply new × (reply ≢ No 1)))
 
+-- the modules are finitely many: these are names among which each name of a module is
+abbrev pub AreAmong : Documents → List (List ℕ) → Type 0
+AreAmong documents names = (name : List ℕ) (its : Plain) → documents.modules name ≡ Some its → is_among name names ≡ true
+
+pub record AreFinite (documents : Documents) : Type 0 where
+  pub names : List (List ℕ)
+  pub all : AreAmong documents names
+
 -- documents do not lack an outcome, and have one
 abbrev pub NoWant : Type 0
-NoWant = (documents : Documents) → ¬ (¬ ((outcome : Outcome) × IsOutcome documents outcome))
+NoWant = (documents : Documents) (names : List (List ℕ)) → AreAmong documents names → ¬ (¬ ((outcome : Outcome) × IsOutcome documents outcome))
 
 abbrev pub OneOutcome : Type 0
 OneOutcome = (documents : Documents) (one other : Outcome) → IsOutcome documents one → IsOutcome documents other → one ≡ other
 
--- no answer refuses by the number of want of memory
+-- no answer refuses by the number of want of memory, and none leads to more than finitely many modules
 abbrev pub IsOther : Answer → Type 0
 IsOther (Refuses number) = 1 < number
-IsOther (Changes next) = Unit {0}
+IsOther (Changes next) = AreFinite next.documents
 IsOther ShowsResult = Unit {0}
+IsOther WritesResult = Unit {0}
 IsOther (ShowsDocument tree) = Unit {0}
 
 above : (n : ℕ) → 1 < n → n ≡ 1 → ⊥
 above n h e = omega arith
 
 change_differs : (o : Outcome) → change_reply o ≢ No 1
-change_differs (Done result) = λ h. cc
-change_differs (Failed why) = λ h. cc
+change_differs (Done result method messages) = λ h. cc
+change_differs (Failed why messages) = λ h. cc
 
 result_differs : (o : Outcome) → result_reply o ≢ No 1
-result_differs (Done result) = λ h. cc
-result_differs (Failed why) = λ h. cc
+result_differs (Done result method messages) = λ h. cc
+result_differs (Failed why messages) = λ h. cc
 
-pub gives : NoWant → (old : State) (answer : Answer) → IsOther answer → HasReply old answer
+by_differs : (m : Option (Method Expanded)) (result : Plain) → written_by m result ≢ No 1
+by_differs None result = λ h. cc
+by_differs (Some method.Text) result = λ h. cc
+by_differs (Some method.Xml) result = λ h. cc
+by_differs (Some method.Html) result = λ h. cc
+by_differs (Some (method.Other name)) result = λ h. cc
+
+written_differs : (o : Outcome) → written_reply o ≢ No 1
+written_differs (Done result m messages) = by_differs m result
+written_differs (Failed why messages) = λ h. cc
+
+pub gives : NoWant → (old : State) → AreFinite old.documents → (answer : Answer) → IsOther answer → HasReply old answer
 unfolding number_in
-gives some old (Refuses number) h none = none (No number, old, (refl, refl), λ e. above number h (ap number_in e))
-gives some old (Changes next) h none =
-    some next.documents (λ o. none (change_reply o.0, next, ((o.0, o.1, refl), refl), change_differs o.0))
-gives some old ShowsResult h none = some old.documents (λ o. none (result_reply o.0, old, ((o.0, o.1, refl), refl), result_differs o.0))
-gives some old (ShowsDocument tree) h none = none (Shown _, old, (refl, refl), λ e. cc)
+gives some old finite (Refuses number) h none = none (No number, old, (refl, refl), λ e. above number h (ap number_in e))
+gives some old finite (Changes next) h none =
+    some next.documents h.names h.all (λ o. none (change_reply o.0, next, ((o.0, o.1, refl), refl), change_differs o.0))
+gives some old finite ShowsResult h none =
+    some old.documents finite.names finite.all (λ o. none (result_reply o.0, old, ((o.0, o.1, refl), refl), result_differs o.0))
+gives some old finite WritesResult h none =
+    some old.documents finite.names finite.all (λ o. none (written_reply o.0, old, ((o.0, o.1, refl), refl), written_differs o.0))
+gives some old finite (ShowsDocument tree) h none = none (Shown _, old, (refl, refl), λ e. cc)
 
 -- what one answer gives is one reply and one state
 pub one : OneOutcome → (old : State) (answer : Answer) (reply other : Reply) (new another : State) → Gives old answer reply new
@@ -59,6 +89,8 @@ one same old (Changes next) reply other new another g h =
     (g.0.2 ∙ ap change_reply (same next.documents g.0.0 h.0.0 g.0.1 h.0.1) ∙ sym h.0.2, g.1 ∙ sym h.1)
 one same old ShowsResult reply other new another g h =
     (g.0.2 ∙ ap result_reply (same old.documents g.0.0 h.0.0 g.0.1 h.0.1) ∙ sym h.0.2, g.1 ∙ sym h.1)
+one same old WritesResult reply other new another g h =
+    (g.0.2 ∙ ap written_reply (same old.documents g.0.0 h.0.0 g.0.1 h.0.1) ∙ sym h.0.2, g.1 ∙ sym h.1)
 one same old (ShowsDocument tree) reply other new another g h = (g.0 ∙ sym h.0, g.1 ∙ sym h.1)
 
 pub steps_agree_lem : OneOutcome → (old : State) (command : Command) (reply other : Reply) (new another : State)
@@ -66,3 +98,17 @@ pub steps_agree_lem : OneOutcome → (old : State) (command : Command) (reply ot
 steps_agree_lem same old command reply other new another (inl g) (inl h) m n = one same old (answer_of old command) reply other new another g h
 steps_agree_lem same old command reply other new another (inr g) h m n = absurd (m g.0)
 steps_agree_lem same old command reply other new another (inl g) (inr h) m n = absurd (n h.0)
+
+-- ---- States that a run comes to
+
+same_state : (old new : State) → AreFinite old.documents → new ≡ old → AreFinite new.documents
+same_state old new finite e = subst (λ (s : State). AreFinite s.documents) (sym e) finite
+
+-- what is held after an answer
+pub finite_after : (old : State) → AreFinite old.documents → (answer : Answer) → IsOther answer → (reply : Reply) (new : State) → Gives old answer reply new
+    → AreFinite new.documents
+finite_after old finite (Refuses number) h reply new g = same_state old new finite g.1
+finite_after old finite (Changes next) h reply new g = same_state next new h g.1
+finite_after old finite ShowsResult h reply new g = same_state old new finite g.1
+finite_after old finite WritesResult h reply new g = same_state old new finite g.1
+finite_after old finite (ShowsDocument tree) h reply new g = same_state old new finite g.1

@@ -1,17 +1,19 @@
 -- Worked examples of the definitions. Each line is a fact whose two sides the check computes.
-use Rattle.std.specs.Prelude.{ℕ, ◌≡◌, refl, false, List, [], ◌∷◌, Option, None, Some, Result, Ok, Err, bytes_eq, codes, if◌then◌else◌}
+use Rattle.std.specs.Prelude.{ℕ, ◌≡◌, refl, false, List, [], ◌∷◌, ◌++◌, Option, None, Some, Result, Ok, Err, bytes_eq, codes, if◌then◌else◌}
 use Rattle.std.specs.Str.{chars, is_utf8}
 use Rattle.std.specs.Fmt.{digits}
 use lib.Utf8.{encode}
 use Rattle.spec_document.specs.Forest.{Plain, Empty, Node, Element, Text, Comment, lines_of}
 use Rattle.spec_session.specs.declared.kinds.Ending.TheVariants.{Finished, Quit, Unfinished}
 use Rattle.spec_session.specs.Command.{session_of, status_of}
-use Rattle.spec_session.specs.Request.{Request, SetSource, SetModule, SetText, SetAttribute, Rename, SetParameter, Dump, SourceName, ModuleName, words_of, asked_by, request_of, path_of}
-use Rattle.spec_transform.specs.Documents.{Documents, Failed, IsOutcome, no_documents, no_main, no_source}
+use Rattle.spec_session.specs.Request.{Request, SetSource, SetModule, SetText, SetAttribute, Rename, SetParameter, Write, Dump, SourceName, ModuleName, words_of, asked_by, request_of, path_of}
+use Rattle.spec_run.specs.Documents.{Documents, no_documents}
+use Rattle.spec_structure.specs.Modules.{no_fault}
+use Rattle.spec_run.specs.Outcome.{Failed, IsOutcome, faulty, no_main, no_source}
 use Rattle.spec_expression.specs.declared.code.Code.TheVariants.{Static, Dynamic}
-use Rattle.spec_expression.specs.declared.code.StaticCode.TheVariants.{NotYet}
+use Rattle.spec_expression.specs.declared.code.StaticCode.TheVariants.{NoStylesheet}
 use Rattle.spec_expression.specs.declared.code.DynCode.TheVariants.{TooDeep}
-use Rattle.spec_session.specs.Reply.{OkRefused, Refused, Shown, No, reply_bytes}
+use Rattle.spec_session.specs.Reply.{OkRefused, Refused, Shown, Written, No, reply_bytes}
 
 -- a body goes up to a line `.`; empty lines between commands are skipped; `quit` ends the session
 pub commands_with_bodies : session_of (codes "source x" ∷ codes "(a" ∷ [] ∷ codes "." ∷ [] ∷ codes "show" ∷ codes "quit" ∷ codes "show" ∷ [])
@@ -48,6 +50,10 @@ dump_asks = refl
 pub no_text : request_of (record { line = codes "foo"; body = (0xFF ∷ []) ∷ [] }) ≡ Err 2
 unfolding chars is_utf8 encode
 no_text = refl
+
+pub write_asks : asks (codes "write") ≡ Ok Write
+unfolding chars is_utf8 encode
+write_asks = refl
 
 pub unknown_word : asks (codes " show") ≡ Err 3
 unfolding chars is_utf8 encode
@@ -107,22 +113,27 @@ leaf name text = Node tt (Element name []) (Node tt (Text text) Empty Empty) Emp
 abbrev holding : Option Plain → Option Plain → Documents
 holding main source = record { source = source; modules = λ name. if bytes_eq name (codes "main") then main else None }
 
-pub without_main : IsOutcome no_documents (Failed no_main)
+pub without_main : IsOutcome no_documents (Failed no_main [])
 without_main = refl
 
-pub without_source : IsOutcome (holding (Some (leaf (codes "a") [])) None) (Failed no_source)
+pub without_source : IsOutcome (holding (Some (leaf (codes "a") [])) None) (Failed no_source [])
 without_source = refl
 
 -- a module that is no stylesheet: there is nothing behind a comment
 pub other_main : IsOutcome (holding (Some (Node tt (Comment []) Empty Empty)) (Some (leaf (codes "a") (codes "b"))))
-    (Failed (record { code = Static NotYet; place = record { module_name = Some (codes "main"); path = 2 ∷ [] } }))
-other_main = (_, (_, refl, refl), refl)
+    (Failed (record { code = Static NoStylesheet; place = record { module_name = Some (codes "main"); path = 2 ∷ [] } }) [])
+other_main = (_, faulty (record { tree = _; is = refl; says = Ok []; reading = refl; link = None; links = no_fault; whole = refl }) refl, refl)
 
 -- ---- Replies
 
 pub shown : reply_bytes (Shown (lines_of (leaf (codes "out") (codes "h\ti")))) ≡ codes "(out\n-h\\ti\n)out\n.\n"
 unfolding encode
 shown = refl
+
+-- the number is that of the bytes, and the text is as it is
+pub written : reply_bytes (Written (codes "a\nb" ++ 0xE9 ∷ [])) ≡ codes "text 5\na\nb" ++ 0xC3 ∷ 0xA9 ∷ 0xA ∷ []
+unfolding encode digits
+written = refl
 
 pub refused_change : reply_bytes (OkRefused no_main) ≡ codes "ok refused S01 -\n"
 unfolding encode digits

@@ -1,13 +1,17 @@
 -- The session machine. Its state is plain documents; a step relates state, command, reply and new state.
 use Rattle.std.specs.Prelude.{ℕ, ◌≡◌, ◌+◌, ◌⊎◌, List, [], ◌∷◌, Option, None, Some, Result, Ok, Err}
 use Rattle.spec_document.specs.Scope.{root_scope}
-use Rattle.spec_document.specs.Forest.{Plain, Document, plain, size, lines_of}
+use Rattle.spec_document.specs.Forest.{Plain, Document, plain, size, lines_of, texts_in}
 use Rattle.spec_document.specs.Fault.{Fault}
 use Rattle.spec_document.specs.Document.{document_of}
+use Rattle.spec_document.specs.Name.{Expanded}
+use Rattle.spec_stylesheet.specs.declared.method.Method.{Method}
+use Rattle.spec_stylesheet.specs.declared.method.Method.TheVariants as method
 use Rattle.spec_session.specs.Command.{Command}
 use Rattle.spec_session.specs.Request.{DocumentName, SourceName, ModuleName, Request, SetSource, SetModule, DropModule, Insert, Delete, SetText, SetAttribute, RemoveAttribute, Rename, SetParameter, Show, Write, Messages, Dump, Statistics, request_of}
-use Rattle.spec_transform.specs.Documents.{Documents, no_documents, with_source, with_module, Outcome, Done, Failed, IsOutcome}
-use Rattle.spec_session.specs.Reply.{Reply, OkDone, OkRefused, Refused, Shown, No}
+use Rattle.spec_run.specs.Documents.{Documents, no_documents, with_source, with_module}
+use Rattle.spec_run.specs.Outcome.{Outcome, Done, Failed, IsOutcome}
+use Rattle.spec_session.specs.Reply.{Reply, OkDone, OkRefused, Refused, Shown, Written, No}
 
 -- what is held: the documents, and how many nodes the commands accepted so far have made, so that the next one has this number
 pub record State : Type 0 where
@@ -31,6 +35,8 @@ pub data Answer : Type 0 where
   Changes : (new : State) → Answer
   -- the result is shown
   ShowsResult : Answer
+  -- it is written by its output method
+  WritesResult : Answer
   -- a document is shown
   ShowsDocument : (tree : Plain) → Answer
 
@@ -52,6 +58,7 @@ abbrev pub answer_to : State → Request → Answer
 answer_to old (SetSource body) = kept_by with_source old (document_of root_scope old.made body)
 answer_to old (SetModule name body) = kept_by (with_module name) old (document_of root_scope old.made body)
 answer_to old Show = ShowsResult
+answer_to old Write = WritesResult
 answer_to old (Dump document) = shows (document_named old document)
 -- whatever else a command may ask is not taken: its word is no command
 answer_to old (DropModule name) = Refuses 3
@@ -62,7 +69,6 @@ answer_to old (SetAttribute document path name value) = Refuses 3
 answer_to old (RemoveAttribute document path name) = Refuses 3
 answer_to old (Rename document path name) = Refuses 3
 answer_to old (SetParameter name value) = Refuses 3
-answer_to old Write = Refuses 3
 answer_to old Messages = Refuses 3
 answer_to old Statistics = Refuses 3
 
@@ -75,20 +81,30 @@ answer_of old command = answer_by old (request_of command)
 
 -- ---- Steps
 
--- the reply to an accepted change after which the transformation gives this, and to a request for the result
+-- the reply to an accepted change after which the transformation gives this, and to a request to show the result or to write it
 abbrev pub change_reply : Outcome → Reply
-change_reply (Done result) = OkDone
-change_reply (Failed why) = OkRefused why
+change_reply (Done result method messages) = OkDone
+change_reply (Failed why messages) = OkRefused why
 
 abbrev pub result_reply : Outcome → Reply
-result_reply (Done result) = Shown (lines_of result)
-result_reply (Failed why) = Refused why
+result_reply (Done result method messages) = Shown (lines_of result)
+result_reply (Failed why messages) = Refused why
+
+-- the result by this output method (XSLT 1.0, section 16): as text its string-value (section 16.3), by any other, or by none, its lines
+abbrev pub written_by : Option (Method Expanded) → Plain → Reply
+written_by (Some method.Text) result = Written (texts_in result)
+written_by _ result = Shown (lines_of result)
+
+abbrev pub written_reply : Outcome → Reply
+written_reply (Done result method messages) = written_by method result
+written_reply (Failed why messages) = Refused why
 
 -- from old, with this answer, the machine gives this reply and goes on to new
 abbrev pub Gives : State → Answer → Reply → State → Type 0
 Gives old (Refuses number) reply new = (reply ≡ No number) × (new ≡ old)
 Gives old (Changes next) reply new = ((outcome : Outcome) × IsOutcome next.documents outcome × (reply ≡ change_reply outcome)) × (new ≡ next)
 Gives old ShowsResult reply new = ((outcome : Outcome) × IsOutcome old.documents outcome × (reply ≡ result_reply outcome)) × (new ≡ old)
+Gives old WritesResult reply new = ((outcome : Outcome) × IsOutcome old.documents outcome × (reply ≡ written_reply outcome)) × (new ≡ old)
 Gives old (ShowsDocument tree) reply new = (reply ≡ Shown (lines_of tree)) × (new ≡ old)
 
 -- Each command gets its answer. Want of memory, which changes nothing, may come in its place at any command

@@ -1,11 +1,11 @@
 -- Replies and their bytes.
-use Rattle.std.specs.Prelude.{ℕ, List, [], ◌∷◌, ◌++◌, codes, decimal, None, Some}
+use Rattle.std.specs.Prelude.{ℕ, List, [], ◌∷◌, ◌++◌, length, codes, decimal, None, Some}
 use Rattle.std.specs.List.{flat_map}
 use Rattle.std.specs.Str.{encode_utf8_all}
 use Rattle.spec_document.specs.Pyx.{Line}
 use Rattle.spec_expression.specs.Code.{code_text}
 use Rattle.spec_stylesheet.specs.Place.{Place}
-use Rattle.spec_transform.specs.Documents.{Refusal}
+use Rattle.spec_run.specs.Outcome.{Refusal}
 
 pub data Reply : Type 0 where
   -- to an accepted change: the transformation has a result, or is refused
@@ -15,6 +15,8 @@ pub data Reply : Type 0 where
   Refused : (why : Refusal) → Reply
   -- the lines of a result or a document
   Shown : (lines : List Line) → Reply
+  -- the text of a result
+  Written : (text : List ℕ) → Reply
   -- to a refused command
   No : (number : ℕ) → Reply
 
@@ -28,12 +30,13 @@ place_text place = elim place.module_name [
 abbrev pub refusal_text : Refusal → List ℕ
 refusal_text why = code_text why.code ++ 0x20 ∷ place_text why.place
 
--- the lines of a reply
+-- the lines of a reply. A text stands behind the number of its bytes, as it is: an LF in it is no end of a line
 abbrev pub reply_lines : Reply → List Line
 reply_lines OkDone = codes "ok done" ∷ []
 reply_lines (OkRefused why) = (codes "ok refused " ++ refusal_text why) ∷ []
 reply_lines (Refused why) = (codes "refused " ++ refusal_text why) ∷ []
 reply_lines (Shown lines) = lines ++ codes "." ∷ []
+reply_lines (Written text) = (codes "text " ++ decimal (length (encode_utf8_all text))) ∷ text ∷ []
 reply_lines (No number) = (codes "no " ++ decimal number) ∷ []
 
 -- each line ends with an LF

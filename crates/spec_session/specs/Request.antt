@@ -194,7 +194,7 @@ commands =
 
 -- the words that are taken: any other is no command
 abbrev pub taken_words : List (List ℕ)
-taken_words = codes "source" ∷ codes "module" ∷ codes "show" ∷ codes "dump" ∷ codes "quit" ∷ []
+taken_words = codes "source" ∷ codes "module" ∷ codes "show" ∷ codes "dump" ∷ codes "quit" ∷ codes "write" ∷ []
 
 abbrev pub is_taken : List ℕ → Bool
 is_taken word = list_any (λ taken. bytes_eq word taken) taken_words

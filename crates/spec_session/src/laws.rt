@@ -1,15 +1,16 @@
 // Laws of the machine, which hold of the definitions alone.
-ghost use Rattle.std.specs.Prelude.{◌≡◌, ◌≢◌};
+ghost use Rattle.std.specs.Prelude.{◌≡◌, ◌≢◌, List};
 ghost use Rattle.spec_session.specs.Command.{Command};
-ghost use Rattle.spec_session.specs.Machine.{State, Step};
+ghost use Rattle.spec_session.specs.Machine.{initial, Run, State, Step};
 ghost use Rattle.spec_session.specs.Reply.{No, Reply};
 
-use spec_transform::{no_want_of_outcome, one_outcome};
+use spec_run::{no_want_of_outcome, one_outcome};
 
-/// No command lacks a step from a state, other than for want of memory. Which step a change or `show` has follows
-/// from whether texts are expressions, which is not decided here: it cannot be that there is none.
+/// No command lacks a step from a state that a run comes to, other than for want of memory. Which step a change,
+/// `show` or `write` has follows from whether texts are expressions, which is not decided here: it cannot be that
+/// there is none.
 pub fn each_command_has_a_step()
-    ensures { (old : State) (command : Command) → ¬ (¬ ((reply : Reply) × (new : State) × Step old command reply new × (reply ≢ No 1))) }
+    ensures { (commands : List Command) (replies : List Reply) (old : State) (command : Command) → Run initial commands replies old → ¬ (¬ ((reply : Reply) × (new : State) × Step old command reply new × (reply ≢ No 1))) }
 {
     no_want_of_outcome();
 }

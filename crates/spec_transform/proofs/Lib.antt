@@ -1,4 +1,2 @@
-pub mod Readings
 pub mod Greatest
-pub mod Outcomes
 pub mod Unrefused

@@ -1,21 +1,23 @@
 -- Modules by their names: keys are texts, names are characters.
 use Rattle.std.proofs.Common.{◌≡◌, ℕ, Bool, true, false, cond, List, [], ◌∷◌, Option, None, Some, bytes_eq, string_bytes, refl, sym, ap}
 use Rattle.std.proofs.Common.{◌∙◌}
-use Rattle.std.specs.Prelude.{Result, Ok, Err, IsOk, OnOk}
-use Rattle.std.proofs.lemmas.Str.{IsUtf8-string_bytes}
-use Rattle.std.proofs.lemmas.Bool.Decides.{same_from_decides}
-use Rattle.spec_document.specs.Forest.{Plain}
-use Rattle.spec_transform.specs.Documents.{Documents, main_name, with_module}
+use Rattle.std.specs.Prelude.{Result, Ok, Err, IsOk, OnOk, codes}
+use Rattle.std.proofs.lemmas.Str.{IsUtf8-string_bytes, IsUtf8-from_is_utf8}
 use Rattle.std.proofs.lemmas.Slice.Eq.{bytes_eq-Decides}
-use Rattle.std.specs.Map.{lookup}
+use Rattle.std.specs.Map.{lookup, remove_entry}
 use Rattle.std.specs.Option.{option_map, option_copied}
-use Rattle.std.specs.Str.{chars, IsUtf8}
+use Rattle.std.specs.Str.{chars, is_utf8, IsUtf8}
+use lib.Utf8.{encode}
 use Rattle.std.specs.String.{string_eq}
 use Rattle.std.specs.declared.alloc.Global.{Global}
 use Rattle.std.specs.declared.string.String.{String}
 use Rattle.indexmap.specs.IndexMap.{insert_entry}
+use Rattle.spec_document.specs.Forest.{Document}
 use Rattle.xt_text.proofs.Chars.{same_chars}
-use Rattle.xt_repair.specs.View.{is_name}
+use Rattle.xt_import.specs.View.{is_name, modules_in, plain_of}
+use Rattle.spec_run.specs.Documents.{main_name}
+use Rattle.xt_repair.specs.OutcomeView.{plain_in}
+use Rattle.xt_repair.specs.StylesheetView.{with_one}
 use denote.Ref.{Bor}
 
 -- an entry is found by the bytes of a text as by its characters
@@ -46,7 +48,7 @@ is_equal : (a b : List ℕ) → a ≡ b → bytes_eq a b ≡ true
 is_equal a b e = (bytes_eq-Decides a b).1 e
 
 -- after an insert the value of its key is found, and those of the others are as before
-pub lookup-insert : {X : Type 0} (name : List ℕ) (key : String Global) (value : X) (es : List (String Global × X))
+lookup-insert : {X : Type 0} (name : List ℕ) (key : String Global) (value : X) (es : List (String Global × X))
     → lookup (is_name name) (insert_entry string_eq es key value) ≡ cond (is_name name key) (Some value) (lookup (is_name name) es)
 lookup-insert name key value [] = refl
 lookup-insert {X} name key value (e ∷ es) =
@@ -66,28 +68,96 @@ lookup-insert {X} name key value (e ∷ es) =
     by true = refl
     by false = refl
 
-pub map-cond : {X Y : Type 0} (f : X → Y) (b : Bool) (v : X) (rest : Option X)
+map-cond : {X Y : Type 0} (f : X → Y) (b : Bool) (v : X) (rest : Option X)
     → option_map f (cond b (Some v) rest) ≡ cond b (Some (f v)) (option_map f rest)
 map-cond f true v rest = refl
 map-cond f false v rest = refl
 
+-- the modules after an insert
+pub modules-insert : (key : String Global) (document : Document ℕ) (es : List (String Global × Document ℕ))
+    → modules_in (insert_entry string_eq es key document) ≡ with_one (chars (string_bytes key)) (plain_of document) (modules_in es)
+modules-insert key document es =
+    let at : (name : List ℕ) → modules_in (insert_entry string_eq es key document) name ≡ with_one (chars (string_bytes key)) (plain_of document) (modules_in es) name
+    = λ name. ap (option_map plain_of) (lookup-insert name key document es) ∙ map-cond plain_of (is_name name key) document (lookup (is_name name) es) in
+    λ i name. at name i
+
 pub map-copied : {X Y : Type 0} (f : X → Y) (o : Option (Bor X)) → option_map (λ r. f r.now) o ≡ option_map f (option_copied o)
 map-copied f None = refl
 map-copied f (Some r) = refl
+
+main_is_utf8 : IsUtf8 (codes "main")
+unfolding is_utf8 chars encode
+main_is_utf8 = IsUtf8-from_is_utf8 (codes "main") refl
+
+-- the module `main`, as it is found by its name
+pub is_main : (es : List (String Global × Document ℕ)) (found : Option (Bor (Document ℕ)))
+    → option_copied found ≡ lookup (λ key. bytes_eq (codes "main") (string_bytes key)) es → plain_in found ≡ modules_in es main_name
+unfolding chars
+is_main es found e = map-copied plain_of found ∙ ap (option_map plain_of) (e ∙ by_characters (codes "main") main_is_utf8 es)
 
 -- what holds where a call succeeds holds where it must
 pub ok_of : {T E P : Type 0} (r : Result T E) → IsOk r → OnOk r P → P
 ok_of (Ok x) h p = p
 ok_of (Err e) h p = absurd (cc)
 
--- the module `main`, once this document is the module of this name
-bytes_eq-comm : (a b : List ℕ) → bytes_eq a b ≡ bytes_eq b a
-bytes_eq-comm a b =
-    let there = bytes_eq-Decides a b in
-    let back = bytes_eq-Decides b a in
-    same_from_decides (bytes_eq a b) (bytes_eq b a) there (λ h. sym (back.0 h), λ e. back.1 (sym e))
+-- ---- A key that is inserted and taken out again, or put back
 
-pub main_chosen : (old : Documents) (name : List ℕ) (nodes : Plain) (is_main : Bool) → bytes_eq name main_name ≡ is_main
-    → (with_module name nodes old).modules main_name ≡ cond is_main (Some nodes) (old.modules main_name)
-main_chosen old name nodes is_main e =
-    ap (λ (b : Bool). cond b (Some nodes) (old.modules main_name)) (bytes_eq-comm main_name name ∙ e)
+-- the test finds what is equal to the key, which is equal to itself
+pub record IsFor {K : Type 0} (eq : K → K → Bool) (key : K) (test : K → Bool) : Type 0 where
+  pub same : (k : K) → test k ≡ eq key k
+  pub itself : eq key key ≡ true
+
+found_next : {K X : Type 0} (eq : K → K → Bool) (key : K) (test : K → Bool) (value : X) (e : K × X) (es : List (K × X)) → IsFor eq key test
+    → lookup test (insert_entry eq es key value) ≡ Some value → (b : Bool) → eq key e.0 ≡ b
+    → lookup test (cond b ((e.0, value) ∷ es) (e ∷ insert_entry eq es key value)) ≡ Some value
+found_next eq key test value e es is more true h = ap (λ b. cond b (Some value) (lookup test es)) (is.same e.0 ∙ h)
+found_next eq key test value e es is more false h =
+    ap (λ b. cond b (Some e.1) (lookup test (insert_entry eq es key value))) (is.same e.0 ∙ h) ∙ more
+
+pub found_again : {K X : Type 0} (eq : K → K → Bool) (key : K) (test : K → Bool) (value : X) (es : List (K × X)) → IsFor eq key test
+    → lookup test (insert_entry eq es key value) ≡ Some value
+found_again eq key test value [] is = ap (λ b. cond b (Some value) None) (is.same key ∙ is.itself)
+found_again eq key test value (e ∷ es) is = found_next eq key test value e es is (found_again eq key test value es is) (eq key e.0) refl
+
+taken_next : {K X : Type 0} (eq : K → K → Bool) (key : K) (test : K → Bool) (value : X) (e : K × X) (es : List (K × X)) → IsFor eq key test
+    → (lookup (eq key) es ≡ None → remove_entry test (insert_entry eq es key value) ≡ es) → (b : Bool) → eq key e.0 ≡ b
+    → cond b (Some e.1) (lookup (eq key) es) ≡ None → remove_entry test (cond b ((e.0, value) ∷ es) (e ∷ insert_entry eq es key value)) ≡ e ∷ es
+taken_next eq key test value e es is more true h none = absurd (cc)
+taken_next {K} {X} eq key test value e es is more false h none =
+    ap (λ b. cond b (insert_entry eq es key value) (e ∷ remove_entry test (insert_entry eq es key value))) (is.same e.0 ∙ h)
+    ∙ ap (λ (rest : List (K × X)). e ∷ rest) (more none)
+
+pub taken_out : {K X : Type 0} (eq : K → K → Bool) (key : K) (test : K → Bool) (value : X) (es : List (K × X)) → IsFor eq key test
+    → lookup (eq key) es ≡ None → remove_entry test (insert_entry eq es key value) ≡ es
+taken_out eq key test value [] is none = ap (λ b. cond b [] ((key, value) ∷ [])) (is.same key ∙ is.itself)
+taken_out eq key test value (e ∷ es) is none = taken_next eq key test value e es is (taken_out eq key test value es is) (eq key e.0) refl none
+
+put_next : {K X : Type 0} (eq : K → K → Bool) (key again : K) (value before : X) (e : K × X) (es : List (K × X)) → IsFor eq key (eq again)
+    → (lookup (eq key) es ≡ Some before → insert_entry eq (insert_entry eq es key value) again before ≡ es) → (b : Bool) → eq key e.0 ≡ b
+    → cond b (Some e.1) (lookup (eq key) es) ≡ Some before
+    → insert_entry eq (cond b ((e.0, value) ∷ es) (e ∷ insert_entry eq es key value)) again before ≡ e ∷ es
+put_next {X = X} eq key again value before e es is more true h some =
+    let same : e.1 ≡ before = cc in
+    ap (λ b. cond b ((e.0, before) ∷ es) ((e.0, value) ∷ insert_entry eq es again before)) (is.same e.0 ∙ h)
+    ∙ ap (λ (x : X). (e.0, x) ∷ es) (sym same)
+put_next {K} {X} eq key again value before e es is more false h some =
+    ap (λ b. cond b ((e.0, before) ∷ insert_entry eq es key value) (e ∷ insert_entry eq (insert_entry eq es key value) again before)) (is.same e.0 ∙ h)
+    ∙ ap (λ (rest : List (K × X)). e ∷ rest) (more some)
+
+pub put_back : {K X : Type 0} (eq : K → K → Bool) (key again : K) (value before : X) (es : List (K × X)) → IsFor eq key (eq again)
+    → lookup (eq key) es ≡ Some before → insert_entry eq (insert_entry eq es key value) again before ≡ es
+put_back eq key again value before [] is some = absurd (cc)
+put_back eq key again value before (e ∷ es) is some =
+    put_next eq key again value before e es is (put_back eq key again value before es is) (eq key e.0) refl some
+
+pub of_text : (key : String Global) (text : List ℕ) → text ≡ string_bytes key → IsFor string_eq key (λ k. bytes_eq text (string_bytes k))
+of_text key text e = record {
+  same = λ k. ap (λ (bytes : List ℕ). bytes_eq bytes (string_bytes k)) e;
+  itself = is_equal (string_bytes key) (string_bytes key) refl;
+}
+
+pub of_key : (key again : String Global) → string_bytes again ≡ string_bytes key → IsFor string_eq key (string_eq again)
+of_key key again e = record {
+  same = λ k. ap (λ (bytes : List ℕ). bytes_eq bytes (string_bytes k)) e;
+  itself = is_equal (string_bytes key) (string_bytes key) refl;
+}

@@ -1,2 +1,3 @@
 pub mod Keys
-pub mod Ending
+pub mod Stylesheets
+pub mod Coming

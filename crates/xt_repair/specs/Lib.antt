@@ -1,2 +1,3 @@
+pub mod StylesheetView
 pub mod OutcomeView
 pub mod View

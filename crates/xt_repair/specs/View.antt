@@ -1,18 +1,19 @@
 -- What is held, what is ready to be adopted, and when it may be.
-use Rattle.std.specs.Prelude.{ℕ, ◌≡◌, ◌+◌, ◌<◌, Bool, List, Option, Result, Ok, Err, bytes_eq, string_bytes}
+use Rattle.std.specs.Prelude.{ℕ, ◌≡◌, ◌+◌, ◌<◌, Option, Result, Ok, Err, string_bytes}
 use Rattle.std.specs.Option.{option_map}
 use Rattle.std.specs.Str.{chars}
-use Rattle.std.specs.HashMap.{get_by, spare}
-use Rattle.std.specs.declared.string.String.{String}
-use Rattle.std.specs.declared.alloc.Global.{Global}
+use Rattle.std.specs.HashMap.{spare}
 use Rattle.spec_document.specs.Fault.{Fault}
 use Rattle.spec_document.specs.Forest.{Plain, Document, size}
-use Rattle.spec_transform.specs.Documents as spec
-use Rattle.spec_transform.specs.Documents.{Documents, IsOutcome, with_source, with_module}
+use Rattle.spec_run.specs.Documents.{Documents, with_source, with_module}
+use Rattle.spec_run.specs.Outcome as spec
+use Rattle.spec_run.specs.Outcome.{IsOutcome}
 use Rattle.xt_base.specs.Code.{edit_number}
 use Rattle.xt_build.specs.declared.fault.BuildFault.{BuildFault}
 use Rattle.xt_build.specs.declared.fault.BuildFault.TheVariants as builds
-use Rattle.xt_repair.specs.OutcomeView.{outcome_of, plain_of}
+use Rattle.xt_import.specs.View.{modules_in, plain_of}
+use Rattle.xt_repair.specs.OutcomeView.{outcome_of}
+use Rattle.xt_repair.specs.StylesheetView.{AreCompiled}
 use Rattle.xt_repair.specs.declared.fault.EditFault.{EditFault}
 use Rattle.xt_repair.specs.declared.fault.EditFault.TheVariants as faults
 use Rattle.xt_repair.specs.declared.held.Held.{Held}
@@ -21,16 +22,13 @@ use Rattle.xt_repair.specs.declared.name.DocName.TheVariants as names
 use Rattle.xt_repair.specs.declared.ready.Change.{Change}
 use Rattle.xt_repair.specs.declared.ready.Change.TheVariants as changes
 use Rattle.xt_repair.specs.declared.ready.Ready.{Ready}
-
--- whether a key has these characters
-abbrev pub is_name : List ℕ → String Global → Bool
-is_name name key = bytes_eq name (chars (string_bytes key))
+use Rattle.xt_repair.specs.declared.stylesheet.Compiled.{Compiled}
 
 -- the documents that are held, how many nodes were made so far, and the outcome that is told
 abbrev pub documents_of : Held → Documents
 documents_of held = record {
   source = option_map plain_of held.source;
-  modules = λ name. option_map plain_of (get_by (is_name name) held.modules);
+  modules = modules_in held.modules.entries;
 }
 
 abbrev pub made_of : Held → ℕ
@@ -39,9 +37,10 @@ made_of held = held.next.number
 abbrev pub outcome_in : Held → spec.Outcome
 outcome_in held = outcome_of held.outcome
 
--- the outcome that is told is that of the documents that are held
+-- the outcome that is told is that of the documents that are held, and the modules are what is held of that
 pub record IsCurrent (held : Held) : Type 0 where
   pub outcome : IsOutcome (documents_of held) (outcome_in held)
+  pub compiled : AreCompiled (documents_of held).modules held.compiled
 
 -- nothing of what is told has changed
 pub record IsKept (old new : Held) : Type 0 where
@@ -63,7 +62,12 @@ edit_fault_of (builds.Refused fault) = faults.Refused fault.code fault.line
 
 abbrev pub changed_by : Change → Documents → Documents
 changed_by (changes.Source document) old = with_source (plain_of document) old
-changed_by (changes.Module name document) old = with_module (chars (string_bytes name)) (plain_of document) old
+changed_by (changes.Module name document compiled) old = with_module (chars (string_bytes name)) (plain_of document) old
+
+-- what is held of what the modules are, once it is adopted
+abbrev pub next_compiled : Change → Held → Option Compiled
+next_compiled (changes.Source document) held = held.compiled
+next_compiled (changes.Module name document compiled) held = compiled
 
 -- what is held once it is adopted
 abbrev pub next_documents : Ready → Held → Documents
@@ -78,11 +82,12 @@ next_outcome ready = outcome_of ready.outcome
 -- there is room for it, so that no memory is taken
 abbrev pub HasRoom : Change → Held → Type 0
 HasRoom (changes.Source document) held = Unit {0}
-HasRoom (changes.Module name document) held = 0 < spare held.modules
+HasRoom (changes.Module name document compiled) held = 0 < spare held.modules
 
--- it was made from what is held: its outcome is that of the documents that will be held
+-- it was made from what is held: its outcome is that of the documents that will be held, and the modules are what will be held of that
 pub record IsMadeFrom (held : Held) (ready : Ready) : Type 0 where
   pub outcome : IsOutcome (next_documents ready held) (next_outcome ready)
+  pub compiled : AreCompiled (next_documents ready held).modules (next_compiled ready.change held)
   pub room : HasRoom ready.change held
 
 -- it gives this document its place among those that are held, with numbers after all that were given so far

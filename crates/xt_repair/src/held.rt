@@ -5,15 +5,18 @@ ghost use Rattle.std.specs.Str.{chars};
 ghost use Rattle.spec_document.specs.Document.{document_of};
 ghost use Rattle.spec_document.specs.Forest.{size};
 ghost use Rattle.spec_document.specs.Scope.{root_scope};
-ghost use Rattle.spec_transform.specs.Documents.{IsOutcome, main_name, no_documents, with_module, with_source};
+ghost use Rattle.spec_run.specs.Documents.{no_documents, with_module, with_source};
 ghost use Rattle.xt_build.specs.View.{Builds, document_in};
-ghost use Rattle.xt_repair.specs.OutcomeView.{outcome_of, plain_in, plain_of};
-ghost use Rattle.xt_repair.specs.View.{HasRoom, IsCurrent, IsKept, IsMadeFrom, IsReady, Prepares, changed_by, document_named, documents_of, edit_fault_of, made_of, next_documents, next_made, next_outcome, outcome_in};
+ghost use Rattle.xt_import.specs.View.{plain_of};
+ghost use Rattle.xt_repair.specs.OutcomeView.{outcome_of, plain_in};
+ghost use Rattle.xt_repair.specs.View.{HasRoom, IsCurrent, IsKept, IsMadeFrom, IsReady, Prepares, changed_by, document_named, documents_of, edit_fault_of, made_of, next_compiled, next_documents, next_made, next_outcome, outcome_in};
 
 use crate::fault::EditFault;
 use crate::name::DocName;
-use crate::outcome::{MAIN, Outcome, at_no_element, outcome_of};
+use crate::outcome::{Outcome, at_no_element, outcome_of};
 use crate::ready::{Change, Ready};
+use crate::stylesheet::Compiled;
+use crate::tried::{Tried, compiled_with};
 use indexmap::IndexMap;
 use spec_expression::StaticCode;
 use std::alloc::Global;
@@ -23,12 +26,13 @@ use xt_names::Scope;
 use xt_text::{Memory, Text};
 use xt_tree::{Doc, NodeId};
 
-/// The documents that are held, the number of the next node, and the outcome of the transformation, which is that
-/// of these documents.
+/// The documents that are held, what the modules are, the number of the next node, and the outcome of the
+/// transformation, which is that of these documents.
 #[derive(Drop)]
 pub struct Held {
     source: Option<Doc>,
     modules: IndexMap<String, Doc>,
+    compiled: Option<Compiled>,
     next: NodeId,
     outcome: Outcome,
 }
@@ -43,14 +47,16 @@ impl Held {
         Held {
             source: None,
             modules: IndexMap::new(alloc),
+            compiled: None,
             next: NodeId { number: 0 },
             outcome: at_no_element(alloc, StaticCode::NoMain),
         }
     }
 
     /// Makes ready that the document of these lines becomes the source. The least of their faults, 2 or 8 to 14,
-    /// with its line, where they make none. Nothing is changed.
+    /// with its line, where they make none. Nothing is changed. The modules are not read again.
     pub fn set_source(&self, alloc: Global, body: &[Line]) -> Result<Ready, EditFault>
+        requires { IsCurrent self.now }
         ensures { Prepares with_source self.now (document_of root_scope (made_of self.now) body.now) result }
     {
         match self.built(alloc, body) {
@@ -118,17 +124,6 @@ impl Held {
         self.modules.get(name)
     }
 
-    // The module `main`, once this document is the module of this name.
-    fn main_with<'a>(&'a self, name: &Text, document: &'a Doc) -> Option<&'a Doc>
-        ensures { plain_in result ≡ (with_module name.now (plain_of document.now) (documents_of self.now)).modules main_name }
-    {
-        if name.is(MAIN) {
-            Some(document)
-        } else {
-            self.module(MAIN)
-        }
-    }
-
     // The document of these lines, numbered after all nodes so far, or the least of their faults.
     fn built(&self, alloc: Global, body: &[Line]) -> Result<Built, BuildFault>
         ensures answer { Builds document_in result (document_of root_scope (made_of self.now) body.now) }
@@ -138,12 +133,13 @@ impl Held {
         build(alloc, body, &scope, self.next)
     }
 
+    // The modules are what they are.
     fn source_ready(&self, alloc: Global, built: Built) -> Result<Ready, Memory>
-        requires { built.next.number ≡ made_of self.now + 1 + size built.document.nodes }
+        requires next { built.next.number ≡ made_of self.now + 1 + size built.document.nodes }
+        requires current { IsCurrent self.now }
         ensures { IfOk result (λ ready. IsReady with_source self.now built.document ready) }
     {
-        let main = self.module(MAIN);
-        let outcome = outcome_of(alloc, main, Some(&built.document))?;
+        let outcome = outcome_of(alloc, self.compiled.as_ref(), Some(&built.document))?;
         Ok(Ready {
             change: Change::Source(built.document),
             next: built.next,
@@ -157,46 +153,44 @@ impl Held {
         ensures ok { IfOk result (λ ready. IsReady (with_module name.now) self.new built.document ready) }
         ensures kept { IsKept self.old self.new }
     {
-        let outcome = self.outcome_with(alloc, name, &built.document)?;
+        let Built { document, next } = built;
+        let Tried { compiled, document } = compiled_with(alloc, &mut self.modules, name, document)?;
+        let outcome = outcome_of(alloc, compiled.as_ref(), self.source.as_ref())?;
         let key = String::from_str(alloc, name.as_str())?;
         self.modules.reserve(1)?;
         Ok(Ready {
-            change: Change::Module(key, built.document),
-            next: built.next,
+            change: Change::Module(key, document, compiled),
+            next,
             outcome,
         })
     }
 
-    // The outcome once this document is the module of this name.
-    fn outcome_with(&self, alloc: Global, name: &Text, document: &Doc) -> Result<Outcome, Memory>
-        ensures { IfOk result (λ outcome. IsOutcome (with_module name.now (plain_of document.now) (documents_of self.now)) (outcome_of outcome)) }
-    {
-        let main = self.main_with(name, document);
-        outcome_of(alloc, main, self.source.as_ref())
-    }
-
     fn put(&mut self, change: Change)
         requires { HasRoom change self.old }
-        ensures { documents_of self.new ≡ changed_by change (documents_of self.old) }
+        ensures documents { documents_of self.new ≡ changed_by change (documents_of self.old) }
+        ensures compiled { self.new.compiled ≡ next_compiled change self.old }
     {
         match change {
             Change::Source(document) => self.put_source(document),
-            Change::Module(name, document) => self.put_module(name, document),
+            Change::Module(name, document, compiled) => self.put_module(name, document, compiled),
         }
     }
 
     fn put_source(&mut self, document: Doc)
-        ensures { documents_of self.new ≡ with_source (plain_of document) (documents_of self.old) }
+        ensures documents { documents_of self.new ≡ with_source (plain_of document) (documents_of self.old) }
+        ensures compiled { self.new.compiled ≡ self.old.compiled }
     {
         self.source = Some(document);
     }
 
     // There is room, so the insertion does not fail.
-    fn put_module(&mut self, name: String, document: Doc)
+    fn put_module(&mut self, name: String, document: Doc, compiled: Option<Compiled>)
         requires { 0 < spare self.old.modules }
-        ensures { documents_of self.new ≡ with_module (chars (string_bytes name)) (plain_of document) (documents_of self.old) }
+        ensures documents { documents_of self.new ≡ with_module (chars (string_bytes name)) (plain_of document) (documents_of self.old) }
+        ensures compiled { self.new.compiled ≡ compiled }
     {
         let _ = self.modules.insert(name, document);
+        self.compiled = compiled;
     }
 }
 

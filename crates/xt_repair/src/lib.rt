@@ -2,7 +2,7 @@
 //! these documents. A change is made ready first, with the outcome that it will have, and then adopted, so that a
 //! refused or failing one leaves all as it was.
 //!
-//! So far the outcome of a change is read afresh from all the documents.
+//! So far the outcome of a change is that of a run from nothing. The modules are compiled again where one changes.
 //!
 //! ```text
 //! let mut held = Held::new(alloc);                   // S01 -
@@ -17,6 +17,8 @@ mod held;
 mod name;
 mod outcome;
 mod ready;
+mod stylesheet;
+mod tried;
 
 pub use fault::EditFault;
 pub use held::Held;

@@ -1,36 +1,46 @@
 // What the transformation of documents comes to.
-ghost use Rattle.std.specs.Prelude.{◌≡◌, IfOk, None, Some, Ok, []};
-ghost use Rattle.spec_document.specs.Forest.{Empty};
+ghost use Rattle.std.specs.Prelude.{◌≡◌, IfOk, None, Some, []};
+ghost use Rattle.std.specs.Option.{option_copied};
+ghost use Rattle.spec_document.specs.Forest.{Plain};
 ghost use Rattle.spec_expression.specs.declared.code.Code.TheVariants as codes;
-ghost use Rattle.spec_meaning.specs.Program.{Refuses};
-ghost use Rattle.spec_transform.specs.Documents as spec;
-ghost use Rattle.spec_transform.specs.Documents.{Comes, outcome_by};
-ghost use Rattle.spec_transform.specs.Outcome.{result_by, result_of};
-ghost use Rattle.xt_ask.specs.View.{context_of, refusal_of, supplies_of};
-ghost use Rattle.xt_ask.specs.declared.context.Focus.{Focus};
-ghost use Rattle.xt_one_template.specs.View.{content_of, sheet_of};
-ghost use Rattle.xt_repair.specs.OutcomeView.{Ends, bare_context, outcome_of, plain_in, plain_of, stream_end};
+ghost use Rattle.spec_stylesheet.specs.Sheet as plain;
+ghost use Rattle.spec_structure.specs.Modules.{Modules};
+ghost use Rattle.spec_run.specs.Documents.{main_name};
+ghost use Rattle.spec_run.specs.Meaning.{run_of};
+ghost use Rattle.spec_run.specs.Outcome as spec;
+ghost use Rattle.spec_run.specs.Outcome.{Comes, document_of, outcome_by, refused_static};
+ghost use Rattle.spec_run.specs.Plan.{nowhere};
+ghost use Rattle.spec_run.specs.World.{setting_of};
+ghost use Rattle.xt_compile.specs.View.{refusal_in};
+ghost use Rattle.xt_drive.specs.View.{whole_of};
+ghost use Rattle.xt_import.specs.View.{plain_of};
+ghost use Rattle.xt_repair.specs.OutcomeView.{outcome_of, plain_in};
+ghost use Rattle.xt_repair.specs.StylesheetView.{AnswersAs, AreCompiled, IsCompiledFrom};
 
+use crate::stylesheet::{Compiled, copy_method};
 use spec_expression::StaticCode;
 use std::alloc::Global;
-use xt_ask::{Bindings, Context, EvalFault, Focus, Refusal, Supplies};
+use xp_syntax::Method;
+use xt_ask::copy_place;
 use xt_base::{Code, Place};
-use xt_instantiate::{same_stream, written};
-use xt_names::Scope;
-use xt_one_template::{Content, SheetFault, Stylesheet, read};
-use xt_plain::PlainWorld;
+use xt_compile::StaticRefusal;
+use xt_drive::{NamedGlobal, Whole, run};
+use xt_engine::Runner;
+use xt_result::{ResultTree, shape};
 use xt_text::{Memory, Path, Text};
-use xt_tree::{Doc, Items, NodeRef};
-
-// The name of the principal module.
-pub(crate) const MAIN: &str = "main";
+use xt_tree::{Doc, NodeRef};
+use xt_world::{SheetWorld, Stylesheet, same_run};
 
 /// What the transformation of documents comes to (XSLT 1.0, section 2.1).
 #[derive(Drop)]
 pub enum Outcome {
-    /// The result, as the stream that shapes its tree.
+    /// There is a result.
     Done {
-        items: Items,
+        result: ResultTree,
+        /// The output method that the stylesheet names, if it names one (section 16).
+        method: Option<Method>,
+        /// The texts of its messages, in their order (section 13).
+        messages: Vec<Text>,
     },
     /// There is none.
     Refused {
@@ -38,31 +48,33 @@ pub enum Outcome {
         code: Code,
         /// At which element of a module, or at none.
         place: Place,
+        /// The texts of the messages before that.
+        messages: Vec<Text>,
     },
 }
 
-/// The outcome while this is the module `main` and this the source: `S01` without a module, else `S02` without a
-/// source, else the least static refusal of the module at its element, else the first dynamic refusal at its
-/// element, else the result.
+/// The outcome of modules that are this on this source: `S01` without a module `main`, else `S02` without a source,
+/// else the first static refusal of the modules, else the first dynamic refusal of the run, else the result.
 pub(crate) fn outcome_of(
     alloc: Global,
-    main: Option<&Doc>,
+    compiled: Option<&Compiled>,
     source: Option<&Doc>,
 ) -> Result<Outcome, Memory>
-    ensures { IfOk result (λ outcome. Comes (plain_in main.entry) (plain_in source.entry) (outcome_of outcome)) }
+    ensures { (modules : Modules) → AreCompiled modules (option_copied compiled.entry)
+        → IfOk result (λ outcome. Comes modules (modules main_name) (plain_in source.entry) (outcome_of outcome)) }
 {
-    match main {
+    match compiled {
         None => Ok(at_no_element(alloc, StaticCode::NoMain)),
-        Some(main) => match source {
+        Some(compiled) => match source {
             None => Ok(at_no_element(alloc, StaticCode::NoSource)),
-            Some(source) => transformed(alloc, main, source),
+            Some(source) => transformed(alloc, compiled, source),
         },
     }
 }
 
 /// A refusal that no element has. Takes no memory.
 pub(crate) fn at_no_element(alloc: Global, code: StaticCode) -> Outcome
-    ensures { outcome_of result ≡ spec.Failed (record { code = codes.Static code; place = record { module_name = None; path = [] } }) }
+    ensures { outcome_of result ≡ spec.Failed (record { code = codes.Static code; place = nowhere }) [] }
 {
     Outcome::Refused {
         code: Code::Static(code),
@@ -70,108 +82,74 @@ pub(crate) fn at_no_element(alloc: Global, code: StaticCode) -> Outcome
             module: None,
             path: Path::new(alloc),
         },
+        messages: Vec::new(alloc),
     }
 }
 
-// What the module makes of the source.
-fn transformed(alloc: Global, main: &Doc, source: &Doc) -> Result<Outcome, Memory>
-    ensures { IfOk result (λ outcome. Comes (Some (plain_of main.now)) (Some (plain_of source.now)) (outcome_of outcome)) }
+// What the modules make of the source.
+fn transformed(alloc: Global, compiled: &Compiled, source: &Doc) -> Result<Outcome, Memory>
+    ensures { (modules : Modules) (main : Plain) → IsCompiledFrom modules main compiled.now
+        → IfOk result (λ outcome. Comes modules (Some main) (Some (plain_of source.now)) (outcome_of outcome)) }
 {
-    match read(alloc, main) {
-        Ok(sheet) => instantiated(alloc, sheet, source),
-        Err(SheetFault::Refused(code, path)) => in_main(alloc, Code::Static(code), path),
-        Err(SheetFault::Memory) => Err(Memory),
+    match compiled {
+        Compiled::Stylesheet(stylesheet, method) => {
+            let whole = whole(alloc, stylesheet, source)?;
+            let method = copy_method(alloc, method)?;
+            ended(method, whole)
+        }
+        Compiled::Refused(refusal) => refused(alloc, refusal),
     }
 }
 
-// A refusal of the element of `main` at this path.
-fn in_main(alloc: Global, code: Code, path: Path) -> Result<Outcome, Memory>
-    ensures { IfOk result (λ outcome. outcome_of outcome ≡ spec.Failed (spec.in_main (record { code = code; path = path }))) }
+// The outcome of modules with this static refusal.
+fn refused(alloc: Global, refusal: &StaticRefusal) -> Result<Outcome, Memory>
+    ensures { IfOk result (λ outcome. outcome_of outcome ≡ spec.Failed (refused_static (refusal_in refusal.now)) []) }
 {
-    let module = Text::from_str(alloc, MAIN)?;
+    let place = copy_place(alloc, &refusal.place)?;
     Ok(Outcome::Refused {
-        code,
-        place: Place {
-            module: Some(module),
-            path,
-        },
+        code: Code::Static(refusal.code),
+        place,
+        messages: Vec::new(alloc),
     })
 }
 
-// What the stylesheet makes of the source.
-fn instantiated(alloc: Global, sheet: Stylesheet, source: &Doc) -> Result<Outcome, Memory>
-    ensures { IfOk result (λ outcome. outcome_of outcome ≡ outcome_by (result_of (plain_of source.now) (Ok (sheet_of sheet)))) }
+// The run of the stylesheet on the source, in a world that looks everything up.
+fn whole(alloc: Global, stylesheet: &Stylesheet, source: &Doc) -> Result<Whole, Memory>
+    ensures { (sheet : plain.Sheet) → AnswersAs stylesheet.now sheet
+        → IfOk result (λ whole. whole_of whole ≡ run_of (setting_of sheet (document_of (plain_of source.now)))) }
 {
-    let Stylesheet { scope, content } = sheet;
-    match run(alloc, &content, scope, source) {
-        Ok(items) => Ok(Outcome::Done { items }),
-        Err(EvalFault::Refused(why)) => refused(alloc, why),
-        // No stylesheet that is taken needs a global.
-        Err(EvalFault::Wants(_)) => Ok(nothing(alloc)),
-        Err(EvalFault::Memory) => Err(Memory),
-    }
-}
-
-// The stream that the content writes for the root of the source, in a world that looks everything up.
-fn run(alloc: Global, content: &Content, scope: Scope, source: &Doc) -> Result<Items, EvalFault>
-    ensures { Ends (stream_end (plain_of source.now) scope (content_of content.now)) result }
-{
-    same_stream();
+    same_run();
     source.distinct_numbers();
-    let node = NodeRef::of(source.root());
-    let focus = Focus {
-        node,
-        position: Some(1),
-        size: Some(1),
-    };
-    let context = context(node, scope);
-    let supplies = nothing_given(alloc);
-    let mut world = PlainWorld {
+    let root = NodeRef::of(source.root());
+    let mut world = SheetWorld {
         alloc,
         document: source,
+        stylesheet,
     };
-    written(alloc, content, focus, &context, &supplies, &mut world)
+    let mut engine = Runner::new();
+    let globals: Vec<NamedGlobal> = Vec::new(alloc);
+    run(alloc, &mut engine, &mut world, root, globals.as_slice())
 }
 
-// The context of a content whose current node is this, without variables.
-fn context(node: NodeRef, scope: Scope) -> Context
-    ensures depth { result.depth ≡ 0 }
-    ensures is { (focus : Focus) → context_of focus result ≡ bare_context focus node scope }
+// The outcome of a run of a stylesheet with this output method.
+fn ended(method: Option<Method>, whole: Whole) -> Result<Outcome, Memory>
+    ensures { IfOk result (λ outcome. outcome_of outcome ≡ outcome_by method (whole_of whole)) }
 {
-    Context {
-        current: node,
-        bindings: Bindings::Empty,
-        scope,
-        depth: 0,
-    }
-}
-
-// What is at hand where no global is given.
-fn nothing_given(alloc: Global) -> Supplies
-    ensures { supplies_of result ≡ record { position = 1; size = 1; globals = [] } }
-{
-    Supplies {
-        position: 1,
-        size: 1,
-        globals: Vec::new(alloc),
-    }
-}
-
-// A dynamic refusal, which stands at an element of `main`.
-fn refused(alloc: Global, why: Refusal) -> Result<Outcome, Memory>
-    ensures { IfOk result (λ outcome. outcome_of outcome ≡ outcome_by (result_by (Refuses (refusal_of why)))) }
-{
-    match why {
-        Refusal::At(code, place) => in_main(alloc, Code::Dynamic(code), place.path),
-        Refusal::Here(code) => in_main(alloc, Code::Dynamic(code), Path::new(alloc)),
-    }
-}
-
-// The result without nodes.
-fn nothing(alloc: Global) -> Outcome
-    ensures { outcome_of result ≡ spec.Done Empty }
-{
-    Outcome::Done {
-        items: Items::new(alloc),
+    let Whole {
+        content,
+        messages,
+        refusal,
+    } = whole;
+    match refusal {
+        None => Ok(Outcome::Done {
+            result: shape(&content)?,
+            method,
+            messages,
+        }),
+        Some(why) => Ok(Outcome::Refused {
+            code: Code::Dynamic(why.code),
+            place: why.place,
+            messages,
+        }),
     }
 }

@@ -1,5 +1,6 @@
 // Changes that are ready to be adopted.
 use crate::outcome::Outcome;
+use crate::stylesheet::Compiled;
 use xt_tree::{Doc, NodeId};
 
 /// A change with the outcome that it will have. Nothing is changed until it is adopted, and it may as well be let go.
@@ -15,8 +16,8 @@ pub struct Ready {
 pub(crate) enum Change {
     /// This document becomes the source.
     Source(Doc),
-    /// This document becomes the module of this name.
-    Module(String, Doc),
+    /// This document becomes the module of this name, with which the modules are this.
+    Module(String, Doc, Option<Compiled>),
 }
 
 impl Ready {

@@ -1,22 +1,26 @@
 -- The replies that the machine gives, by what the parts of an answer come to.
-use Rattle.std.proofs.Common.{◌≡◌, ℕ, List, Option, None, Some, Ok, Err, refl, sym, ◌∙◌, ap, subst, inl, inr}
+use Rattle.std.proofs.Common.{◌≡◌, ℕ, true, false, List, Option, None, Some, Ok, Err, refl, sym, ◌∙◌, ap, subst, inl, inr}
 use Rattle.std.specs.Prelude.{Result, IfOk, OnErr}
 use Rattle.std.specs.Str.{encode_utf8_all}
 use Rattle.spec_document.specs.Fault.{Fault}
-use Rattle.spec_document.specs.Forest.{Plain, Document, lines_of}
-use Rattle.spec_transform.specs.Documents.{Documents, Outcome, IsOutcome}
+use Rattle.spec_document.specs.Forest.{Plain, Document, lines_of, texts_in}
+use Rattle.spec_document.specs.Name.{Expanded}
+use Rattle.spec_stylesheet.specs.declared.method.Method.{Method}
+use Rattle.spec_stylesheet.specs.declared.method.Method.TheVariants as method
+use Rattle.spec_run.specs.Documents.{Documents}
+use Rattle.spec_run.specs.Outcome.{Outcome, IsOutcome}
 use Rattle.spec_session.specs.Command.{Command}
-use Rattle.spec_session.specs.Machine.{State, Changes, ShowsResult, ShowsDocument, Refuses, kept_in, kept_by, change_reply}
-use Rattle.spec_session.specs.Machine.{shows, result_reply, answer_by, answer_to, Gives, Step}
+use Rattle.spec_session.specs.Machine.{State, Changes, ShowsResult, WritesResult, ShowsDocument, Refuses, kept_in, kept_by, change_reply}
+use Rattle.spec_session.specs.Machine.{shows, result_reply, written_by, written_reply, answer_by, answer_to, Gives, Step}
 use Rattle.spec_session.specs.Request.{Request, request_of}
-use Rattle.spec_session.specs.Reply.{Reply, No, Shown, reply_text}
+use Rattle.spec_session.specs.Reply.{Reply, No, Shown, Written, reply_text}
 use Rattle.xt_base.specs.Code.{edit_number}
 use Rattle.xt_wire.specs.View.{Reads, code_of_fault}
 use Rattle.xt_wire.specs.declared.fault.WireFault.{WireFault}
 use Rattle.xt_wire.specs.declared.fault.WireFault.TheVariants as variant
 use Rattle.xt_repair.specs.View.{IsKept}
 use Rattle.xt_repair.specs.declared.held.Held.{Held}
-use Rattle.xt_session.specs.State.{state_of}
+use Rattle.xt_session.specs.State.{is_text, state_of}
 use Rattle.xt_session.specs.Turn.{GivesReply, GivesText}
 
 -- what holds of the value of an `Ok`
@@ -41,6 +45,25 @@ gives_changed old next new outcome reply text same stands is e = record { reply 
 pub gives_result : (old : State) (outcome : Outcome) (reply : Reply) (text : List ℕ) → IsOutcome old.documents outcome
     → reply ≡ result_reply outcome → text ≡ reply_text reply → GivesText old ShowsResult text old
 gives_result old outcome reply text stands is e = record { reply = reply; gives = ((outcome, stands, is), refl); text_is = e }
+
+pub gives_written : (old : State) (outcome : Outcome) (reply : Reply) (text : List ℕ) → IsOutcome old.documents outcome
+    → reply ≡ written_reply outcome → text ≡ reply_text reply → GivesText old WritesResult text old
+gives_written old outcome reply text stands is e = record { reply = reply; gives = ((outcome, stands, is), refl); text_is = e }
+
+-- by the output method
+pub as_text : (m : Option (Method Expanded)) (tree : Plain) → is_text m ≡ true → written_by m tree ≡ Written (texts_in tree)
+as_text (Some method.Text) tree e = refl
+as_text None tree e = absurd (cc)
+as_text (Some method.Xml) tree e = absurd (cc)
+as_text (Some method.Html) tree e = absurd (cc)
+as_text (Some (method.Other name)) tree e = absurd (cc)
+
+pub not_as_text : (m : Option (Method Expanded)) (tree : Plain) → is_text m ≡ false → written_by m tree ≡ Shown (lines_of tree)
+not_as_text (Some method.Text) tree e = absurd (cc)
+not_as_text None tree e = refl
+not_as_text (Some method.Xml) tree e = refl
+not_as_text (Some method.Html) tree e = refl
+not_as_text (Some (method.Other name)) tree e = refl
 
 pub gives_document : (old : State) (tree : Plain) (reply : Reply) (text : List ℕ)
     → reply ≡ Shown (lines_of tree) → text ≡ reply_text reply → GivesText old (ShowsDocument tree) text old

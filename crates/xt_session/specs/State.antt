@@ -1,7 +1,16 @@
 -- What is held stands for the machine's state.
+use Rattle.std.specs.Prelude.{Bool, true, false, Option, None, Some}
+use Rattle.spec_document.specs.Name.{Expanded}
+use Rattle.spec_stylesheet.specs.declared.method.Method.{Method}
+use Rattle.spec_stylesheet.specs.declared.method.Method.TheVariants as method
 use Rattle.spec_session.specs.Machine.{State}
 use Rattle.xt_repair.specs.View.{documents_of, made_of}
 use Rattle.xt_repair.specs.declared.held.Held.{Held}
 
 abbrev pub state_of : Held → State
 state_of held = record { documents = documents_of held; made = made_of held }
+
+-- whether a result is written as text
+abbrev pub is_text : Option (Method Expanded) → Bool
+is_text (Some method.Text) = true
+is_text _ = false

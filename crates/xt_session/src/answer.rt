@@ -4,24 +4,26 @@ ghost use Rattle.std.specs.Str.{encode_utf8_all};
 ghost use Rattle.spec_document.specs.Document.{document_of};
 ghost use Rattle.spec_document.specs.Forest.{lines_of};
 ghost use Rattle.spec_document.specs.Scope.{root_scope};
-ghost use Rattle.spec_transform.specs.Documents.{with_module, with_source};
+ghost use Rattle.spec_run.specs.Documents.{with_module, with_source};
 ghost use Rattle.spec_session.specs.Machine as machine;
-ghost use Rattle.spec_session.specs.Machine.{answer_to, kept_by, shows, document_named, Changes, ShowsResult};
+ghost use Rattle.spec_session.specs.Machine.{answer_to, kept_by, shows, document_named, Changes, ShowsResult, WritesResult};
 ghost use Rattle.spec_session.specs.Reply as written;
 ghost use Rattle.spec_session.specs.Reply.{reply_text};
-ghost use Rattle.xt_repair.specs.OutcomeView.{outcome_of, plain_in, plain_of};
+ghost use Rattle.xt_import.specs.View.{plain_of};
+ghost use Rattle.xt_repair.specs.OutcomeView.{outcome_of, plain_in};
 ghost use Rattle.xt_repair.specs.View.{IsCurrent, IsMadeFrom, documents_of, outcome_in, next_documents, next_made};
 ghost use Rattle.xt_wire.specs.View.{asked_of, name_of, place_of, refusal_of, reply_of};
-ghost use Rattle.xt_session.specs.State.{state_of};
+ghost use Rattle.xt_session.specs.State.{is_text, state_of};
 ghost use Rattle.xt_session.specs.Turn.{GivesReply, GivesText};
 
 use crate::command::Command;
 use std::alloc::Global;
+use xp_syntax::Method;
 use xt_base::{Code, EditCode, Place};
 use xt_build::lines;
 use xt_io::Line;
 use xt_repair::{DocName, EditFault, Held, Outcome, Ready};
-use xt_result::lines_of;
+use xt_result::{ResultTree, pyx, text};
 use xt_text::{Memory, Text};
 use xt_tree::Doc;
 use xt_wire::{DocumentName, Refusal, Reply, reply};
@@ -52,6 +54,7 @@ fn carry_out(alloc: Global, held: &mut Held, asked: xt_wire::Command) -> Result<
         xt_wire::Command::SetModule(name, body) => set_module(alloc, held, &name, body.as_slice()),
         xt_wire::Command::Show => show(alloc, held),
         xt_wire::Command::Dump(name) => dump(alloc, held, &name),
+        xt_wire::Command::Write => write(alloc, held),
     }
 }
 
@@ -106,6 +109,15 @@ fn show(alloc: Global, held: &Held) -> Result<Text, Memory>
     text_of(alloc, reply)
 }
 
+// Writes the result, or why there is none.
+fn write(alloc: Global, held: &Held) -> Result<Text, Memory>
+    requires { IsCurrent held.now }
+    ensures { IfOk result (λ text. GivesText (state_of held.now) WritesResult text (state_of held.now)) }
+{
+    let reply = written_reply(alloc, held.outcome())?;
+    text_of(alloc, reply)
+}
+
 // Shows the document of this name, where it is held.
 fn dump(alloc: Global, held: &Held, name: &DocumentName) -> Result<Text, Memory>
     ensures { IfOk result (λ text. GivesText (state_of held.now) (shows (document_named (state_of held.now) (name_of name.now))) text (state_of held.now)) }
@@ -132,18 +144,47 @@ fn change_reply(alloc: Global, outcome: &Outcome) -> Result<Reply, Memory>
 {
     match outcome {
         Outcome::Done { .. } => Ok(Reply::OkDone),
-        Outcome::Refused { code, place } => Ok(Reply::OkRefused(refusal(alloc, *code, place)?)),
+        Outcome::Refused { code, place, .. } => {
+            Ok(Reply::OkRefused(refusal(alloc, *code, place)?))
+        }
     }
 }
 
-// The reply to a request for the result, where the transformation comes to this.
+// The reply to a request to show the result, where the transformation comes to this.
 fn result_reply(alloc: Global, outcome: &Outcome) -> Result<Reply, Memory>
     ensures { IfOk result (λ reply. reply_of reply ≡ machine.result_reply (outcome_of outcome.now)) }
 {
     match outcome {
-        Outcome::Done { items } => Ok(Reply::Shown(lines_of(alloc, items)?)),
-        Outcome::Refused { code, place } => Ok(Reply::Refused(refusal(alloc, *code, place)?)),
+        Outcome::Done { result, .. } => Ok(Reply::Shown(pyx(alloc, result)?)),
+        Outcome::Refused { code, place, .. } => Ok(Reply::Refused(refusal(alloc, *code, place)?)),
     }
+}
+
+// The reply to a request to write the result, where the transformation comes to this.
+fn written_reply(alloc: Global, outcome: &Outcome) -> Result<Reply, Memory>
+    ensures { IfOk result (λ reply. reply_of reply ≡ machine.written_reply (outcome_of outcome.now)) }
+{
+    match outcome {
+        Outcome::Done { result, method, .. } => written_by(alloc, method, result),
+        Outcome::Refused { code, place, .. } => Ok(Reply::Refused(refusal(alloc, *code, place)?)),
+    }
+}
+
+// The result by this output method: as text its string-value, else its lines.
+fn written_by(alloc: Global, method: &Option<Method>, tree: &ResultTree) -> Result<Reply, Memory>
+    ensures { IfOk result (λ reply. reply_of reply ≡ machine.written_by method.now tree.now) }
+{
+    if is_text(method) {
+        Ok(Reply::Written(text(alloc, tree)?))
+    } else {
+        Ok(Reply::Shown(pyx(alloc, tree)?))
+    }
+}
+
+fn is_text(method: &Option<Method>) -> bool
+    ensures { result ≡ is_text method.now }
+{
+    matches!(method, Some(Method::Text))
 }
 
 // The reply to a request for this document: its lines.

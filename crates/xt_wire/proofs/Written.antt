@@ -1,13 +1,13 @@
 -- What is written piece by piece.
-use Rattle.std.proofs.Common.{◌≡◌, ℕ, ◌≤◌, true, List, [], ◌∷◌, ◌++◌, length, drop, Result, refl, sym, ap, ◌∙◌, append-nil}
-use Rattle.std.specs.Prelude.{codes, IfOk}
+use Rattle.std.proofs.Common.{◌≡◌, ℕ, ◌≤◌, true, List, [], ◌∷◌, ◌++◌, length, drop, Result, refl, sym, ap, ◌∙◌, append-nil, append_assoc}
+use Rattle.std.specs.Prelude.{codes, decimal, IfOk}
 use Rattle.std.specs.List.{list_all, flat_map}
 use Rattle.std.specs.Char.{is_ascii}
-use Rattle.std.specs.Str.{chars}
+use Rattle.std.specs.Str.{chars, encode_utf8_all}
 use Rattle.std.proofs.lemmas.List.{drop_all}
 use Rattle.std.proofs.lemmas.List.Concat.{flat_map-append}
 use Rattle.std.proofs.lemmas.Result.{IfOk-weaker}
-use Rattle.spec_transform.specs.Documents.{Refusal}
+use Rattle.spec_run.specs.Outcome.{Refusal}
 use Rattle.spec_session.specs.Reply.{refusal_text, with_newline}
 use Rattle.xt_text.specs.declared.text.Text.{Text}
 use Rattle.xt_text.specs.declared.memory.Memory.{Memory}
@@ -25,6 +25,15 @@ pub written_refusal : (words : List ℕ) (why : Refusal) → list_all is_ascii w
     → with_newline (chars words ++ refusal_text why) ≡ flat_map with_newline ((words ++ refusal_text why) ∷ [])
 written_refusal words why small =
     ap (λ (w : List ℕ). with_newline (w ++ refusal_text why)) (ascii_chars words small) ∙ sym (append-nil (with_newline (words ++ refusal_text why)))
+
+-- the number of a text's bytes, and the text
+pub text_written : (begun numbered ended whole more text : List ℕ) (count : ℕ) → begun ≡ codes "text " → count ≡ length (encode_utf8_all text)
+    → numbered ≡ begun ++ decimal count → ended ≡ numbered ++ 10 ∷ [] → more ≡ ended ++ text → whole ≡ more ++ 10 ∷ []
+    → whole ≡ flat_map with_newline ((codes "text " ++ decimal (length (encode_utf8_all text))) ∷ text ∷ [])
+text_written begun numbered ended whole more text count b n m e t w =
+    w ∙ ap (λ (ts : List ℕ). ts ++ 10 ∷ []) (t ∙ ap (λ (ts : List ℕ). ts ++ text) (e ∙ ap (λ (ts : List ℕ). ts ++ 10 ∷ []) (m ∙ (λ i. b i ++ decimal (n i)))))
+    ∙ append_assoc ((codes "text " ++ decimal (length (encode_utf8_all text))) ++ 10 ∷ []) text (10 ∷ [])
+    ∙ ap (λ (ts : List ℕ). ((codes "text " ++ decimal (length (encode_utf8_all text))) ++ 10 ∷ []) ++ ts) (sym (append-nil (text ++ 10 ∷ [])))
 
 -- all lines are written, and then the line that ends them
 pub all_shown : (lines : List (List ℕ)) (text new : List ℕ) (n : ℕ) → length lines ≤ n

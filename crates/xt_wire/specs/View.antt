@@ -3,7 +3,7 @@ use Rattle.std.specs.Prelude.{ℕ, ◌≡◌, List, Option, Result, Ok, Err}
 use Rattle.std.specs.Option.{option_map}
 use Rattle.std.specs.Str.{chars}
 use Rattle.spec_stylesheet.specs.Place as stylesheet
-use Rattle.spec_transform.specs.Documents as outcome
+use Rattle.spec_run.specs.Outcome as outcome
 use Rattle.spec_session.specs.Request as spec
 use Rattle.spec_session.specs.Request.{Request, or_number}
 use Rattle.spec_session.specs.Reply as written
@@ -12,14 +12,14 @@ use Rattle.xt_base.specs.declared.codes.EditCode.{EditCode}
 use Rattle.xt_base.specs.declared.codes.EditCode.TheVariants as edit
 use Rattle.xt_base.specs.declared.place.Place.{Place}
 use Rattle.xt_wire.specs.declared.command.Command.{Command}
-use Rattle.xt_wire.specs.declared.command.Command.TheVariants.{SetSource, SetModule, Show, Dump}
+use Rattle.xt_wire.specs.declared.command.Command.TheVariants.{SetSource, SetModule, Show, Dump, Write}
 use Rattle.xt_wire.specs.declared.document.DocumentName.{DocumentName}
 use Rattle.xt_wire.specs.declared.document.DocumentName.TheVariants.{Source, Module}
 use Rattle.xt_wire.specs.declared.fault.WireFault.{WireFault}
 use Rattle.xt_wire.specs.declared.fault.WireFault.TheVariants as variant
 use Rattle.xt_wire.specs.declared.replies.Refusal.{Refusal}
 use Rattle.xt_wire.specs.declared.replies.Reply.{Reply}
-use Rattle.xt_wire.specs.declared.replies.Reply.TheVariants.{OkDone, OkRefused, Refused, Shown, No}
+use Rattle.xt_wire.specs.declared.replies.Reply.TheVariants.{OkDone, OkRefused, Refused, Shown, Written, No}
 use Rattle.xt_wire.specs.declared.word.Words.{Words}
 use denote.Ref.{Bor}
 
@@ -47,6 +47,7 @@ asked_of (SetSource body) = spec.SetSource body.items
 asked_of (SetModule name body) = spec.SetModule name body.items
 asked_of Show = spec.Show
 asked_of (Dump document) = spec.Dump (name_of document)
+asked_of Write = spec.Write
 
 -- the call gives the defined answer, a command or the number of a refusal. Want of memory is free
 abbrev pub Reads : Result Command WireFault → Result Request ℕ → Type 0
@@ -79,4 +80,5 @@ reply_of OkDone = written.OkDone
 reply_of (OkRefused why) = written.OkRefused (refusal_of why)
 reply_of (Refused why) = written.Refused (refusal_of why)
 reply_of (Shown lines) = written.Shown lines.items
+reply_of (Written text) = written.Written text
 reply_of (No code) = written.No (edit_number code)

@@ -2,8 +2,8 @@
 ghost use Rattle.std.specs.Prelude.{◌≡◌, []};
 ghost use Rattle.std.specs.List.{list_all};
 ghost use Rattle.std.specs.Str.{is_utf8};
-ghost use Rattle.spec_session.specs.Request.{dump_form, module_form, request_by, request_of, source_form, word_form, Show};
-ghost use Rattle.xt_wire.specs.View.{HasForm, Reads, rest_of, words_in};
+ghost use Rattle.spec_session.specs.Request.{dump_form, module_form, request_by, request_of, source_form, word_form};
+ghost use Rattle.xt_wire.specs.View.{HasForm, Reads, asked_of, rest_of, words_in};
 
 use crate::WireFault;
 use crate::document::{DocumentName, module_name, read_document};
@@ -24,6 +24,8 @@ pub enum Command {
     Show,
     /// `dump DOC`: the lines of a document.
     Dump(DocumentName),
+    /// `write`: the result by its output method.
+    Write,
 }
 
 impl Command {
@@ -63,9 +65,11 @@ fn read_words(alloc: Global, words: Words, body: Vec<Line>) -> Result<Command, W
     } else if is_word(words.first, "module") {
         read_module(alloc, words.rest, body)
     } else if is_word(words.first, "show") {
-        read_show(words.rest)
+        read_alone(words.rest, Command::Show)
     } else if is_word(words.first, "dump") {
         read_dump(alloc, words.rest)
+    } else if is_word(words.first, "write") {
+        read_alone(words.rest, Command::Write)
     } else if is_word(words.first, "quit") {
         // Alone it ends the session and is no command.
         Err(WireFault::BadArguments)
@@ -92,13 +96,14 @@ fn read_module(alloc: Global, rest: Option<&str>, body: Vec<Line>) -> Result<Com
     Ok(Command::SetModule(Text::from_str(alloc, name)?, body))
 }
 
-fn read_show(rest: Option<&str>) -> Result<Command, WireFault>
-    ensures { HasForm result (word_form Show (rest_of rest.entry) []) }
+// A command of one word.
+fn read_alone(rest: Option<&str>, command: Command) -> Result<Command, WireFault>
+    ensures { HasForm result (word_form (asked_of command) (rest_of rest.entry) []) }
 {
     if rest.is_some() {
         return Err(WireFault::BadArguments);
     }
-    Ok(Command::Show)
+    Ok(command)
 }
 
 fn read_dump(alloc: Global, rest: Option<&str>) -> Result<Command, WireFault>

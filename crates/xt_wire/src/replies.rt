@@ -22,6 +22,8 @@ pub enum Reply {
     Refused(Refusal),
     /// The lines of a result or a document.
     Shown(Vec<Text>),
+    /// The text of a result.
+    Written(Text),
     /// The command is refused.
     No(EditCode),
 }

@@ -1,7 +1,7 @@
 // From replies to their text.
-ghost use Rattle.std.specs.Prelude.{◌≡◌, ◌++◌, ◌∷◌, [], IfOk, OnOk, decimal, codes};
+ghost use Rattle.std.specs.Prelude.{◌≡◌, ◌++◌, ◌∷◌, [], IfOk, OnOk, length, decimal, codes};
 ghost use Rattle.std.specs.List.{flat_map};
-ghost use Rattle.std.specs.Str.{chars};
+ghost use Rattle.std.specs.Str.{chars, encode_utf8_all};
 ghost use Rattle.spec_session.specs.Reply.{place_text, refusal_text, reply_text, with_newline};
 ghost use Rattle.spec_expression.specs.Code.{code_text};
 ghost use Rattle.xt_base.specs.Code.{edit_number};
@@ -22,6 +22,7 @@ pub fn reply(alloc: Global, reply: &Reply) -> Result<Text, Memory>
         Reply::OkRefused(why) => refusal_line(alloc, "ok refused ", why),
         Reply::Refused(why) => refusal_line(alloc, "refused ", why),
         Reply::Shown(lines) => shown_lines(alloc, lines.as_slice()),
+        Reply::Written(text) => written_text(alloc, text),
         Reply::No(code) => no_line(alloc, *code),
     }
 }
@@ -49,6 +50,18 @@ fn shown_lines(alloc: Global, lines: &[Text]) -> Result<Text, Memory>
     }
     text.push_str(".\n")?;
     Ok(text)
+}
+
+// The number of the text's bytes, and the text.
+fn written_text(alloc: Global, text: &Text) -> Result<Text, Memory>
+    ensures { IfOk result (λ written. written ≡ flat_map with_newline ((codes "text " ++ decimal (length (encode_utf8_all text.now))) ∷ text.now ∷ [])) }
+{
+    let mut written = Text::from_str(alloc, "text ")?;
+    push_number(&mut written, text.as_str().len() as u64)?;
+    written.push('\n')?;
+    written.push_str(text.as_str())?;
+    written.push('\n')?;
+    Ok(written)
 }
 
 // The line of a refused command.

@@ -1,7 +1,7 @@
 use Rattle.std.proofs.Common.{sym, subst}
 use Rattle.spec_document.specs.Document.{document_of}
 use Rattle.spec_document.specs.Scope.{root_scope}
-use Rattle.spec_transform.specs.Documents.{with_module}
+use Rattle.spec_run.specs.Documents.{with_module}
 use Rattle.spec_session.specs.Machine.{State, kept_by}
 use Rattle.xt_session.specs.State.{state_of}
 use Rattle.xt_session.specs.Turn.{GivesText}

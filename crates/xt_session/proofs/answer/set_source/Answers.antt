@@ -1,7 +1,7 @@
 use Rattle.std.proofs.Common.{refl}
 use Rattle.spec_document.specs.Document.{document_of}
 use Rattle.spec_document.specs.Scope.{root_scope}
-use Rattle.spec_transform.specs.Documents.{with_source}
+use Rattle.spec_run.specs.Documents.{with_source}
 use Rattle.xt_session.specs.State.{state_of}
 use Rattle.xt_session.proofs.Answering.{if_ok_map, gives_built, gives_fault}
 use Rattle.xt_session.proofs.answer.set_source.Goals as goal

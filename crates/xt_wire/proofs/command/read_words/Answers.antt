@@ -18,9 +18,9 @@ returns-then-is_word-2 c =
 
 pub returns-then-is_word-3 : goal.returns-then-is_word-3
 returns-then-is_word-3 c =
-    reads_as (words_in c.args.words) c.args.body.items (codes "show") c.read_show.result
+    reads_as (words_in c.args.words) c.args.body.items (codes "show") c.read_alone.result
     (compared c.args.words.first.now (codes "show") c.is_word-else-is_word-2.result _ refl c.is_word-else-is_word-2.ensures c.if-is_word-3.true)
-    c.read_show.ensures
+    c.read_alone.ensures
 
 pub returns-then-is_word-4 : goal.returns-then-is_word-4
 returns-then-is_word-4 c =
@@ -30,8 +30,14 @@ returns-then-is_word-4 c =
 
 pub returns-then-is_word-5 : goal.returns-then-is_word-5
 returns-then-is_word-5 c =
+    reads_as (words_in c.args.words) c.args.body.items (codes "write") c.read_alone-then-is_word-5.result
+    (compared c.args.words.first.now (codes "write") c.is_word-else-is_word-4.result _ refl c.is_word-else-is_word-4.ensures c.if-is_word-5.true)
+    c.read_alone-then-is_word-5.ensures
+
+pub returns-then-is_word-6 : goal.returns-then-is_word-6
+returns-then-is_word-6 c =
     asked_with (words_in c.args.words) c.args.body.items (codes "quit") _
-    (compared c.args.words.first.now (codes "quit") c.is_word-else-is_word-4.result _ refl c.is_word-else-is_word-4.ensures c.if-is_word-5.true) refl
+    (compared c.args.words.first.now (codes "quit") c.is_word-else-is_word-5.result _ refl c.is_word-else-is_word-5.ensures c.if-is_word-6.true) refl
 
 pub returns : goal.returns
 returns c =
@@ -40,4 +46,5 @@ returns c =
     (compared c.args.words.first.now (codes "module") c.is_word-else-is_word.result _ refl c.is_word-else-is_word.ensures c.if-is_word-2.false)
     (compared c.args.words.first.now (codes "show") c.is_word-else-is_word-2.result _ refl c.is_word-else-is_word-2.ensures c.if-is_word-3.false)
     (compared c.args.words.first.now (codes "dump") c.is_word-else-is_word-3.result _ refl c.is_word-else-is_word-3.ensures c.if-is_word-4.false)
-    (compared c.args.words.first.now (codes "quit") c.is_word-else-is_word-4.result _ refl c.is_word-else-is_word-4.ensures c.if-is_word-5.false)
+    (compared c.args.words.first.now (codes "write") c.is_word-else-is_word-4.result _ refl c.is_word-else-is_word-4.ensures c.if-is_word-5.false)
+    (compared c.args.words.first.now (codes "quit") c.is_word-else-is_word-5.result _ refl c.is_word-else-is_word-5.ensures c.if-is_word-6.false)

@@ -1,17 +1,19 @@
-use Rattle.std.proofs.Common.{Option, Some, refl, subst}
-use Rattle.std.specs.Str.{chars}
-use Rattle.spec_document.specs.Forest.{Plain}
-use Rattle.spec_transform.specs.Documents.{Comes}
-use Rattle.xt_repair.specs.OutcomeView.{outcome_of, plain_of}
+use Rattle.std.proofs.Common.{Option, refl, sym, subst}
+use Rattle.xt_repair.specs.StylesheetView.{AreCompiled}
+use Rattle.xt_repair.specs.View.{documents_of}
+use Rattle.xt_repair.specs.declared.stylesheet.Compiled.{Compiled}
 use Rattle.xt_repair.proofs.held.Held.source_ready.Goals as goal
 
 pub returns : goal.returns
-unfolding chars
 returns c =
-    let source = Some (plain_of c.args.built.document) in
-    let outcome = outcome_of c.in_ok-outcome.outcome in
+    let modules = (documents_of c.args.self.now).modules in
     record {
       documents = refl;
-      made = c.requires;
-      from = record { outcome = subst (λ (main : Option Plain). Comes main source outcome) c.module-main.ensures c.in_ok-outcome.ensures; room = tt };
+      made = c.requires.next;
+      from = record {
+        outcome = c.in_ok-outcome.ensures modules
+            (subst (λ (compiled : Option Compiled). AreCompiled modules compiled) (sym c.as_ref.ensures.value) c.requires.current.compiled);
+        compiled = c.requires.current.compiled;
+        room = tt;
+      };
     }

@@ -1,4 +1,0 @@
-pub mod Following
-pub mod Moved
-pub mod Alike
-pub mod Views

@@ -1,6 +1,0 @@
-use Rattle.std.proofs.Common.{◌∙◌, ap, bytes_eq}
-use Rattle.std.proofs.lemmas.Str.{chars-nil}
-use Rattle.xt_one_template.proofs.element.has_no_uri.Goals as goal
-
-pub returns : goal.returns
-returns c = c.is.ensures ∙ ap (bytes_eq c.uri.result.now) chars-nil ∙ ap (λ n. bytes_eq n _) c.uri.ensures

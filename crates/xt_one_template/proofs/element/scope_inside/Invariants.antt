@@ -1,9 +1,0 @@
-use Rattle.std.proofs.Common.{◌≡◌, map, drop}
-use Rattle.spec_document.specs.Declaration.{declared_all}
-use Rattle.spec_document.specs.Scope.{root_scope}
-use Rattle.xt_tree.specs.View.{written_of}
-use Rattle.xt_one_template.proofs.element.scope_inside.Given as goal
-
-abbrev pub invariant-loop-attribute : goal.invariant-loop-attribute
-invariant-loop-attribute l =
-    declared_all (map written_of (drop l.attribute-index l.attributes)) l.scope ≡ declared_all (map written_of l.attributes) root_scope

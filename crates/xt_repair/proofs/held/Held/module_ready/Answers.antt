@@ -1,0 +1,40 @@
+use Rattle.std.proofs.Common.{◌≡◌, List, ℕ, Option, refl, ap, sym, subst, string_bytes, ◌∙◌}
+use Rattle.std.specs.Option.{option_map}
+use Rattle.std.specs.Str.{chars}
+use Rattle.spec_document.specs.Forest.{Document, Plain}
+use Rattle.spec_run.specs.Documents.{Documents, main_name, with_module}
+use Rattle.spec_run.specs.Outcome.{Comes}
+use Rattle.spec_structure.specs.Modules.{Modules}
+use Rattle.xt_import.specs.View.{modules_in, plain_of}
+use Rattle.xt_repair.specs.OutcomeView.{outcome_of}
+use Rattle.xt_repair.specs.StylesheetView.{AreCompiled, with_one}
+use Rattle.xt_repair.specs.View.{documents_of}
+use Rattle.xt_repair.specs.declared.stylesheet.Compiled.{Compiled}
+use Rattle.xt_repair.proofs.Keys.{map-copied}
+use Rattle.xt_repair.proofs.held.Held.module_ready.Goals as goal
+
+pub returns-clause-ok : goal.returns-clause-ok
+returns-clause-ok c =
+    let held = c.args.self.now in
+    let document = c.in_ok-compiled.field-0.document in
+    let compiled = c.in_ok-compiled.field-0.compiled in
+    let key = chars (string_bytes c.in_ok-key.key) in
+    let name : key ≡ c.args.name.now = ap chars c.in_ok-key.ensures.ok ∙ c.as_str.ensures.characters in
+    let same : document ≡ c.args.built.document = c.in_ok-compiled.ensures.document in
+    let entries : c.reserve.new.self.entries ≡ held.modules.entries = c.in_ok-reserve.ensures.entries ∙ c.in_ok-compiled.ensures.kept in
+    let modules = with_one key (plain_of document) (modules_in c.reserve.new.self.entries) in
+    let is : with_one c.args.name.now (plain_of c.args.built.document) (modules_in held.modules.entries) ≡ modules
+    = sym (λ i. with_one (name i) (plain_of (same i)) (modules_in (entries i))) in
+    let are : AreCompiled modules compiled = subst (λ (ms : Modules). AreCompiled ms compiled) is c.in_ok-compiled.ensures.compiled in
+    let outcome = outcome_of c.in_ok-outcome.outcome in
+    let source = map-copied plain_of c.as_ref-2.result ∙ ap (option_map plain_of) c.as_ref-2.ensures.value in
+    record {
+      documents = λ i. with_module (name i) (plain_of (same i)) (record { source = option_map plain_of held.source; modules = modules_in c.reserve.new.self.entries });
+      made = c.requires;
+      from = record {
+        outcome = subst (λ (s : Option Plain). Comes modules (modules main_name) s outcome) source
+            (c.in_ok-outcome.ensures modules (subst (λ (o : Option Compiled). AreCompiled modules o) (sym c.as_ref.ensures.value) are));
+        compiled = are;
+        room = c.in_ok-reserve.ensures.ok;
+      };
+    }

@@ -1,0 +1,58 @@
+-- What modules are compiled to.
+use Rattle.std.specs.Prelude.{ℕ, ◌≡◌, List, Option, None, Some, Result, Ok, Err, bytes_eq, if◌then◌else◌}
+use Rattle.spec_document.specs.Forest.{Plain, Document}
+use Rattle.spec_stylesheet.specs.Sheet as plain
+use Rattle.spec_structure.specs.Modules.{Modules}
+use Rattle.spec_compile.specs.Sheet as compile
+use Rattle.spec_meaning.specs.Question.{Question}
+use Rattle.spec_run.specs.Documents.{main_name}
+use Rattle.spec_run.specs.Outcome.{IsStylesheet}
+use Rattle.xt_tree.specs.declared.node_ref.NodeRef.{NodeRef}
+use Rattle.xp_syntax.specs.SheetView.{sheet_of}
+use Rattle.xp_syntax.specs.declared.sheet.Sheet.{Sheet}
+use Rattle.xt_compile.specs.View.{refusal_in}
+use Rattle.xt_compile.specs.declared.fault.SheetFault.{SheetFault}
+use Rattle.xt_compile.specs.declared.fault.SheetFault.TheVariants as faults
+use Rattle.xt_world.specs.Numbered.{truth_by_numbers}
+use Rattle.xt_world.specs.View.{truth_in}
+use Rattle.xt_world.specs.declared.stylesheet.Stylesheet as world
+use Rattle.xt_repair.specs.declared.stylesheet.Compiled.{Compiled}
+use Rattle.xt_repair.specs.declared.stylesheet.Compiled.TheVariants.{Stylesheet, Refused}
+
+-- the modules with this one of this name, in place of the one before
+abbrev pub with_one : List ℕ → Plain → Modules → Modules
+with_one name nodes modules = λ other. if bytes_eq other name then Some nodes else modules other
+
+-- a call gives the stylesheet that modules are whose principal one is this, or their refusal. Of want of memory it says nothing
+abbrev pub IsSheetSo : Modules → Plain → Result Sheet SheetFault → Type 0
+IsSheetSo modules main (Ok sheet) = IsStylesheet modules main_name main (Ok (sheet_of sheet))
+IsSheetSo modules main (Err (faults.Refused why)) = IsStylesheet modules main_name main (Err (refusal_in why))
+IsSheetSo modules main (Err faults.NoMain) = ⊥
+IsSheetSo modules main (Err faults.Memory) = Unit {0}
+
+pub record IsSheetOf (modules : Modules) (main : Plain) (result : Result Sheet SheetFault) : Type 0 where
+  pub so : IsSheetSo modules main result
+
+-- in the world of any source it answers as this stylesheet does
+abbrev pub AnswersAs : world.Stylesheet → plain.Sheet → Type 0
+AnswersAs held sheet = (document : Document ℕ) (q : Question NodeRef) → truth_in held document q ≡ truth_by_numbers sheet document q
+
+abbrev pub Holds : Compiled → Result plain.Sheet compile.Refusal → Type 0
+Holds (Stylesheet held method) result = (sheet : plain.Sheet) × (result ≡ Ok sheet) × AnswersAs held sheet × (method ≡ sheet.method)
+Holds (Refused why) result = result ≡ Err (refusal_in why)
+
+-- it is what modules are whose principal one is this
+pub record IsCompiledFrom (modules : Modules) (main : Plain) (compiled : Compiled) : Type 0 where
+  pub result : Result plain.Sheet compile.Refusal
+  pub is : IsStylesheet modules main_name main result
+  pub holds : Holds compiled result
+
+-- there is something where there is a principal module
+abbrev pub AreCompiledBy : Modules → Option Plain → Option Compiled → Type 0
+AreCompiledBy modules None None = Unit {0}
+AreCompiledBy modules None (Some compiled) = ⊥
+AreCompiledBy modules (Some main) None = ⊥
+AreCompiledBy modules (Some main) (Some compiled) = IsCompiledFrom modules main compiled
+
+pub record AreCompiled (modules : Modules) (compiled : Option Compiled) : Type 0 where
+  pub so : AreCompiledBy modules (modules main_name) compiled
