@@ -10,8 +10,8 @@
 //! | `templates` | one, with so many template rules and global variables |
 //!
 //! The bench `make` only makes the modules, `order` reads them, `tree` looks for the faults of their links, `fault` for
-//! those of the principal one, `sheets` puts the stylesheets of the import tree in their order, and `structure` looks for
-//! the fault of structure of the principal module.
+//! those of the principal one, `sheets` puts the stylesheets of the import tree in their order, `structure` looks for
+//! the fault of structure of the principal module, and `compile` compiles all.
 #![tactic(auto)]
 
 mod modules;
@@ -21,6 +21,7 @@ use indexmap::IndexMap;
 use modules::modules_of;
 use std::alloc::Global;
 use std::{env, io};
+use xt_compile::{SheetFault, sheet};
 use xt_import::{ListedModule, link_fault, reading_order, stylesheets, tree};
 use xt_sheet::{Fault, check};
 use xt_text::{Memory, Text};
@@ -54,6 +55,7 @@ fn outcome(alloc: Global, bench: &str, shape: &str, size: u64) -> Result<String,
         "fault" => first_fault(alloc, &modules)?,
         "sheets" => sheets_in_order(alloc, &modules)?,
         "structure" => structure(alloc, &modules)?,
+        "compile" => compiled(alloc, &modules)?,
         _ => String::from_str(alloc, "no such bench")?,
     };
     Ok(format!(in alloc; "{bench} {shape} {size}: {found}")?)
@@ -100,6 +102,18 @@ fn sheets_in_order(alloc: Global, modules: &IndexMap<String, Doc>) -> Result<Str
     match stylesheets(alloc, modules, &main)? {
         None => Ok(String::from_str(alloc, "none")?),
         Some(sheets) => count(alloc, sheets.len(), "stylesheets"),
+    }
+}
+
+fn compiled(alloc: Global, modules: &IndexMap<String, Doc>) -> Result<String, Memory> {
+    let main = Text::from_str(alloc, "main")?;
+    match sheet(alloc, modules, &main) {
+        Ok(sheet) => count(alloc, sheet.units.len(), "units"),
+        Err(SheetFault::Memory) => Err(Memory),
+        Err(SheetFault::NoMain) => Ok(String::from_str(alloc, "no module")?),
+        Err(SheetFault::Refused(refusal)) => {
+            count(alloc, usize::from(refusal.code.number()), "is its code")
+        }
     }
 }
 

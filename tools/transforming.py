@@ -1,0 +1,71 @@
+"""What the benches of whole sessions share: PYX lines as XML, and the time of a session and of xsltproc."""
+import os
+import subprocess
+import sys
+import tempfile
+import time
+
+TOP = os.path.dirname(os.path.dirname(os.path.abspath(__file__)))
+PROGRAM = os.path.join(TOP, 'crates', 'xt_cli', 'out', 'xt_cli')
+SHEET = ['(xsl:stylesheet', 'Aversion 1.0', 'Axmlns:xsl http://www.w3.org/1999/XSL/Transform']
+
+
+def want_program():
+    """Ends where the proved program is not built."""
+    if not os.access(PROGRAM, os.X_OK):
+        sys.exit('build the program first: (cd crates/xt_cli && rt run -- session </dev/null)')
+
+
+def seconds(run):
+    """The least time of three runs."""
+    best = None
+    for _ in range(3):
+        start = time.perf_counter()
+        run()
+        spent = time.perf_counter() - start
+        best = spent if best is None else min(best, spent)
+    return best
+
+
+def session(commands):
+    """The time of a session that is sent these lines."""
+    data = ('\n'.join(commands) + '\n').encode()
+
+    def run():
+        done = subprocess.run([PROGRAM, 'session'], input=data, stdout=subprocess.PIPE)
+        if done.returncode != 0 or b'refused D' in done.stdout or b'refused S9' in done.stdout:
+            sys.exit(f'the program ended with status {done.returncode}: {done.stdout[-200:]!r}')
+    return seconds(run)
+
+
+def escaped(text):
+    return text.replace('&', '&amp;').replace('<', '&lt;').replace('"', '&quot;')
+
+
+def as_xml(lines):
+    """The document of PYX lines as XML."""
+    text, start = [], None
+    for line in lines:
+        if start is not None and line[0] != 'A':
+            text.append(start + '>')
+            start = None
+        if line[0] == '(':
+            start = '<' + line[1:]
+        elif line[0] == 'A':
+            name, value = line[1:].split(' ', 1)
+            start += f' {name}="{escaped(value)}"'
+        elif line[0] == '-':
+            text.append(escaped(line[1:]))
+        else:
+            text.append(f'</{line[1:]}>')
+    return ''.join(text)
+
+
+def xsltproc(source, stylesheet):
+    """The time of xsltproc on the same source and stylesheet, with its start."""
+    with tempfile.TemporaryDirectory() as folder:
+        for name, part in (('s.xml', source), ('t.xsl', stylesheet)):
+            with open(os.path.join(folder, name), 'w', encoding='utf-8') as file:
+                file.write(as_xml(part))
+        words = ['xsltproc', '--maxdepth', '100000', os.path.join(folder, 't.xsl'), os.path.join(folder, 's.xml')]
+        return seconds(lambda: subprocess.run(words, stdout=subprocess.DEVNULL, check=True))
