@@ -19,11 +19,16 @@ pub fn body(alloc: Global, words: &[Word]) -> Result<Vec<Line>, Memory> {
     Ok(body)
 }
 
-/// The document of these lines, its nodes numbered from 0.
+/// The document of the lines that the words are, its nodes numbered from 0.
 pub fn document(alloc: Global, words: &[Word]) -> Result<Doc, Fault> {
-    let scope = Scope::root(alloc)?;
     let body = body(alloc, words)?;
-    document_of(build(alloc, body.as_slice(), &scope, NodeId { number: 0 }))
+    built(alloc, body.as_slice())
+}
+
+/// The document of these lines, its nodes numbered from 0.
+pub fn built(alloc: Global, lines: &[Line]) -> Result<Doc, Fault> {
+    let scope = Scope::root(alloc)?;
+    document_of(build(alloc, lines, &scope, NodeId { number: 0 }))
 }
 
 fn document_of(answer: Result<Built, BuildFault>) -> Result<Doc, Fault> {

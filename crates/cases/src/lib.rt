@@ -15,7 +15,7 @@ mod fault;
 mod show;
 mod words;
 
-pub use documents::{body, document, node, push_reference};
+pub use documents::{body, built, document, node, push_reference};
 pub use fault::Fault;
 pub use show::{
     part, push_bytes, push_name, push_number, push_part, push_quoted, push_uri, push_word, push_yes,

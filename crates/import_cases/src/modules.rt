@@ -1,11 +1,10 @@
 // The modules of cases.
-use cases::{Fault, Word, text_of};
+use cases::{Fault, Word, built, text_of};
 use indexmap::IndexMap;
 use std::alloc::Global;
-use xt_build::{BuildFault, Built, Line, build};
-use xt_names::Scope;
+use xt_build::Line;
 use xt_text::{Memory, Text};
-use xt_tree::{Doc, NodeId};
+use xt_tree::Doc;
 
 /// The modules that these words tell of.
 pub fn modules_of(alloc: Global, words: &[Word]) -> Result<IndexMap<String, Doc>, Fault> {
@@ -31,7 +30,7 @@ fn push_module(
     )?;
     let name = push_links(alloc, &mut lines, word)?;
     push_line(alloc, &mut lines, ")xsl:stylesheet")?;
-    let document = built(alloc, lines)?;
+    let document = built(alloc, lines.as_slice())?;
     hold(alloc, modules, name.as_str(), document)?;
     Ok(())
 }
@@ -103,17 +102,4 @@ fn push_line(alloc: Global, lines: &mut Vec<Line>, text: &str) -> Result<(), Mem
     let line = Line::new(alloc, text.as_bytes())?;
     lines.push(line)?;
     Ok(())
-}
-
-fn built(alloc: Global, lines: Vec<Line>) -> Result<Doc, Fault> {
-    let scope = Scope::root(alloc)?;
-    document_of(build(alloc, lines.as_slice(), &scope, NodeId { number: 0 }))
-}
-
-fn document_of(answer: Result<Built, BuildFault>) -> Result<Doc, Fault> {
-    match answer {
-        Ok(built) => Ok(built.document),
-        Err(BuildFault::Memory) => Err(Fault::Memory),
-        Err(BuildFault::Refused(_)) => Err(Fault::NoCase),
-    }
 }

@@ -1,10 +1,9 @@
 // The modules of cases.
-use cases::{Fault, Word, body, document};
+use cases::{Fault, Word, body, built, document};
 use std::alloc::Global;
-use xt_build::{BuildFault, Built, Line, build};
-use xt_names::Scope;
+use xt_build::Line;
 use xt_text::Memory;
-use xt_tree::{Doc, NodeId};
+use xt_tree::Doc;
 
 const BEFORE_SHEET: [&str; 6] = [
     "(xsl:stylesheet",
@@ -25,8 +24,14 @@ const BEHIND_SHEET: [&str; 1] = [")xsl:stylesheet"];
 pub fn module_of(alloc: Global, call: &str, words: &[Word]) -> Result<Doc, Fault> {
     match call {
         "module" => document(alloc, words),
-        "sheet" => built(alloc, sheet(alloc, &[], words, &[])?),
-        "body" => built(alloc, sheet(alloc, &BEFORE_BODY, words, &BEHIND_BODY)?),
+        "sheet" => {
+            let lines = sheet(alloc, &[], words, &[])?;
+            built(alloc, lines.as_slice())
+        }
+        "body" => {
+            let lines = sheet(alloc, &BEFORE_BODY, words, &BEHIND_BODY)?;
+            built(alloc, lines.as_slice())
+        }
         _ => Err(Fault::NoCase),
     }
 }
@@ -59,17 +64,4 @@ fn push_all(lines: &mut Vec<Line>, more: Vec<Line>) -> Result<(), Memory> {
         lines.push(line)?;
     }
     Ok(())
-}
-
-fn built(alloc: Global, lines: Vec<Line>) -> Result<Doc, Fault> {
-    let scope = Scope::root(alloc)?;
-    document_of(build(alloc, lines.as_slice(), &scope, NodeId { number: 0 }))
-}
-
-fn document_of(answer: Result<Built, BuildFault>) -> Result<Doc, Fault> {
-    match answer {
-        Ok(built) => Ok(built.document),
-        Err(BuildFault::Memory) => Err(Fault::Memory),
-        Err(BuildFault::Refused(_)) => Err(Fault::NoCase),
-    }
 }

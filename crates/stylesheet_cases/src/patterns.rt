@@ -1,13 +1,10 @@
 // Patterns: `pattern TEXT` gives the tree of a text, or its refusal; `pattern-joined TEXT..` takes the texts one
 // after another; `priority TEXT` gives the default priorities of the alternatives, in millionths.
-//
-// The alternatives of a tree are parted by ` | `. An alternative is where it starts, `anywhere`, `root`,
-// `id("x")` or `key(NAME, "x")` (with `-` for no name), and its steps, each behind its separator: `/child::a`.
 
-use case_trees::{push_code, push_step, scope};
-use cases::{Fault, Word, joined, push_name, push_part, push_quoted, text_at};
+use case_trees::{push_code, push_pattern, scope};
+use cases::{Fault, Word, joined, push_part, text_at};
 use std::alloc::Global;
-use xp_syntax::{Alternative, Pattern, PatternStep, Separator, Start};
+use xp_syntax::Pattern;
 use xt_pattern::{PatternFault, parse_pattern, priority};
 use xt_text::{Memory, Text};
 
@@ -56,53 +53,4 @@ fn push_refusal(out: &mut Text, fault: PatternFault) -> Result<(), Memory> {
         None => Err(Memory),
         Some(code) => push_code(out, code),
     }
-}
-
-fn push_pattern(out: &mut Text, pattern: &Pattern) -> Result<(), Memory> {
-    for (index, alternative) in pattern.alternatives.as_slice().iter().enumerate() {
-        if index > 0 {
-            out.push_str(" | ")?;
-        }
-        push_alternative(out, alternative)?;
-    }
-    Ok(())
-}
-
-fn push_alternative(out: &mut Text, alternative: &Alternative) -> Result<(), Memory> {
-    push_start(out, &alternative.start)?;
-    for step in alternative.steps.as_slice() {
-        out.push(' ')?;
-        push_pattern_step(out, step)?;
-    }
-    Ok(())
-}
-
-fn push_start(out: &mut Text, start: &Start) -> Result<(), Memory> {
-    match start {
-        Start::Anywhere => out.push_str("anywhere"),
-        Start::Root => out.push_str("root"),
-        Start::Id(id) => {
-            out.push_str("id(")?;
-            push_quoted(out, id.as_str())?;
-            out.push(')')
-        }
-        Start::Key(name, value) => {
-            out.push_str("key(")?;
-            match name {
-                None => out.push('-')?,
-                Some(name) => push_name(out, name)?,
-            }
-            out.push_str(", ")?;
-            push_quoted(out, value.as_str())?;
-            out.push(')')
-        }
-    }
-}
-
-fn push_pattern_step(out: &mut Text, step: &PatternStep) -> Result<(), Memory> {
-    out.push_str(match step.separator {
-        Separator::Child => "/",
-        Separator::Descendant => "//",
-    })?;
-    push_step(out, &step.step)
 }

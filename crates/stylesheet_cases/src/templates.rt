@@ -4,10 +4,10 @@
 // The parts are written one after another: a text in quotes, an expression as its tree in braces. `empty` is
 // written where there is none.
 
-use case_trees::{push_code, push_tree, scope};
-use cases::{Fault, Word, joined, part, push_quoted, text_at};
+use case_trees::{push_avt_part, push_code, scope};
+use cases::{Fault, Word, joined, part, text_at};
 use std::alloc::Global;
-use xp_syntax::{Avt, AvtPart};
+use xp_syntax::Avt;
 use xt_avt::{AvtFault, parse_avt};
 use xt_text::{Memory, Text};
 
@@ -49,15 +49,4 @@ fn push_template(out: &mut Text, avt: &Avt) -> Result<(), Memory> {
         push_avt_part(out, avt_part)?;
     }
     Ok(())
-}
-
-fn push_avt_part(out: &mut Text, part: &AvtPart) -> Result<(), Memory> {
-    match part {
-        AvtPart::Text(text) => push_quoted(out, text.as_str()),
-        AvtPart::Expr(expr) => {
-            out.push('{')?;
-            push_tree(out, expr)?;
-            out.push('}')
-        }
-    }
 }
