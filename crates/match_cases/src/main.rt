@@ -10,7 +10,7 @@
 //! - `choose NODE MODE`: the number of the rule for the node, from 0, or `built-in`; `import NODE MODE FIRST
 //!   LAST`: the same of the rules with a precedence from FIRST on and below LAST
 //!
-//! In scope is the prefix p for urn:p. Words are written as the crate `cases` tells.
+//! In scope are the prefix p for urn:p, and xsl for the namespace of XSLT. Words are written as the crate `cases` tells.
 #![tactic(auto)]
 
 mod rules;

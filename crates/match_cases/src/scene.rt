@@ -27,6 +27,7 @@ pub struct Scene {
 fn scope(alloc: Global) -> Result<Scope, Memory> {
     let mut scope = Scope::root(alloc)?;
     scope.bind(alloc, "p", "urn:p")?;
+    scope.bind(alloc, "xsl", "http://www.w3.org/1999/XSL/Transform")?;
     Ok(scope)
 }
 

@@ -2,19 +2,17 @@
 use Rattle.std.proofs.Common.{◌≡◌, ℕ, ◌+◌, Bool, true, false, List, [], ◌∷◌, ◌++◌, length, reverse, Option, None, Some}
 use Rattle.std.specs.Prelude.{if◌then◌else◌}
 use Rattle.spec_document.specs.Name.{Expanded}
-use Rattle.spec_document.specs.declared.axis.Axis.TheVariants as axis
-use Rattle.spec_expression.specs.declared.NodeType.TheVariants as type
-use Rattle.spec_expression.specs.Syntax.{OfType, Expr, Exprs, no_exprs, expr, Step}
+use Rattle.spec_expression.specs.Syntax.{Expr, Exprs, no_exprs, expr, Step}
 use Rattle.spec_stylesheet.specs.declared.pattern.Start.{Start}
 use Rattle.spec_stylesheet.specs.declared.pattern.Start.TheVariants.{Anywhere, Root, Id, Key}
 use Rattle.spec_stylesheet.specs.Pattern.{PatternStep, Alternative}
 use Rattle.spec_stylesheet.specs.Sheet.{Rule}
 use Rattle.spec_meaning.specs.Context.{Context}
-use Rattle.spec_meaning.specs.Question as question
 use Rattle.spec_meaning.specs.Question.{Question, Answer, Candidates, Refusal, nodes_in}
 use Rattle.spec_meaning.specs.Program.{Wanted, Given, Program, Give, Refuse, Ask, Need, Supply, Refuses, Lacks, if_given, outcome_of, then}
 use Rattle.spec_transform.specs.Match as definition
 use Rattle.spec_transform.specs.Match.{caught, passes}
+use Rattle.spec_transform.specs.Position.{read_no_position}
 use Rattle.spec_transform.specs.Choice as choice
 
 -- programs that refuse nothing, whatever the answers
@@ -58,18 +56,16 @@ holds_of_one : {N : Type 0} (test : N → Program N Bool) → ((n : N) → Unref
 holds_of_one test h [] = gives
 holds_of_one test h (n ∷ ns) = and_then (h n) (λ b. either b gives (holds_of_one test h ns))
 
+keep_alone : {N : Type 0} (c : Context N) (n : N) (ps : Exprs) → Unrefused (definition.keep_alone c n ps)
+keep_alone c n no_exprs = gives
+keep_alone c n (expr p ps) = and_then (caught_is _) (λ b. either b (keep_alone c n ps) gives)
+
 predicates : {N : Type 0} (same : N → N → Bool) (c : Context N) (s : Step) (n : N) → Unrefused (definition.passes_predicates same c s n)
-predicates {N = N} same c s n = go s.predicates
+predicates {N = N} same c s n = either (read_no_position s.predicates) (keep_alone c n s.predicates)
+    (asks (λ a. holds_of_one (definition.is_given_below same c s n) below (nodes_in a)))
   where
     below : (parent : N) → Unrefused (definition.is_given_below same c s n parent)
     below parent = asks (λ a. keep same c n s.predicates (nodes_in a))
-
-    go : (ps : Exprs) → Unrefused (elim ps [
-      | no_exprs ↦ Give true
-      | expr p more ↦ Ask (question.Step n axis.Parent (OfType type.Node)) (λ a. definition.holds_of_one (definition.is_given_below same c s n) (nodes_in a))
-    ])
-    go no_exprs = gives
-    go (expr p more) = asks (λ a. holds_of_one (definition.is_given_below same c s n) below (nodes_in a))
 
 starts_at : {N : Type 0} (same : N → N → Bool) (start : Start (List ℕ) Expanded) (n : N) (called : Answer N) → Unrefused (definition.starts_at same start n called)
 starts_at same Anywhere n called = gives

@@ -1,3 +1,4 @@
+pub mod Position
 pub mod Match
 pub mod Choice
 pub mod Expansion

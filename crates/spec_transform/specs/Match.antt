@@ -2,6 +2,7 @@
 -- is asked from the last step up: the node passes the step's test and predicates, counted among those that the step gives from its parent,
 -- and its parent, or an ancestor, matches what stands before. A refused predicate is false for its node, and a refused key() gives no node.
 -- What a node is called is asked first, and once, for all that follows of it.
+-- Where no predicate of a step reads a position, the nodes beside it are not asked for: they could change nothing of what is said of it.
 use Rattle.std.specs.Prelude.{ℕ, ◌+◌, Bool, true, false, ◌&&◌, List, [], ◌∷◌, ◌++◌, length, reverse, Option, None, Some, if◌then◌else◌}
 use Rattle.std.specs.List.{list_any}
 use Rattle.spec_document.specs.Name.{Expanded, same_expanded}
@@ -22,6 +23,7 @@ use Rattle.spec_meaning.specs.Question.{Answer, nodes_in}
 use Rattle.spec_meaning.specs.Program.{Program, Give, Refuse, Ask, Need, ◌>>=◌}
 use Rattle.spec_meaning.specs.Context.{Context, at_node}
 use Rattle.spec_meaning.specs.Meaning.{meaning, keeps}
+use Rattle.spec_transform.specs.Position.{read_no_position}
 
 -- ---- The node test of a step, by a node's kind and name
 
@@ -82,6 +84,14 @@ keep same c n no_exprs nodes = Give true
 keep same c n (expr p no_exprs) nodes = is_kept_there p c (length nodes) n (position_of same n 1 nodes)
 keep same c n (expr p (expr q ps)) nodes = all_kept p c (length nodes) 1 [] nodes >>= λ ms. keep same c n (expr q ps) ms
 
+-- whether predicates that read no position keep a node, up to the first that does not. It is as if they were asked among the nodes that its
+-- parent gives: it is one of these once, since it passes the step's test, and each predicate says of it, at its position there, what it says
+-- of it as the only one. So it stands among those that the next predicate is asked for just where all before have kept it, and what is said of
+-- the others, or refused at them, only moves positions that none of the predicates reads.
+abbrev pub keep_alone : {N : Type 0} → Context N → N → Exprs → Program N Bool
+keep_alone c n no_exprs = Give true
+keep_alone c n (expr p ps) = is_kept p c 1 1 n >>= λ b. if b then keep_alone c n ps else Give false
+
 -- ---- Steps
 
 -- whether something holds of one of these nodes, asked in their order up to the first
@@ -94,10 +104,9 @@ abbrev pub is_given_below : {N : Type 0} → (N → N → Bool) → Context N �
 is_given_below same c s n parent = Ask (question.Step parent s.axis s.test) (λ a. keep same c n s.predicates (nodes_in a))
 
 abbrev pub passes_predicates : {N : Type 0} → (N → N → Bool) → Context N → Step → N → Program N Bool
-passes_predicates same c s n = elim s.predicates [
-  | no_exprs ↦ Give true
-  | expr p ps ↦ Ask (question.Step n axis.Parent (OfType type.Node)) (λ a. holds_of_one (is_given_below same c s n) (nodes_in a))
-]
+passes_predicates same c s n =
+    if read_no_position s.predicates then keep_alone c n s.predicates
+    else Ask (question.Step n axis.Parent (OfType type.Node)) (λ a. holds_of_one (is_given_below same c s n) (nodes_in a))
 
 -- whether a node that is called so passes a step
 abbrev pub passes_step : {N : Type 0} → (N → N → Bool) → Context N → Step → N → Answer N → Program N Bool

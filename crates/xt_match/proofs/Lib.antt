@@ -2,3 +2,4 @@ pub mod Together
 pub mod Views
 pub mod Turns
 pub mod Scopes
+pub mod Forms

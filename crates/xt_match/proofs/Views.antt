@@ -9,9 +9,10 @@ use Rattle.spec_expression.specs.Syntax as plain
 use Rattle.spec_expression.specs.Syntax.{exprs, OfType}
 use Rattle.spec_meaning.specs.Question.{Answer, nodes_in}
 use Rattle.spec_meaning.specs.Question as question
-use Rattle.spec_meaning.specs.Program.{Give, Ask}
+use Rattle.spec_meaning.specs.Program.{Program, Give, Ask}
 use Rattle.spec_meaning.specs.Context.{Context}
-use Rattle.spec_transform.specs.Match.{passes, passes_predicates, passes_step, holds_of_one, is_given_below}
+use Rattle.spec_transform.specs.Match.{passes, passes_predicates, passes_step, keep_alone, holds_of_one, is_given_below}
+use Rattle.spec_transform.specs.Position.{read_no_position}
 use Rattle.xp_syntax.specs.declared.expr.Expr.{Expr, the_lemmas}
 use Rattle.xp_syntax.specs.declared.expr.Step.{Step}
 use Rattle.xp_syntax.specs.declared.pattern.PatternStep.{PatternStep}
@@ -21,29 +22,25 @@ use Rattle.xp_syntax.specs.PartView.{pattern_step_of}
 pub view-Step : (s : Step) → step_of s ≡ record { axis = s.axis; test = test_of s.test; predicates = exprs (map expr_of s.predicates.items) }
 view-Step s = search (rules, the_lemmas)
 
-is_zero : (n : ℕ) → (n == 0) ≡ true → n ≡ 0
-is_zero n h = grind arith
+predicates_are : (s : Step) → (step_of s).predicates ≡ exprs (map expr_of s.predicates.items)
+predicates_are s = ap (λ (t : plain.Step). t.predicates) (view-Step s)
 
--- a step without predicates keeps every node; with some, its parent is asked for
-no_predicates_in : {N : Type 0} (same : N → N → Bool) (c : Context N) (s : Step) (n : N) (es : List Expr) → (length es == 0) ≡ true
-    → passes_predicates same c (record { axis = s.axis; test = test_of s.test; predicates = exprs (map expr_of es) }) n ≡ Give true
-no_predicates_in same c s n [] h = refl
-no_predicates_in same c s n (e ∷ es) h = let none : length (e ∷ es) ≡ 0 = is_zero _ h in absurd (omega (arith, none))
+-- where no predicate of a step reads a position, they are asked of the node alone
+pub asked_alone : {N : Type 0} (same : N → N → Bool) (c : Context N) (s : Step) (n : N) → read_no_position (exprs (map expr_of s.predicates.items)) ≡ true
+    → passes_predicates same c (step_of s) n ≡ keep_alone c n (exprs (map expr_of s.predicates.items))
+asked_alone {N = N} same c s n h =
+    ap (λ b. if b then keep_alone c n (step_of s).predicates else among) (ap read_no_position (predicates_are s) ∙ h) ∙ ap (keep_alone c n) (predicates_are s)
+  where
+    among : Program N Bool
+    among = Ask (question.Step n axis.Parent (OfType type.Node)) (λ a. holds_of_one (is_given_below same c (step_of s) n) (nodes_in a))
 
-pub no_predicates : {N : Type 0} (same : N → N → Bool) (c : Context N) (s : Step) (n : N) → (length s.predicates.items == 0) ≡ true
-    → passes_predicates same c (step_of s) n ≡ Give true
-no_predicates same c s n h = ap (λ (t : plain.Step). passes_predicates same c t n) (view-Step s) ∙ no_predicates_in same c s n s.predicates.items h
-
-some_predicates_in : {N : Type 0} (same : N → N → Bool) (c : Context N) (s t : plain.Step) (n : N) (es : List Expr) → (length es == 0) ≡ false
-    → t.predicates ≡ exprs (map expr_of es) → t ≡ s
-    → passes_predicates same c s n ≡ Ask (question.Step n axis.Parent (OfType type.Node)) (λ a. holds_of_one (is_given_below same c s n) (nodes_in a))
-some_predicates_in same c s t n [] h is e = absurd (false≢true (sym h))
-some_predicates_in same c s t n (x ∷ xs) h is e = rw (ap (λ (u : plain.Step). u.predicates) (sym e) ∙ is) refl
-
-pub some_predicates : {N : Type 0} (same : N → N → Bool) (c : Context N) (s : Step) (n : N) → (length s.predicates.items == 0) ≡ false
+-- where one does, its parent is asked for
+pub asked_among : {N : Type 0} (same : N → N → Bool) (c : Context N) (s : Step) (n : N) → read_no_position (exprs (map expr_of s.predicates.items)) ≡ false
     → passes_predicates same c (step_of s) n
     ≡ Ask (question.Step n axis.Parent (OfType type.Node)) (λ a. holds_of_one (is_given_below same c (step_of s) n) (nodes_in a))
-some_predicates same c s n h = some_predicates_in same c (step_of s) _ n s.predicates.items h refl (sym (view-Step s))
+asked_among same c s n h =
+    ap (λ b. if b then keep_alone c n (step_of s).predicates else Ask (question.Step n axis.Parent (OfType type.Node)) (λ a. holds_of_one (is_given_below same c (step_of s) n) (nodes_in a)))
+    (ap read_no_position (predicates_are s) ∙ h)
 
 -- the node test of a step
 pub passes_so : {N : Type 0} (same : N → N → Bool) (c : Context N) (s : Step) (n : N) (a : Answer N) {b : Bool} → b ≡ passes s.axis (test_of s.test) a

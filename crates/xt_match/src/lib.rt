@@ -10,6 +10,7 @@
 
 mod choice;
 mod pattern;
+mod position;
 mod predicate;
 mod same;
 mod step;

@@ -149,6 +149,27 @@ fn is_kept_there<W: Evaluate>(
     }
 }
 
+/// Whether predicates that read no position keep a node, asked one after another, up to the first that does not.
+pub(crate) fn keep_alone<W: Evaluate>(
+    alloc: Global,
+    predicates: &[Expr],
+    node: NodeRef,
+    context: &Context,
+    supplies: &Supplies,
+    world: &mut W,
+) -> Result<bool, EvalFault>
+    ensures runs { (focus : code.Focus) → Runs itself (at_hand (supplies_of supplies.now) context.now.depth) context.now.depth (definition.keep_alone (context_of focus context.now) node (exprs (map expr_of predicates.now))) (W.state world.old) (W.state world.new) result }
+    ensures name { W.name world.new ≡ W.name world.old }
+{
+    for predicate in predicates {
+        let is_kept = is_kept(alloc, predicate, node, 1, 1, context, supplies, world)?;
+        if !is_kept {
+            return Ok(false);
+        }
+    }
+    Ok(true)
+}
+
 /// Whether predicates keep a node that is one of these. Of the last predicate the node alone is asked, of those
 /// before it all.
 pub(crate) fn keep<W: Evaluate>(

@@ -13,7 +13,8 @@ ghost use Rattle.xt_ask.specs.View.{answer_of, context_of, supplies_of};
 ghost use Rattle.xt_ask.specs.Runs.{Runs, itself};
 ghost use Rattle.xt_ask.specs.declared.context.Focus as code;
 
-use crate::predicate::keep;
+use crate::position::read_no_position;
+use crate::predicate::{keep, keep_alone};
 use crate::test::passes;
 use spec_document::Axis;
 use std::alloc::Global;
@@ -87,7 +88,7 @@ fn is_given<W: Evaluate>(
     )
 }
 
-// Whether the predicates of a step keep the node.
+// Whether the predicates of a step keep the node. Where they read no position, nothing beside the node is asked for.
 fn passes_predicates<W: Evaluate>(
     alloc: Global,
     step: &Step,
@@ -99,8 +100,9 @@ fn passes_predicates<W: Evaluate>(
     ensures runs { (focus : code.Focus) → Runs itself (at_hand (supplies_of supplies.now) context.now.depth) context.now.depth (definition.passes_predicates same_ref (context_of focus context.now) (step_of step.now) node) (W.state world.old) (W.state world.new) result }
     ensures name { W.name world.new ≡ W.name world.old }
 {
-    if step.predicates.as_slice().is_empty() {
-        Ok(true)
+    let predicates = step.predicates.as_slice();
+    if read_no_position(predicates) {
+        keep_alone(alloc, predicates, node, context, supplies, world)
     } else {
         is_given(alloc, step, node, context, supplies, world)
     }
