@@ -1,166 +1,39 @@
 -- What a content plans never looks at the name of a node: at related nodes it plans the same.
-use Rattle.std.proofs.Common.{◌≡◌, ℕ, suc, List, [], ◌∷◌, ◌++◌, Bool, true, false, cond, not, Option, None, Some, refl, ap, subst}
-use Rattle.std.specs.Prelude.{◌||◌}
+use Rattle.std.proofs.Common.{◌≡◌, ℕ, suc, List, [], ◌∷◌, ◌++◌, Bool, true, false, cond, Option, None, Some, refl, ap, subst}
 use Rattle.spec_document.specs.declared.kind.Kind.{Kind}
 use Rattle.spec_document.specs.declared.kind.Kind.TheVariants as kind
-use Rattle.spec_document.specs.Name.{QName, Expanded, is_ncname, same_name, qname_of}
-use Rattle.spec_document.specs.Scope.{Scope}
-use Rattle.spec_document.specs.Declaration.{element_name, attribute_name, is_reserved_target}
+use Rattle.spec_document.specs.Name.{Expanded, same_name}
 use Rattle.spec_expression.specs.Syntax.{Expr}
 use Rattle.spec_stylesheet.specs.Place.{Place, Site}
-use Rattle.spec_stylesheet.specs.ValueTemplate as template
-use Rattle.spec_stylesheet.specs.ValueTemplate.{Avt, AvtPart}
 use Rattle.spec_stylesheet.specs.Instruction as made
-use Rattle.spec_stylesheet.specs.Instruction.{LiteralAttribute, MadeName, Form, without_content, with_content, control, Control, for_each, conditional, choose}
+use Rattle.spec_stylesheet.specs.Instruction.{LiteralAttribute, Form, without_content, with_content, control, Control, for_each, conditional, choose}
 use Rattle.spec_stylesheet.specs.Instruction.{apply_templates, call_template, Instrs, no_instrs, instr, Branches, no_branches, branch}
+use Rattle.spec_stylesheet.specs.Instruction.{no_bindings, binding, Binding}
 use Rattle.spec_stylesheet.specs.Sheet as sheet
 use Rattle.spec_meaning.specs.Stream.{Stream}
+use Rattle.spec_meaning.specs.Value as value
 use Rattle.spec_meaning.specs.Value.{Value}
 use Rattle.spec_meaning.specs.Question as question
-use Rattle.spec_meaning.specs.Question.{Answer, NamedTemplate, ResolvedUnit, nodes_in, text_in, local_in, uri_in, written_in}
-use Rattle.spec_meaning.specs.Program.{Program, then}
-use Rattle.spec_meaning.specs.Context.{Context}
-use Rattle.spec_meaning.specs.Convert.{first_text, to_text, to_boolean, to_nodes}
+use Rattle.spec_meaning.specs.Question.{Answer, NamedTemplate, nodes_in, text_in, local_in}
+use Rattle.spec_meaning.specs.Program.{Program}
+use Rattle.spec_meaning.specs.Context.{Context, Bound, binding_of}
+use Rattle.spec_meaning.specs.Meaning.{meaning}
 use Rattle.spec_meaning.specs.Related.{Each, none, more, Both, neither, both, Templates, template, resolved, steps, texts, names}
-use Rattle.spec_meaning.specs.Related.{choices, copies, units, Answers, gone, refused, some_nodes, some_text, named, copied, some_unit, passed}
-use Rattle.spec_meaning.specs.Related.{Values, number, text, boolean, nodes, fragment, Contexts, context, Match, gives, refuses, asks, needs}
-use Rattle.spec_meaning.proofs.Matching.{Same, then_match, each_length, meaning_match}
-use Rattle.spec_transform.specs.Expansion.{part_text, joined}
-use Rattle.spec_run.specs.Plan.{nowhere, Call, Plan, End, Inquire, Put, Deep, lift}
-use Rattle.spec_run.specs.Names.{namespace_meant, element_in, element_called, is_barred, element_meant, attribute_in, has_xmlns, attribute_called, attribute_meant}
-use Rattle.spec_run.specs.Names.{instruction_meant}
+use Rattle.spec_meaning.specs.Related.{choices, copies, units, externals, Answers, gone, refused, some_nodes, some_text, named, copied, some_unit, passed}
+use Rattle.spec_meaning.specs.Related.{Values, number, text, boolean, nodes, fragment, Bindings, bound, Contexts, context, Match, gives, refuses, asks, needs}
+use Rattle.spec_meaning.proofs.Matching.{Same, each_length, meaning_match}
+use Rattle.spec_run.specs.Plan.{nowhere, Call, Plan, End, Yield, Inquire, Put, Deep, lift}
 use Rattle.spec_run.specs.Copy.{stream_in}
-use Rattle.spec_run.specs.Content.{Here, deeper, at, context_at, text_meant, nodes_meant, text_item, children_applied, text_put, applied_to, truth_meant, each, target_by, rule_call, template_called}
-use Rattle.spec_run.specs.Content.{called, nodes_copied, value_copied, namespaces_read, kind_in, attributes_put, planned_without, copied_as, planned_with}
-use Rattle.spec_run.specs.Content.{planned, plan, planned_control, planned_branches, declared_planned, unit_planned, built_in, plan_of}
-use Rattle.spec_run.proofs.Related.{Targets, units_of, built_in_both, Calls, calls, Plans, ends, stops, inquires, uses, puts, begins, wraps, deepens, enters}
-use Rattle.spec_run.proofs.Related.{Heres, heres}
-
--- ---- programs
--- the rest of a program, after what has no nodes in it
-pub then_same : {N M A C D : Type 0} {R : N → M → Type 0} {T : C → D → Type 0} {p : Program N A} {q : Program M A} {k : A → Program N C} {l : A → Program M D}
-    → Match R Same p q → ((a : A) → Match R T (k a) (l a)) → Match R T (then p k) (then q l)
-then_same {R = R} {T = T} {k = k} {l = l} h g = then_match h (λ a b e. subst (λ c. Match R T (k a) (l c)) e (g a))
-
-pub either_match : {N M A B : Type 0} {R : N → M → Type 0} {S : A → B → Type 0} (b : Bool) {p q : Program N A} {x y : Program M B}
-    → Match R S p x → Match R S q y → Match R S (cond b p q) (cond b x y)
-either_match true h g = h
-either_match false h g = g
-
-pub nodes_match : {N M : Type 0} {R : N → M → Type 0} {x : Answer N} {y : Answer M} → Answers R x y → Each R (nodes_in x) (nodes_in y)
-nodes_match gone = none
-nodes_match refused = none
-nodes_match (some_nodes h) = h
-nodes_match some_text = none
-nodes_match named = none
-nodes_match copied = none
-nodes_match (some_unit h) = none
-nodes_match passed = none
-
-text_match : {N M : Type 0} {R : N → M → Type 0} {x : Answer N} {y : Answer M} → Answers R x y → text_in x ≡ text_in y
-text_match gone = refl
-text_match refused = refl
-text_match (some_nodes h) = refl
-text_match some_text = refl
-text_match named = refl
-text_match copied = refl
-text_match (some_unit h) = refl
-text_match passed = refl
-
-local_match : {N M : Type 0} {R : N → M → Type 0} {x : Answer N} {y : Answer M} → Answers R x y → local_in x ≡ local_in y
-local_match gone = refl
-local_match refused = refl
-local_match (some_nodes h) = refl
-local_match some_text = refl
-local_match named = refl
-local_match copied = refl
-local_match (some_unit h) = refl
-local_match passed = refl
-
-first_text_match : {N M : Type 0} {R : N → M → Type 0} {ns : List N} {ms : List M} → Each R ns ms → Match R Same (first_text ns) (first_text ms)
-first_text_match none = gives refl
-first_text_match (more h hs) = asks (texts h) (λ x y e. gives (text_match e))
-
-to_text_match : {N M : Type 0} {R : N → M → Type 0} {v : Value N} {w : Value M} → Values R v w → Match R Same (to_text v) (to_text w)
-to_text_match number = gives refl
-to_text_match text = gives refl
-to_text_match boolean = gives refl
-to_text_match (nodes h) = first_text_match h
-to_text_match fragment = gives refl
-
-pub to_boolean_match : {N M : Type 0} {R : N → M → Type 0} {v : Value N} {w : Value M} → Values R v w → to_boolean v ≡ to_boolean w
-to_boolean_match number = refl
-to_boolean_match text = refl
-to_boolean_match boolean = refl
-to_boolean_match (nodes none) = refl
-to_boolean_match (nodes (more h hs)) = refl
-to_boolean_match fragment = refl
-
-to_nodes_match : {N M : Type 0} {R : N → M → Type 0} {v : Value N} {w : Value M} → Values R v w → Match R (Each R) (to_nodes v) (to_nodes w)
-to_nodes_match number = refuses
-to_nodes_match text = refuses
-to_nodes_match boolean = refuses
-to_nodes_match (nodes h) = gives h
-to_nodes_match fragment = refuses
-
-text_meant_match : {N M : Type 0} {R : N → M → Type 0} (e : Expr) {c : Context N} {d : Context M} → Contexts R c d → Match R Same (text_meant e c) (text_meant e d)
-text_meant_match e h = then_match (meaning_match e h) (λ v w k. to_text_match k)
-
--- ---- strings and names that attribute value templates stand for
-part_text_match : {N M : Type 0} {R : N → M → Type 0} (part : AvtPart) {c : Context N} {d : Context M} → Contexts R c d
-    → Match R Same (part_text part c) (part_text part d)
-part_text_match (template.Text t) h = gives refl
-part_text_match (template.Value e) h = text_meant_match e h
-
-joined_match : {N M : Type 0} {R : N → M → Type 0} (parts : List AvtPart) {c : Context N} {d : Context M} → Contexts R c d
-    → Match R Same (joined parts c) (joined parts d)
-unfolding joined
-joined_match [] h = gives refl
-joined_match (part ∷ parts) h = then_same (part_text_match part h) (λ t. then_same (joined_match parts h) (λ rest. gives refl))
-
-namespace_meant_match : {N M : Type 0} {R : N → M → Type 0} (uri : Option Avt) {c : Context N} {d : Context M} → Contexts R c d
-    → Match R Same (namespace_meant uri c) (namespace_meant uri d)
-namespace_meant_match None h = gives refl
-namespace_meant_match (Some avt) h = then_same (joined_match avt.parts h) (λ uri. gives refl)
-
-element_in_match : {N M : Type 0} {R : N → M → Type 0} (name : List ℕ) (expanded : Option Expanded) → Match R Same (element_in name expanded) (element_in name expanded)
-element_in_match name None = refuses
-element_in_match name (Some expanded) = gives refl
-
-element_called_match : {N M : Type 0} {R : N → M → Type 0} (scope : Scope) (name : List ℕ) (q : Option QName) (uri : Option (List ℕ))
-    → Match R Same (element_called scope name q uri) (element_called scope name q uri)
-element_called_match scope name None uri = gives refl
-element_called_match scope name (Some q) None = element_in_match name (element_name scope q)
-element_called_match scope name (Some q) (Some uri) = gives refl
-
-element_meant_match : {N M : Type 0} {R : N → M → Type 0} (name : MadeName) {c : Context N} {d : Context M} → Contexts R c d
-    → Match R Same (element_meant name c) (element_meant name d)
-element_meant_match made (context {scope = scope} h g bs) =
-    then_same (joined_match made.name.parts (context h g bs)) (λ name. then_same (namespace_meant_match made.namespace (context h g bs)) (λ uri.
-    either_match (is_barred uri) refuses (element_called_match scope name (qname_of name) uri)))
-
-attribute_in_match : {N M : Type 0} {R : N → M → Type 0} (name : List ℕ) (expanded : Option Expanded)
-    → Match R Same (attribute_in name expanded) (attribute_in name expanded)
-attribute_in_match name None = refuses
-attribute_in_match name (Some expanded) = gives refl
-
-attribute_called_match : {N M : Type 0} {R : N → M → Type 0} (scope : Scope) (name : List ℕ) (q : Option QName) (uri : Option (List ℕ))
-    → Match R Same (attribute_called scope name q uri) (attribute_called scope name q uri)
-attribute_called_match scope name None (Some uri) = gives refl
-attribute_called_match scope name (Some q) (Some uri) = gives refl
-attribute_called_match scope name None None = gives refl
-attribute_called_match scope name (Some q) None = either_match (has_xmlns q) (gives refl) (attribute_in_match name (attribute_name scope q))
-
-attribute_meant_match : {N M : Type 0} {R : N → M → Type 0} (name : MadeName) {c : Context N} {d : Context M} → Contexts R c d
-    → Match R Same (attribute_meant name c) (attribute_meant name d)
-attribute_meant_match made (context {scope = scope} h g bs) =
-    then_same (joined_match made.name.parts (context h g bs)) (λ name. then_same (namespace_meant_match made.namespace (context h g bs)) (λ uri.
-    either_match (is_barred uri) refuses (attribute_called_match scope name (qname_of name) uri)))
-
-instruction_meant_match : {N M : Type 0} {R : N → M → Type 0} (target : Avt) {c : Context N} {d : Context M} → Contexts R c d
-    → Match R Same (instruction_meant target c) (instruction_meant target d)
-instruction_meant_match target h =
-    then_same (joined_match target.parts h) (λ name. either_match (not (is_ncname name) || is_reserved_target name) refuses (gives refl))
+use Rattle.spec_run.specs.Content as content
+use Rattle.spec_run.specs.Content.{Here, deeper, at, with_variable, context_at, text_meant, nodes_meant, truth_meant, each, text_item, target_by}
+use Rattle.spec_run.specs.Content.{rule_call, applied_to, template_called, called, nodes_copied, value_copied, namespaces_read, kind_in, attributes_put}
+use Rattle.spec_run.specs.Content.{planned_without, copied_as, planned_with, is_empty, valued, unless_passed, planned, plan, planned_control}
+use Rattle.spec_run.specs.Content.{planned_branches, with_parameters, may_be_given, unless_given, global_planned, declared_planned, unit_planned}
+use Rattle.spec_run.specs.Content.{asked, children_applied, text_put, built_in, plan_of}
+use Rattle.spec_run.proofs.Related.{Targets, units_of, built_in_both, Calls, calls, Plans, ends, yields, stops, inquires, uses, puts, begins, wraps}
+use Rattle.spec_run.proofs.Related.{takes, deepens, enters, Heres, heres}
+use Rattle.spec_run.proofs.Asking.{nodes_match, text_match, local_match, to_text_match, text_meant_match}
+use Rattle.spec_run.proofs.Asking.{nodes_meant_match, truth_meant_match, joined_match, element_meant_match, attribute_meant_match, instruction_meant_match}
 
 -- ---- plans of programs
 either_plan : {N M : Type 0} {R : N → M → Type 0} (b : Bool) {p q : Plan N} {x y : Plan M} → Plans R p x → Plans R q y → Plans R (cond b p q) (cond b x y)
@@ -217,30 +90,44 @@ target_alike : {N M : Type 0} {R : N → M → Type 0} (mode : Option Expanded) 
 target_alike mode none = built_in_both
 target_alike mode (more h hs) = units_of h
 
-pub rule_call_alike : {N M : Type 0} {R : N → M → Type 0} (by : Place) (mode : Option Expanded) {size also : ℕ} → size ≡ also → {n : N} {m : M} → R n m
-    → (position : ℕ) {x : Answer N} {y : Answer M} → Answers R x y → Calls R (rule_call by mode size n position x) (rule_call by mode also m position y)
-rule_call_alike {R = R} by mode {size = size} same {n = n} {m = m} h position {x = x} {y = y} e =
-    subst (λ s. Calls R (rule_call by mode size n position x) (rule_call by mode s m position y)) same (calls (target_alike mode (nodes_match e)) h none)
+pub rule_call_alike : {N M : Type 0} {R : N → M → Type 0} (by : Place) (mode : Option Expanded) {bs : List (Bound N)} {ds : List (Bound M)}
+    → Each (Bindings R) bs ds → {size also : ℕ} → size ≡ also → {n : N} {m : M} → R n m → (position : ℕ) {x : Answer N} {y : Answer M} → Answers R x y
+    → Calls R (rule_call by mode bs size n position x) (rule_call by mode ds also m position y)
+rule_call_alike {R = R} by mode {bs = bs} {ds = ds} values {size = size} same {n = n} {m = m} h position {x = x} {y = y} e =
+    subst (λ s. Calls R (rule_call by mode bs size n position x) (rule_call by mode ds s m position y)) same
+    (calls (target_alike mode (nodes_match e)) h values)
 
-applied_to_alike : {N M : Type 0} {R : N → M → Type 0} (by : Place) (mode : Option Expanded) {depth also : ℕ} → depth ≡ also → {ns : List N} {ms : List M}
-    → Each R ns ms → {p : Plan N} {q : Plan M} → Plans R p q → Plans R (applied_to by mode depth ns p) (applied_to by mode also ms q)
-applied_to_alike {R = R} by mode {depth = depth} same {ns = ns} {ms = ms} hs {p = p} {q = q} k =
-    subst (λ d. Plans R (applied_to by mode depth ns p) (applied_to by mode d ms q)) same
-    (each_alike (λ n m h position x y e. inquires (choices h) (λ a b s. enters (rule_call_alike by mode (each_length hs) h position s) e)) hs 1 k)
+applied_to_alike : {N M : Type 0} {R : N → M → Type 0} (by : Place) (mode : Option Expanded) {bs : List (Bound N)} {ds : List (Bound M)}
+    → Each (Bindings R) bs ds → {depth also : ℕ} → depth ≡ also → {ns : List N} {ms : List M} → Each R ns ms → {p : Plan N} {q : Plan M} → Plans R p q
+    → Plans R (applied_to by mode bs depth ns p) (applied_to by mode ds also ms q)
+applied_to_alike {R = R} by mode {bs = bs} {ds = ds} values {depth = depth} same {ns = ns} {ms = ms} hs {p = p} {q = q} k =
+    subst (λ d. Plans R (applied_to by mode bs depth ns p) (applied_to by mode ds d ms q)) same
+    (each_alike (λ n m h position x y e. inquires (choices h) (λ a b s. enters (rule_call_alike by mode values (each_length hs) h position s) e)) hs 1 k)
+
+pub either_both : {A B : Type 0} {S : A → B → Type 0} (b : Bool) {x y : Option A} {z w : Option B} → Both S x z → Both S y w
+    → Both S (cond b x y) (cond b z w)
+either_both true h g = h
+either_both false h g = g
 
 template_called_alike : {N M : Type 0} {R : N → M → Type 0} (name : Expanded) {ts : List (NamedTemplate N)} {us : List (NamedTemplate M)} → Each (Templates R) ts us
     → Both R (template_called name ts) (template_called name us)
 template_called_alike name none = neither
 template_called_alike name (more (template {name = own} h) hs) = either_both (same_name own name) (both h) (template_called_alike name hs)
-  where
-    either_both : {A B : Type 0} {S : A → B → Type 0} (b : Bool) {x y : Option A} {z w : Option B} → Both S x z → Both S y w → Both S (cond b x y) (cond b z w)
-    either_both true g k = g
-    either_both false g k = k
 
-called_alike : {N M : Type 0} {R : N → M → Type 0} (site : Site) {h : Here N} {i : Here M} → Heres R h i → {n : Option N} {m : Option M} → Both R n m
-    → {p : Plan N} {q : Plan M} → Plans R p q → Plans R (called site h n p) (called site i m q)
-called_alike site h neither k = puts k
-called_alike site (heres n bs ts ss) (both e) k = enters (calls (units_of e) n none) k
+-- what follows values that are passed
+abbrev After : {N M : Type 0} → (N → M → Type 0) → (List (Bound N) → Plan N) → (List (Bound M) → Plan M) → Type 0
+After {N = N} {M = M} R k l = (bs : List (Bound N)) (ds : List (Bound M)) → Each (Bindings R) bs ds → Plans R (k bs) (l ds)
+
+-- values that are passed, before what follows them
+abbrev Passing : {N M : Type 0} → (N → M → Type 0) → ((List (Bound N) → Plan N) → Plan N) → ((List (Bound M) → Plan M) → Plan M) → Type 0
+Passing {N = N} {M = M} R passing other =
+    (k : List (Bound N) → Plan N) (l : List (Bound M) → Plan M) → After R k l → Plans R (passing k) (other l)
+
+called_alike : {N M : Type 0} {R : N → M → Type 0} (site : Site) {h : Here N} {i : Here M} → Heres R h i
+    → {passing : (List (Bound N) → Plan N) → Plan N} {other : (List (Bound M) → Plan M) → Plan M} → Passing R passing other
+    → {n : Option N} {m : Option M} → Both R n m → {p : Plan N} {q : Plan M} → Plans R p q → Plans R (called site h passing n p) (called site i other m q)
+called_alike site h inner neither k = puts k
+called_alike site (heres n bs ts ss) inner (both e) k = puts (inner _ _ (λ bs ds values. enters (calls (units_of e) n values) k))
 
 -- ---- copies
 stream_match : {N M : Type 0} {R : N → M → Type 0} {x : Answer N} {y : Answer M} → Answers R x y → stream_in x ≡ stream_in y
@@ -333,7 +220,34 @@ with_alike site h made.Comment inner k = begins (inner _ _ (wraps k))
 with_alike site h (made.ProcessingInstruction target) inner k = asked_same site h (λ c d s. instruction_meant_match target s) (λ w. begins (inner _ _ (wraps k)))
 with_alike site h (made.Copy sets) inner k = inquires (names (node_here h)) (λ x y e. copied_as_alike h e inner k)
 with_alike site h (made.Variable name select) inner k = puts k
-with_alike site h (made.Message terminates) inner k = puts k
+with_alike site h (made.Message terminates) inner k = begins (inner _ _ (wraps (either_plan terminates stops k)))
+
+-- ---- variables and parameters
+variable_alike : {N M : Type 0} {R : N → M → Type 0} (name : Expanded) {v : Value N} {w : Value M} → Values R v w → {h : Here N} {i : Here M} → Heres R h i
+    → Heres R (with_variable name v h) (with_variable name w i)
+variable_alike name e (heres n bs ts ss) = heres n (more (bound e) bs) ts ss
+
+-- what follows a value
+abbrev Later : {N M : Type 0} → (N → M → Type 0) → (Value N → Plan N) → (Value M → Plan M) → Type 0
+Later {N = N} {M = M} R k l = (v : Value N) (w : Value M) → Values R v w → Plans R (k v) (l w)
+
+valued_alike : {N M : Type 0} {R : N → M → Type 0} (site : Site) {h : Here N} {i : Here M} → Heres R h i → (select : Option Expr) (is_empty : Bool)
+    → {inside : Plan N → Plan N} {other : Plan M → Plan M} → Inside R inside other → {k : Value N → Plan N} {l : Value M → Plan M} → Later R k l
+    → Plans R (valued site h select is_empty inside k) (valued site i select is_empty other l)
+valued_alike site h (Some e) is_empty inner next = asked_alike site h (λ c d s. meaning_match e s) (λ v w s. puts (next v w s))
+valued_alike site h None true inner next = puts (next _ _ text)
+valued_alike site h None false inner next = begins (inner _ _ (takes (λ s. next _ _ fragment)))
+
+binding_alike : {N M : Type 0} {R : N → M → Type 0} (name : Expanded) {bs : List (Bound N)} {ds : List (Bound M)} → Each (Bindings R) bs ds
+    → Both (Values R) (binding_of name bs) (binding_of name ds)
+binding_alike name none = neither
+binding_alike name (more (bound {name = own} h) hs) = either_both (same_name own name) (both h) (binding_alike name hs)
+
+unless_passed_alike : {N M : Type 0} {R : N → M → Type 0} {v : Option (Value N)} {w : Option (Value M)} → Both (Values R) v w
+    → {p : Plan N} {q : Plan M} → Plans R p q → {k : Value N → Plan N} {l : Value M → Plan M} → Later R k l
+    → Plans R (unless_passed v p k) (unless_passed w q l)
+unless_passed_alike neither default next = default
+unless_passed_alike (both h) default next = puts (next _ _ h)
 
 depth_alike : {N M : Type 0} {R : N → M → Type 0} {h : Here N} {i : Here M} → Heres R h i → h.depth ≡ i.depth
 depth_alike (heres n bs ts ss) = refl
@@ -341,26 +255,50 @@ depth_alike (heres n bs ts ss) = refl
 templates_alike : {N M : Type 0} {R : N → M → Type 0} {h : Here N} {i : Here M} → Heres R h i → Each (Templates R) h.templates i.templates
 templates_alike (heres n bs ts ss) = ts
 
-nodes_meant_match : {N M : Type 0} {R : N → M → Type 0} (e : Expr) {c : Context N} {d : Context M} → Contexts R c d
-    → Match R (Each R) (nodes_meant e c) (nodes_meant e d)
-nodes_meant_match e h = then_match (meaning_match e h) (λ v w k. to_nodes_match k)
+-- what follows where an instruction stands, with what it declares
+abbrev Following : {N M : Type 0} → (N → M → Type 0) → (Here N → Plan N) → (Here M → Plan M) → Type 0
+Following {N = N} {M = M} R rest other = (h : Here N) (i : Here M) → Heres R h i → Plans R (rest h) (other i)
 
-truth_meant_match : {N M : Type 0} {R : N → M → Type 0} (e : Expr) {c : Context N} {d : Context M} → Contexts R c d
-    → Match R Same (truth_meant e c) (truth_meant e d)
-truth_meant_match e h = then_match (meaning_match e h) (λ v w k. gives (to_boolean_match k))
+inside_alike : {N M : Type 0} {R : N → M → Type 0} (site : Site) (is : Instrs) {h : Here N} {i : Here M} → Heres R h i
+    → Inside R (planned is (deeper h)) (planned is (deeper i))
+    → Inside R (λ p. Deep (suc h.depth) site.place (planned is (deeper h) p)) (λ q. Deep (suc i.depth) site.place (planned is (deeper i) q))
+inside_alike site is h inner p q k = deep_alike site.place h (inner p q k)
+
+-- an instruction with a content
+content_alike : {N M : Type 0} {R : N → M → Type 0} (site : Site) (what : made.WithContent) (is : Instrs) {h : Here N} {i : Here M} → Heres R h i
+    → Inside R (planned is (deeper h)) (planned is (deeper i)) → {rest : Here N → Plan N} {other : Here M → Plan M} → Following R rest other
+    → Plans R (plan site (with_content what is) h rest) (plan site (with_content what is) i other)
+content_alike site (made.Variable name select) is h inner next =
+    valued_alike site h select (is_empty is) (inside_alike site is h inner) (λ v w e. next _ _ (variable_alike name e h))
+content_alike site (made.Literal tag) is h inner next = with_alike site h (made.Literal tag) (inside_alike site is h inner) (next _ _ h)
+content_alike site (made.Element name sets) is h inner next = with_alike site h (made.Element name sets) (inside_alike site is h inner) (next _ _ h)
+content_alike site (made.Attribute name) is h inner next = with_alike site h (made.Attribute name) (inside_alike site is h inner) (next _ _ h)
+content_alike site made.Comment is h inner next = with_alike site h made.Comment (inside_alike site is h inner) (next _ _ h)
+content_alike site (made.ProcessingInstruction target) is h inner next =
+    with_alike site h (made.ProcessingInstruction target) (inside_alike site is h inner) (next _ _ h)
+content_alike site (made.Copy sets) is h inner next = with_alike site h (made.Copy sets) (inside_alike site is h inner) (next _ _ h)
+content_alike site (made.Message terminates) is h inner next = with_alike site h (made.Message terminates) (inside_alike site is h inner) (next _ _ h)
 
 mutual
   -- a content plans the same
   pub planned_alike : {N M : Type 0} {R : N → M → Type 0} (is : Instrs) {h : Here N} {i : Here M} → Heres R h i → {p : Plan N} {q : Plan M} → Plans R p q
       → Plans R (planned is h p) (planned is i q)
   planned_alike no_instrs h k = k
-  planned_alike (instr site form is) h k = plan_alike site form h (planned_alike is h k)
+  planned_alike (instr site form is) h k = plan_alike site form h (λ a b e. planned_alike is e k)
 
-  plan_alike : {N M : Type 0} {R : N → M → Type 0} (site : Site) (form : Form) {h : Here N} {i : Here M} → Heres R h i → {p : Plan N} {q : Plan M} → Plans R p q
-      → Plans R (plan site form h p) (plan site form i q)
-  plan_alike site (without_content what) h k = without_alike site h what k
-  plan_alike site (with_content what is) h k = with_alike site h what (λ p q e. deep_alike site.place h (planned_alike is (deeper_alike h) e)) k
-  plan_alike site (control c) h k = control_alike site c h k
+  plan_alike : {N M : Type 0} {R : N → M → Type 0} (site : Site) (form : Form) {h : Here N} {i : Here M} → Heres R h i
+      → {rest : Here N → Plan N} {other : Here M → Plan M} → Following R rest other → Plans R (plan site form h rest) (plan site form i other)
+  plan_alike site (without_content what) h next = without_alike site h what (next _ _ h)
+  plan_alike site (with_content what is) h next = content_alike site what is h (λ p q e. planned_alike is (deeper_alike h) e) next
+  plan_alike site (control c) h next = control_alike site c h (next _ _ h)
+
+  passed_alike : {N M : Type 0} {R : N → M → Type 0} (bs : made.Bindings) {h : Here N} {i : Here M} → Heres R h i
+      → {done : List (Bound N)} {also : List (Bound M)} → Each (Bindings R) done also
+      → {k : List (Bound N) → Plan N} {l : List (Bound M) → Plan M} → After R k l → Plans R (content.passed bs h done k) (content.passed bs i also l)
+  passed_alike no_bindings h sofar next = next _ _ sofar
+  passed_alike (binding site name select is rest) h sofar next =
+      valued_alike site h select (is_empty is) (λ p q e. deep_alike site.place h (planned_alike is (deeper_alike h) e))
+      (λ v w e. passed_alike rest h (more (bound e) sofar) next)
 
   control_alike : {N M : Type 0} {R : N → M → Type 0} (site : Site) (c : Control) {h : Here N} {i : Here M} → Heres R h i → {p : Plan N} {q : Plan M} → Plans R p q
       → Plans R (planned_control site c h p) (planned_control site c i q)
@@ -371,8 +309,10 @@ mutual
       asked_same site h (λ c d s. truth_meant_match e s) (λ b. either_plan b (deep_alike site.place h (planned_alike is (deeper_alike h) k)) (puts k))
   control_alike site (choose bs) h k = branches_alike bs h k
   control_alike site (apply_templates s bs) h k =
-      asked_alike site h (λ c d e. nodes_meant_match s.select e) (λ ns ms e. puts (applied_to_alike site.place s.mode (depth_alike h) e k))
-  control_alike site (call_template name bs) h k = called_alike site h (template_called_alike name (templates_alike h)) k
+      asked_alike site h (λ c d e. nodes_meant_match s.select e) (λ ns ms e. puts
+      (passed_alike bs h none (λ xs ys values. applied_to_alike site.place s.mode values (depth_alike h) e k)))
+  control_alike site (call_template name bs) h k =
+      called_alike site h (λ f g next. passed_alike bs h none next) (template_called_alike name (templates_alike h)) k
 
   branches_alike : {N M : Type 0} {R : N → M → Type 0} (bs : Branches) {h : Here N} {i : Here M} → Heres R h i → {p : Plan N} {q : Plan M} → Plans R p q
       → Plans R (planned_branches bs h p) (planned_branches bs i q)
@@ -383,26 +323,66 @@ mutual
       either_plan b (deep_alike site.place h (planned_alike is (deeper_alike h) k)) (branches_alike rest h k))
 
 -- ---- instantiations
-declared_alike : {N M : Type 0} {R : N → M → Type 0} (d : sheet.Declared) {h : Here N} {i : Here M} → Heres R h i
-    → Plans R (declared_planned d h) (declared_planned d i)
-declared_alike (sheet.ATemplate t) h = planned_alike t.content h ends
-declared_alike (sheet.AGlobal g) h = ends
-declared_alike (sheet.ASet s) h = ends
-declared_alike (sheet.AKey k) h = ends
+with_parameters_alike : {N M : Type 0} {R : N → M → Type 0} (bs : made.Bindings) {given : List (Bound N)} {also : List (Bound M)} → Each (Bindings R) given also
+    → {h : Here N} {i : Here M} → Heres R h i → {k : Here N → Plan N} {l : Here M → Plan M} → Following R k l
+    → Plans R (with_parameters bs given h k) (with_parameters bs also i l)
+with_parameters_alike no_bindings values h next = next _ _ h
+with_parameters_alike {R = R} (binding site name select is rest) {given = given} {also = also} values {h = h} {i = i} e {k = k} {l = l} next =
+    let later : Later R (λ v. with_parameters rest given (with_variable name v h) k) (λ w. with_parameters rest also (with_variable name w i) l) =
+    λ v w own. with_parameters_alike rest values (variable_alike name own e) next in
+    unless_passed_alike (binding_alike name values)
+    (valued_alike site e select (is_empty is) (λ p q g. deep_alike site.place e (planned_alike is (deeper_alike e) g)) later) later
 
-unit_alike : {N M : Type 0} {R : N → M → Type 0} (n : N) (m : M) → R n m → {x : Answer N} {y : Answer M} → Answers R x y
-    → Plans R (unit_planned n x) (unit_planned m y)
-unit_alike n m h gone = ends
-unit_alike n m h refused = ends
-unit_alike n m h (some_nodes ns) = ends
-unit_alike n m h some_text = ends
-unit_alike n m h named = ends
-unit_alike n m h copied = ends
-unit_alike n m h (some_unit (resolved {unit = unit} ts ss)) = declared_alike unit.declared (heres h none ts ss)
-unit_alike n m h passed = ends
+-- what a global with this select holds
+abbrev held_with : {N : Type 0} → Binding → Here N → Option Expr → Plan N
+held_with b h select = elim select [
+  | Some e ↦ asked b.site h (meaning e) (λ v. Yield v)
+  | None ↦ cond (is_empty b.content) (Yield (value.Text [])) (planned b.content h End)
+]
+
+held_with_alike : {N M : Type 0} {R : N → M → Type 0} (b : Binding) {h : Here N} {i : Here M} → Heres R h i → (select : Option Expr)
+    → Plans R (held_with b h select) (held_with b i select)
+held_with_alike b h (Some e) = asked_alike b.site h (λ c d s. meaning_match e s) (λ v w s. yields s)
+held_with_alike b h None = either_plan (is_empty b.content) (yields text) (planned_alike b.content h ends)
+
+unless_given_alike : {N M : Type 0} {R : N → M → Type 0} {x : Answer N} {y : Answer M} → Answers R x y → {p : Plan N} {q : Plan M} → Plans R p q
+    → Plans R (unless_given x p) (unless_given y q)
+unless_given_alike gone own = own
+unless_given_alike refused own = own
+unless_given_alike (some_nodes h) own = own
+unless_given_alike some_text own = own
+unless_given_alike named own = own
+unless_given_alike copied own = own
+unless_given_alike (some_unit u) own = own
+unless_given_alike (passed {text = None}) own = own
+unless_given_alike (passed {text = Some t}) own = yields text
+
+global_alike : {N M : Type 0} {R : N → M → Type 0} (g : sheet.GlobalBinding) {h : Here N} {i : Here M} → Heres R h i
+    → Plans R (global_planned g h) (global_planned g i)
+global_alike g h =
+    either_plan (may_be_given g) (inquires externals (λ x y e. unless_given_alike e (held_with_alike g.binding h g.binding.select)))
+    (held_with_alike g.binding h g.binding.select)
+
+declared_alike : {N M : Type 0} {R : N → M → Type 0} (d : sheet.Declared) {given : List (Bound N)} {also : List (Bound M)} → Each (Bindings R) given also
+    → {h : Here N} {i : Here M} → Heres R h i → Plans R (declared_planned d given h) (declared_planned d also i)
+declared_alike (sheet.ATemplate t) values h = with_parameters_alike t.parameters values h (λ a b e. planned_alike t.content e ends)
+declared_alike (sheet.AGlobal g) values h = global_alike g h
+declared_alike (sheet.ASet s) values h = ends
+declared_alike (sheet.AKey k) values h = ends
+
+unit_alike : {N M : Type 0} {R : N → M → Type 0} (n : N) (m : M) → R n m → {given : List (Bound N)} {also : List (Bound M)} → Each (Bindings R) given also
+    → {x : Answer N} {y : Answer M} → Answers R x y → Plans R (unit_planned n given x) (unit_planned m also y)
+unit_alike n m h values gone = ends
+unit_alike n m h values refused = ends
+unit_alike n m h values (some_nodes ns) = ends
+unit_alike n m h values some_text = ends
+unit_alike n m h values named = ends
+unit_alike n m h values copied = ends
+unit_alike n m h values (some_unit (resolved {unit = unit} ts ss)) = declared_alike unit.declared values (heres h none ts ss)
+unit_alike n m h values passed = ends
 
 children_alike : {N M : Type 0} {R : N → M → Type 0} (mode : Option Expanded) {n : N} {m : M} → R n m → Plans R (children_applied mode n) (children_applied mode m)
-children_alike mode h = inquires (steps h) (λ x y e. applied_to_alike nowhere mode refl (nodes_match e) ends)
+children_alike mode h = inquires (steps h) (λ x y e. applied_to_alike nowhere mode none refl (nodes_match e) ends)
 
 text_put_alike : {N M : Type 0} {R : N → M → Type 0} {n : N} {m : M} → R n m → Plans R (text_put n) (text_put m)
 text_put_alike h = inquires (texts h) (λ x y e. put_alike (ap text_item (text_match e)) ends)
@@ -444,5 +424,5 @@ built_in_alike {R = R} mode {n = n} {m = m} h = inquires (names h) (λ x y e.
 
 -- a call plans the same
 pub plan_of_alike : {N M : Type 0} {R : N → M → Type 0} {c : Call N} {d : Call M} → Calls R c d → Plans R (plan_of c) (plan_of d)
-plan_of_alike (calls (units_of e) h bs) = inquires (units e) (λ x y s. unit_alike _ _ h s)
+plan_of_alike (calls (units_of e) h bs) = inquires (units e) (λ x y s. unit_alike _ _ h bs s)
 plan_of_alike (calls (built_in_both {mode = mode}) h bs) = built_in_alike mode h

@@ -3,10 +3,8 @@ use Rattle.std.proofs.Common.{◌≡◌, ℕ, ◌+◌, List, [], ◌∷◌, leng
 use Rattle.std.specs.Prelude.{◌||◌, reverse}
 use Rattle.std.specs.List.{list_any}
 use Rattle.spec_document.specs.declared.axis.Axis.{Axis}
-use Rattle.spec_document.specs.declared.axis.Axis.TheVariants as axis
 use Rattle.spec_document.specs.Name.{Expanded}
-use Rattle.spec_expression.specs.declared.NodeType.TheVariants as type
-use Rattle.spec_expression.specs.Syntax.{Test, OfType, Expr, Exprs, no_exprs, expr, Step}
+use Rattle.spec_expression.specs.Syntax.{Test, Expr, Exprs, no_exprs, expr, Step}
 use Rattle.spec_stylesheet.specs.declared.pattern.Separator.{Separator}
 use Rattle.spec_stylesheet.specs.declared.pattern.Start.{Start}
 use Rattle.spec_stylesheet.specs.declared.pattern.Start.TheVariants.{Anywhere, Root, Id, Key}
@@ -14,19 +12,19 @@ use Rattle.spec_stylesheet.specs.Pattern.{PatternStep, Alternative}
 use Rattle.spec_stylesheet.specs.Sheet as sheet
 use Rattle.spec_stylesheet.specs.Sheet.{Rule}
 use Rattle.spec_meaning.specs.Value.{Value}
-use Rattle.spec_meaning.specs.Question as question
-use Rattle.spec_meaning.specs.Question.{Answer, Candidates, nodes_in}
-use Rattle.spec_meaning.specs.Program.{Program, Give, Ask}
+use Rattle.spec_meaning.specs.Question.{Answer, Candidates}
+use Rattle.spec_meaning.specs.Program.{Program}
 use Rattle.spec_meaning.specs.Context.{Context}
 use Rattle.spec_meaning.specs.Meaning.{keeps}
 use Rattle.spec_meaning.specs.Related.{Each, none, more, steps, names, keys, Answers, gone, refused, some_nodes, some_text, named, copied, some_unit, passed}
 use Rattle.spec_meaning.specs.Related.{Values, number, text, boolean, nodes, fragment, Contexts, context, Match, gives, refuses, asks, needs}
 use Rattle.spec_meaning.proofs.Matching.{Same, then_match, each_append, each_length, meaning_match}
-use Rattle.spec_transform.specs.Match.{passes, caught, is_kept, all_kept, position_of, is_kept_there, keep, holds_of_one, is_given_below}
-use Rattle.spec_transform.specs.Match.{passes_step, is_root, starts_at, when_called, is_free, holds_above, matches_steps}
+use Rattle.spec_transform.specs.Match.{passes, caught, is_kept, all_kept, position_of, is_kept_there, keep, keep_alone, holds_of_one, is_given_below}
+use Rattle.spec_transform.specs.Match.{passes_predicates, passes_step, is_root, starts_at, when_called, is_free, holds_above, matches_steps}
 use Rattle.spec_transform.specs.Match.{matches_one}
+use Rattle.spec_transform.specs.Position.{read_no_position}
 use Rattle.spec_transform.specs.Choice.{may_be_chosen, context_for, first_that_matches, chosen}
-use Rattle.spec_run.proofs.Alike.{then_same, either_match, nodes_match, to_boolean_match}
+use Rattle.spec_run.proofs.Asking.{then_same, either_match, nodes_match, to_boolean_match}
 
 -- two tests that tell names apart alike
 abbrev pub TellAlike : {N M : Type 0} → (N → M → Type 0) → (N → N → Bool) → (M → M → Bool) → Type 0
@@ -102,33 +100,32 @@ keep_match same like alike h k no_exprs g = gives refl
 keep_match same like alike h k (expr p no_exprs) g = there_match p h (each_length g) k (position_match same like alike k 1 g)
 keep_match same like alike h k (expr p (expr q ps)) g = then_match (all_kept_alike p h g) (λ ns ms e. keep_match same like alike h k (expr q ps) e)
 
+-- of a node alone
+alone_match : {N M : Type 0} {R : N → M → Type 0} {c : Context N} {d : Context M} → Contexts R c d → {n : N} {m : M} → R n m → (predicates : Exprs)
+    → Match R Same (keep_alone c n predicates) (keep_alone d m predicates)
+alone_match h k no_exprs = gives refl
+alone_match h k (expr p ps) = then_same (is_kept_match p h 1 1 k) (λ b. either_match b (alone_match h k ps) (gives refl))
+
 -- ---- steps
 holds_match : {N M : Type 0} {R : N → M → Type 0} {f : N → Program N Bool} {g : M → Program M Bool} → ((n : N) (m : M) → R n m → Match R Same (f n) (g m))
     → {ns : List N} {ms : List M} → Each R ns ms → Match R Same (holds_of_one f ns) (holds_of_one g ms)
 holds_match alike none = gives refl
 holds_match alike (more h hs) = then_same (alike _ _ h) (λ b. either_match b (gives refl) (holds_match alike hs))
 
--- predicates at the parent of a node
-abbrev asked_below : {N : Type 0} → (N → N → Bool) → Context N → Step → N → Exprs → Program N Bool
-asked_below same c s n ps = elim ps [
-  | no_exprs ↦ Give true
-  | expr p ps ↦ Ask (question.Step n axis.Parent (OfType type.Node)) (λ a. holds_of_one (is_given_below same c s n) (nodes_in a))
-]
-
 given_below_match : {N M : Type 0} {R : N → M → Type 0} (same : N → N → Bool) (like : M → M → Bool) → TellAlike R same like → {c : Context N} {d : Context M} → Contexts R c d
     → (s : Step) (n : N) (m : M) → R n m → (o : N) (p : M) → R o p → Match R Same (is_given_below same c s n o) (is_given_below like d s m p)
 given_below_match same like alike h s n m k o p g = asks (steps g) (λ x y e. keep_match same like alike h k s.predicates (nodes_match e))
 
 predicates_match : {N M : Type 0} {R : N → M → Type 0} (same : N → N → Bool) (like : M → M → Bool) → TellAlike R same like → {c : Context N} {d : Context M} → Contexts R c d
-    → (s : Step) (n : N) (m : M) → R n m → (ps : Exprs) → Match R Same (asked_below same c s n ps) (asked_below like d s m ps)
-predicates_match same like alike h s n m k no_exprs = gives refl
-predicates_match same like alike h s n m k (expr p ps) =
-    asks (steps k) (λ x y e. holds_match (given_below_match same like alike h s n m k) (nodes_match e))
+    → (s : Step) (n : N) (m : M) → R n m → Match R Same (passes_predicates same c s n) (passes_predicates like d s m)
+predicates_match same like alike h s n m k =
+    either_match (read_no_position s.predicates) (alone_match h k s.predicates)
+    (asks (steps k) (λ x y e. holds_match (given_below_match same like alike h s n m k) (nodes_match e)))
 
 step_match : {N M : Type 0} {R : N → M → Type 0} (same : N → N → Bool) (like : M → M → Bool) → TellAlike R same like → {c : Context N} {d : Context M} → Contexts R c d
     → (s : Step) (n : N) (m : M) → R n m → {x : Answer N} {y : Answer M} → Answers R x y → Match R Same (passes_step same c s n x) (passes_step like d s m y)
 step_match same like alike h s n m k {y = y} e =
-    rw (passes_match s.axis s.test e) (either_match (passes s.axis s.test y) (predicates_match same like alike h s n m k s.predicates) (gives refl))
+    rw (passes_match s.axis s.test e) (either_match (passes s.axis s.test y) (predicates_match same like alike h s n m k) (gives refl))
 
 -- ---- patterns
 any_match : {N M : Type 0} {R : N → M → Type 0} (same : N → N → Bool) (like : M → M → Bool) → TellAlike R same like → {n : N} {m : M} → R n m

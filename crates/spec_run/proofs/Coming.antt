@@ -12,7 +12,7 @@ use Rattle.spec_compile.specs.Sheet.{fault_in, answer_by, earlier_of, IsRead, re
 use Rattle.spec_compile.proofs.Answers.{IsNotWanting, some_value}
 use Rattle.spec_compile.proofs.Readings.{OneAnswer, one_value}
 use Rattle.spec_compile.proofs.Modules.{some_same, one_fault}
-use Rattle.spec_run.specs.Documents.{Documents, main_name}
+use Rattle.spec_run.specs.Documents.{Parameters, Documents, main_name}
 use Rattle.spec_run.specs.NotYet.{not_yet_of}
 use Rattle.spec_run.specs.Outcome.{Outcome, IsStylesheet, faulty, well, outcome_of, Comes, IsOutcome}
 
@@ -86,22 +86,23 @@ some_stylesheet modules names main tree sheets finite is none =
 
 -- ---- The outcome
 
-one_comes : OneSheet → OneAnswer → (modules : Modules) (main source : Option Plain) (a b : Outcome) → Comes modules main source a
-    → Comes modules main source b → a ≡ b
-one_comes sheets one modules None source a b h g = h ∙ sym g
-one_comes sheets one modules (Some main) None a b h g = h ∙ sym g
-one_comes sheets one modules (Some main) (Some source) a b h g = h.2 ∙ ap (outcome_of source) (one_stylesheet sheets one h.1 g.1) ∙ sym g.2
+one_comes : OneSheet → OneAnswer → (modules : Modules) (parameters : Parameters) (main source : Option Plain) (a b : Outcome)
+    → Comes modules parameters main source a → Comes modules parameters main source b → a ≡ b
+one_comes sheets one modules parameters None source a b h g = h ∙ sym g
+one_comes sheets one modules parameters (Some main) None a b h g = h ∙ sym g
+one_comes sheets one modules parameters (Some main) (Some source) a b h g =
+    h.2 ∙ ap (outcome_of parameters source) (one_stylesheet sheets one h.1 g.1) ∙ sym g.2
 
-some_comes : SomeSheet → (modules : Modules) (names : List (List ℕ)) → Finite modules names → (main source : Option Plain) → modules main_name ≡ main
-    → IsNotWanting (Comes modules main source)
-some_comes sheets modules names finite None source is none = none (_, refl)
-some_comes sheets modules names finite (Some main) None is none = none (_, refl)
-some_comes sheets modules names finite (Some main) (Some source) is none =
-    some_stylesheet modules names main_name main sheets finite is (λ r. none (outcome_of source r.0, (r.0, r.1, refl)))
+some_comes : SomeSheet → (modules : Modules) (parameters : Parameters) (names : List (List ℕ)) → Finite modules names → (main source : Option Plain)
+    → modules main_name ≡ main → IsNotWanting (Comes modules parameters main source)
+some_comes sheets modules parameters names finite None source is none = none (_, refl)
+some_comes sheets modules parameters names finite (Some main) None is none = none (_, refl)
+some_comes sheets modules parameters names finite (Some main) (Some source) is none =
+    some_stylesheet modules names main_name main sheets finite is (λ r. none (outcome_of parameters source r.0, (r.0, r.1, refl)))
 
 pub one_outcome_lem : OneSheet → OneAnswer → (documents : Documents) (one other : Outcome) → IsOutcome documents one → IsOutcome documents other
     → one ≡ other
-one_outcome_lem sheets one documents a b h g = one_comes sheets one documents.modules (documents.modules main_name) documents.source a b h g
+one_outcome_lem sheets one documents a b h g = one_comes sheets one documents.modules documents.parameters (documents.modules main_name) documents.source a b h g
 
 pub some_outcome : SomeSheet → (documents : Documents) (names : List (List ℕ)) → Finite documents.modules names → IsNotWanting (IsOutcome documents)
-some_outcome sheets documents names finite = some_comes sheets documents.modules names finite (documents.modules main_name) documents.source refl
+some_outcome sheets documents names finite = some_comes sheets documents.modules documents.parameters names finite (documents.modules main_name) documents.source refl

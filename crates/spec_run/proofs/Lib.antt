@@ -4,6 +4,7 @@ pub mod Trails
 pub mod More
 pub mod Cuts
 pub mod Related
+pub mod Asking
 pub mod Alike
 pub mod Meanings
 pub mod Chosen

@@ -19,7 +19,7 @@ use Rattle.spec_run.specs.Meaning.{meaning, Whole, refusal_of, after_turn, value
 use Rattle.spec_run.proofs.Related.{units_of, Calls, calls, Plans, yields, stops, inquires, uses, puts, begins, wraps, takes, deepens, enters}
 use Rattle.spec_run.proofs.Related as related
 use Rattle.spec_run.proofs.Related.{Supplies, both_know, both_fail, Endings, finished, gave, halted, Come, come, Globals, global, Pasts, pasts}
-use Rattle.spec_run.proofs.Alike.{plan_of_alike, rule_call_alike}
+use Rattle.spec_run.proofs.Alike.{either_both, plan_of_alike, rule_call_alike}
 
 -- ---- one instantiation
 if_known_alike : {N M : Type 0} {R : N → M → Type 0} {f : Given N → Outcome N} {g : Given M → Outcome M}
@@ -94,10 +94,6 @@ element_alike : {N M : Type 0} {R : N → M → Type 0} (name : Expanded) {gs : 
     → Both R (element_named name gs) (element_named name fs)
 element_alike name none = neither
 element_alike name (more (global {name = own} h) hs) = either_both (same_name own name) (both h) (element_alike name hs)
-  where
-    either_both : {A B : Type 0} {S : A → B → Type 0} (b : Bool) {x y : Option A} {z w : Option B} → Both S x z → Both S y w → Both S (cond b x y) (cond b z w)
-    either_both true g k = g
-    either_both false g k = k
 
 going_into_alike : {N M : Type 0} {R : N → M → Type 0} (name : Expanded) {p : Past N} {q : Past M} → Pasts R p q → Pasts R (going_into name p) (going_into name q)
 going_into_alike name (pasts h) = pasts h
@@ -185,4 +181,6 @@ run_alike {s = s} {t = t} settings levels (more {xs = gs} {ys = fs} (global {nam
 
 -- runs in such settings come to the same
 pub same_run : {N M : Type 0} {R : N → M → Type 0} (s : Setting N) (t : Setting M) → Settings R s t → run_of s ≡ run_of t
-same_run s t settings = run_alike settings levels_of_a_run settings.globals none [] (rule_call_alike nowhere None refl settings.roots 1 (settings.worlds _ _ (choices settings.roots)))
+same_run s t settings =
+    run_alike settings levels_of_a_run settings.globals none []
+    (rule_call_alike nowhere None none refl settings.roots 1 (settings.worlds _ _ (choices settings.roots)))

@@ -1,7 +1,7 @@
 -- Where the nodes of a source and the elements of a stylesheet are named in two ways, all questions are answered alike.
 use Rattle.std.proofs.Common.{◌≡◌, ℕ, zero, suc, List, [], ◌∷◌, map, filter, Bool, true, false, cond, Option, None, Some, refl, sym, ap, subst, ◌∙◌}
 use Rattle.std.specs.Prelude.{◌||◌, slice_get}
-use Rattle.std.specs.List.{list_any, find}
+use Rattle.std.specs.List.{list_any, find, flat_map}
 use Rattle.std.specs.Option.{ForSome}
 use Rattle.spec_document.specs.Name.{Expanded}
 use Rattle.spec_document.specs.Order.{Entry}
@@ -20,7 +20,11 @@ use Rattle.spec_meaning.proofs.Matching.{Same, each_append, matching}
 use Rattle.spec_meaning.proofs.Named.{worlds}
 use Rattle.spec_transform.specs.Choice.{context_for, chosen}
 use Rattle.spec_run.specs.World.{last_element, template_by, templates_called, is_template, called_in_unit, unit_by, unit_at, no_globals, element_of_unit}
-use Rattle.spec_run.specs.World.{element_of_rule, rule_by, rule_at, truth_by}
+use Rattle.spec_run.specs.World.{element_of_rule, rule_by, rule_at, counts, global_in, globals_of, truth_by}
+use Rattle.spec_run.specs.Documents.{Parameters}
+use Rattle.spec_run.specs.Meaning.{NamedGlobal}
+use Rattle.spec_run.proofs.Related.{Globals, global}
+use Rattle.spec_run.proofs.Meanings.{Settings}
 use Rattle.spec_run.proofs.Copies.{CopiedAlike}
 use Rattle.spec_run.proofs.Chosen.{chosen_match}
 
@@ -142,13 +146,17 @@ same_said (both_give h) = ap (λ x. Gives x) h
 same_said both_refuse = refl
 same_said both_lack = refl
 
+-- the globals of these units
+abbrev globals_in : {K : Type 0} → (Place → K) → List Piece → List (NamedGlobal K)
+globals_in naming us = flat_map (λ u. map (λ name. record { name = name; element = naming u.site.place }) (global_in u.declared)) us
+
 supplied_alike : {K J : Type 0} {R : K → J → Type 0} → SuppliesAlike R (no_globals {K = K}) (no_globals {K = J})
 supplied_alike Position = both counted
 supplied_alike Size = both counted
 supplied_alike (Global name) = neither
 
 module _ {L M K J : Type 0} (key : Entry L → K) (same : K → K → Bool) (naming : Place → K) (also : Entry M → J) (like : J → J → Bool) (calling : Place → J)
-    (s : Sheet) (es : List (Entry L)) (fs : List (Entry M))
+    (s : Sheet) (parameters : Parameters) (es : List (Entry L)) (fs : List (Entry M))
     (alike : Each Alike es fs) (copied_alike : Each CopiedAlike es fs)
     (apart : AreApart key same es) (apart_too : AreApart also like fs)
     (strangers : AreStrangers key same naming s.units es) (strangers_too : AreStrangers also like calling s.units fs)
@@ -198,6 +206,27 @@ module _ {L M K J : Type 0} (key : Entry L → K) (same : K → K → Bool) (nam
   unit_alike None = gone
   unit_alike (Some u) = some_unit (resolved (templates_alike (called_in_unit u.declared)) none)
 
+  -- ---- globals
+  names_alike : {p : Place} → OfUnit s.units p → (own : List Expanded)
+      → Each (Globals One) (map (λ name. record { name = name; element = naming p }) own) (map (λ name. record { name = name; element = calling p }) own)
+  names_alike h [] = none
+  names_alike h (name ∷ own) = more (global (in_module h)) (names_alike h own)
+
+  -- those of a unit that may count, before those after it
+  counted_alike : (b : Bool) (u : Piece) (us : List Piece) → OfUnit s.units u.site.place
+      → Each (Globals One) (globals_in naming us) (globals_in calling us)
+      → Each (Globals One) (globals_in naming (cond b (u ∷ us) us)) (globals_in calling (cond b (u ∷ us) us))
+  counted_alike true u us h hs = each_append (names_alike h (global_in u.declared)) hs
+  counted_alike false u us h hs = hs
+
+  all_alike : (us : List Piece) → ((p : Place) → OfUnit us p → OfUnit s.units p)
+      → Each (Globals One) (globals_in naming (filter (counts s.units) us)) (globals_in calling (filter (counts s.units) us))
+  all_alike [] h = none
+  all_alike (u ∷ us) h = counted_alike (counts s.units u) u (filter (counts s.units) us) (h _ this) (all_alike us (λ p k. h p (that k)))
+
+  pub globals_alike : Each (Globals One) (globals_of naming s.units) (globals_of calling s.units)
+  globals_alike = all_alike s.units (λ p h. h)
+
   -- ---- rules
   element_alike : (k : ℕ) (o : Option Piece) → slice_get s.units k ≡ o → Each One (element_of_unit naming o) (element_of_unit calling o)
   element_alike k None e = none
@@ -238,7 +267,7 @@ module _ {L M K J : Type 0} (key : Entry L → K) (same : K → K → Bool) (nam
   copy_alike : {t u : Stream} → t ≡ u → Answers One (question.Copied t) (question.Copied u)
   copy_alike {t = t} e = subst (λ u. Answers One (question.Copied t) (question.Copied u)) e copied
 
-  pub truths : Worlds One (truth_by key same naming s es) (truth_by also like calling s fs)
+  pub truths : Worlds One (truth_by key same naming s parameters es) (truth_by also like calling s parameters fs)
   truths _ _ (steps (in_source n)) = answers_wider (λ k j h. in_source h) (tree _ _ (steps n))
   truths _ _ (steps (in_module {p = p} h)) = no_entry p h _ _
   truths _ _ (texts (in_source n)) = answers_wider (λ k j h. in_source h) (tree _ _ (texts n))
@@ -251,12 +280,14 @@ module _ {L M K J : Type 0} (key : Entry L → K) (same : K → K → Bool) (nam
   truths _ _ keys = some_nodes none
   truths _ _ (choices {mode = mode} {candidates = candidates} (in_source n)) =
       at_names key also
-      (λ x y. Answers One (truth_by key same naming s es (question.Choice x mode candidates)) (truth_by also like calling s fs (question.Choice y mode candidates)))
+      (λ x y. Answers One (truth_by key same naming s parameters es (question.Choice x mode candidates))
+      (truth_by also like calling s parameters fs (question.Choice y mode candidates)))
       (λ e f b. rw (found key same apart b, found also like apart_too (turned b)) (choice_alike mode candidates (key e) (also f)
       (record { entry = e; other = f; beside = b; named = refl; also_named = refl }))) n
   truths _ _ (choices (in_module {p = p} h)) = no_entry p h _ _
   truths _ _ (copies (in_source n)) =
-      at_names key also (λ x y. Answers One (truth_by key same naming s es (question.Copy x)) (truth_by also like calling s fs (question.Copy y)))
+      at_names key also
+      (λ x y. Answers One (truth_by key same naming s parameters es (question.Copy x)) (truth_by also like calling s parameters fs (question.Copy y)))
       (λ e f b. rw (found key same apart b, found also like apart_too (turned b)) (copy_alike (beside_alike copied_alike b).copies)) n
   truths _ _ (copies (in_module {p = p} h)) = no_entry p h _ _
   truths _ _ (units (in_source n)) =
@@ -270,3 +301,9 @@ module _ {L M K J : Type 0} (key : Entry L → K) (same : K → K → Bool) (nam
       (same_unit (λ q. same (naming p) (naming q)) (λ q. like (calling p) (calling q)) s.units (λ q k. told p q h k))
       (unit_alike (find (λ u. same (naming p) (naming u.site.place)) s.units))
   truths _ _ externals = passed
+
+  -- settings of these worlds, with roots of one name and the globals of the stylesheet
+  pub settings : {k : K} {j : J} → One k j
+      → Settings One (record { ask = truth_by key same naming s parameters es; root = k; globals = globals_of naming s.units })
+      (record { ask = truth_by also like calling s parameters fs; root = j; globals = globals_of calling s.units })
+  settings h = record { worlds = truths; roots = h; globals = globals_alike }

@@ -1,29 +1,30 @@
--- What contents plan (XSLT 1.0, sections 5 to 9 and 11.3). Each plan goes before what comes after it. An instruction evaluates its
+-- What contents plan (XSLT 1.0, sections 5 to 9, 11 and 13). Each plan goes before what comes after it. An instruction evaluates its
 -- attributes, then its content; a content of an element is one level below it.
-use Rattle.std.specs.Prelude.{ℕ, suc, Bool, List, [], ◌∷◌, ◌++◌, length, Option, None, Some, if◌then◌else◌}
+use Rattle.std.specs.Prelude.{ℕ, suc, Bool, true, false, ◌&&◌, List, [], ◌∷◌, ◌++◌, length, Option, None, Some, if◌then◌else◌}
 use Rattle.spec_document.specs.declared.axis.Axis.TheVariants as axis
 use Rattle.spec_document.specs.declared.kind.Kind.{Kind}
 use Rattle.spec_document.specs.declared.kind.Kind.TheVariants as kind
 use Rattle.spec_document.specs.Name.{Expanded, same_name}
 use Rattle.spec_expression.specs.declared.NodeType.TheVariants as type
+use Rattle.spec_expression.specs.declared.code.DynCode.TheVariants as code
 use Rattle.spec_expression.specs.Syntax.{Expr, OfType}
 use Rattle.spec_stylesheet.specs.Place.{Place, Site}
 use Rattle.spec_stylesheet.specs.Instruction as made
-use Rattle.spec_stylesheet.specs.Instruction.{LiteralAttribute, LiteralTag, Form, without_content, with_content, control, Control, for_each, conditional, choose, apply_templates, call_template, Instrs, no_instrs, instr, Branches, no_branches, branch}
+use Rattle.spec_stylesheet.specs.Instruction.{LiteralAttribute, LiteralTag, Form, without_content, with_content, control, Control, for_each, conditional, choose, apply_templates, call_template, Instrs, no_instrs, instr, Branches, no_branches, branch, Bindings, no_bindings, binding, Binding}
 use Rattle.spec_stylesheet.specs.Sheet as sheet
 use Rattle.spec_meaning.specs.Stream as stream
-use Rattle.spec_meaning.specs.Stream.{Stream}
+use Rattle.spec_meaning.specs.Stream.{Stream, filled}
 use Rattle.spec_meaning.specs.Value as value
 use Rattle.spec_meaning.specs.Value.{Value}
 use Rattle.spec_meaning.specs.Question as question
 use Rattle.spec_meaning.specs.Question.{Answer, AllRules, NamedTemplate, NamedSets, ResolvedUnit, nodes_in, text_in, local_in, uri_in, written_in}
 use Rattle.spec_meaning.specs.Program.{Program, Give, ◌>>=◌}
-use Rattle.spec_meaning.specs.Context.{Context, Bound}
+use Rattle.spec_meaning.specs.Context.{Context, Bound, binding_of}
 use Rattle.spec_meaning.specs.Convert.{to_text, to_boolean, to_nodes}
 use Rattle.spec_meaning.specs.Meaning.{meaning}
 use Rattle.spec_result.specs.Shape.{with_prefix}
 use Rattle.spec_transform.specs.Expansion.{expanded}
-use Rattle.spec_run.specs.Plan.{nowhere, Target, UnitOf, BuiltIn, Call, AsElement, AsComment, Plan, End, Inquire, Put, Begin, Wrap, Deep, Enter, lift}
+use Rattle.spec_run.specs.Plan.{Refused, nowhere, Target, UnitOf, BuiltIn, Call, AsElement, AsComment, AsMessage, Plan, End, Yield, Stop, Inquire, Put, Begin, Wrap, Take, Deep, Enter, lift}
 use Rattle.spec_run.specs.Names.{element_meant, attribute_meant, instruction_meant}
 use Rattle.spec_run.specs.Copy.{stream_in, without_attributes}
 
@@ -44,6 +45,18 @@ deeper h = record { node = h.node; position = h.position; size = h.size; binding
 -- at one of the nodes of a loop
 abbrev pub at : {N : Type 0} → N → (position size : ℕ) → Here N → Here N
 at n p size h = record { node = n; position = Some p; size = Some size; bindings = h.bindings; depth = h.depth; templates = h.templates; sets = h.sets }
+
+-- where one more local variable or parameter is in scope, which hides those of its name
+abbrev pub with_variable : {N : Type 0} → Expanded → Value N → Here N → Here N
+with_variable name v h = record {
+  node = h.node;
+  position = h.position;
+  size = h.size;
+  bindings = record { name = name; value = v } ∷ h.bindings;
+  depth = h.depth;
+  templates = h.templates;
+  sets = h.sets;
+}
 
 -- the context of an expression at an element
 abbrev pub context_at : {N : Type 0} → Here N → Site → Context N
@@ -76,16 +89,17 @@ abbrev pub target_by : {N : Type 0} → Option Expanded → List N → Target N
 target_by mode [] = BuiltIn mode
 target_by mode (element ∷ more) = UnitOf element
 
-abbrev pub rule_call : {N : Type 0} → Place → Option Expanded → (size : ℕ) → N → ℕ → Answer N → Call N
-rule_call by mode size n p a =
-    record { target = target_by mode (nodes_in a); node = n; parameters = []; position = Some p; size = Some size; by = by }
+abbrev pub rule_call : {N : Type 0} → Place → Option Expanded → (parameters : List (Bound N)) → (size : ℕ) → N → ℕ → Answer N → Call N
+rule_call by mode parameters size n p a =
+    record { target = target_by mode (nodes_in a); node = n; parameters = parameters; position = Some p; size = Some size; by = by }
 
--- the rule of one of so many nodes is entered, by this element
-abbrev pub applied : {N : Type 0} → Place → Option Expanded → (size depth : ℕ) → N → ℕ → Plan N → Plan N
-applied by mode size depth n p after = Inquire (question.Choice n mode AllRules) (λ a. Enter (rule_call by mode size n p a) depth after)
+-- the rule of one of so many nodes is entered, by this element and with these parameters
+abbrev pub applied : {N : Type 0} → Place → Option Expanded → (parameters : List (Bound N)) → (size depth : ℕ) → N → ℕ → Plan N → Plan N
+applied by mode parameters size depth n p after =
+    Inquire (question.Choice n mode AllRules) (λ a. Enter (rule_call by mode parameters size n p a) depth after)
 
-abbrev pub applied_to : {N : Type 0} → Place → Option Expanded → (depth : ℕ) → List N → Plan N → Plan N
-applied_to by mode depth ns after = each (applied by mode (length ns) depth) 1 ns after
+abbrev pub applied_to : {N : Type 0} → Place → Option Expanded → (parameters : List (Bound N)) → (depth : ℕ) → List N → Plan N → Plan N
+applied_to by mode parameters depth ns after = each (applied by mode parameters (length ns) depth) 1 ns after
 
 -- ---- Named templates (section 6): position and size are those of the caller
 
@@ -93,10 +107,14 @@ abbrev pub template_called : {N : Type 0} → Expanded → List (NamedTemplate N
 template_called name [] = None
 template_called name (t ∷ ts) = if same_name t.name name then Some t.element else template_called name ts
 
-abbrev pub called : {N : Type 0} → Site → Here N → Option N → Plan N → Plan N
-called site h None after = Put stream.Ended after
-called site h (Some element) after =
-    Enter (record { target = UnitOf element; node = h.node; parameters = []; position = h.position; size = h.size; by = site.place }) h.depth after
+abbrev pub template_call : {N : Type 0} → Site → Here N → N → (parameters : List (Bound N)) → Call N
+template_call site h element parameters =
+    record { target = UnitOf element; node = h.node; parameters = parameters; position = h.position; size = h.size; by = site.place }
+
+-- the template of this element, where `passing` is what is passed to it
+abbrev pub called : {N : Type 0} → Site → Here N → (passing : (List (Bound N) → Plan N) → Plan N) → Option N → Plan N → Plan N
+called site h passing None after = Put stream.Ended after
+called site h passing (Some element) after = Put stream.Ended (passing (λ parameters. Enter (template_call site h element parameters) h.depth after))
 
 -- ---- Copies (sections 7.5 and 11.3)
 
@@ -152,6 +170,13 @@ copied_as h a inside after = elim (kind_in a) [
   | kind.Instruction ↦ Inquire (question.Copy h.node) (λ c. Put (stream_in c) after)
 ]
 
+-- a message that terminates ends the run, at its element (section 13)
+abbrev pub terminated : Place → Refused
+terminated place = record { code = code.Terminated; place = place }
+
+abbrev pub unless_terminated : {N : Type 0} → Bool → Place → Plan N → Plan N
+unless_terminated terminates place after = if terminates then Stop (terminated place) else after
+
 -- an instruction with a content, where `inside` is that content before what follows
 abbrev pub planned_with : {N : Type 0} → Site → Here N → made.WithContent → (inside : Plan N → Plan N) → Plan N → Plan N
 planned_with site h (made.Literal tag) inside after =
@@ -161,19 +186,47 @@ planned_with site h (made.Attribute name) inside after = asked site h (attribute
 planned_with site h made.Comment inside after = Begin (inside (Wrap AsComment after))
 planned_with site h (made.ProcessingInstruction target) inside after = asked site h (instruction_meant target) (λ w. Begin (inside (Wrap w after)))
 planned_with site h (made.Copy sets) inside after = Inquire (question.Name h.node) (λ a. copied_as h a inside after)
+planned_with site h (made.Message terminates) inside after = Begin (inside (Wrap AsMessage (unless_terminated terminates site.place after)))
+-- a variable makes nothing of its content: it is what those see that follow it
 planned_with site h (made.Variable name select) inside after = Put stream.Ended after
-planned_with site h (made.Message terminates) inside after = Put stream.Ended after
+
+-- ---- Variables and parameters (section 11)
+
+abbrev pub is_empty : Instrs → Bool
+is_empty no_instrs = true
+is_empty (instr site form is) = false
+
+-- What a variable or a parameter at an element holds: the value of its select; or a fragment of its content, which `inside` is before what
+-- follows; with neither the empty string. A value has no holes, and what is taken has none to fill, since all that is entered has none
+abbrev pub valued : {N : Type 0} → Site → Here N → (select : Option Expr) → (is_empty : Bool) → (inside : Plan N → Plan N) → (Value N → Plan N) → Plan N
+valued site h (Some e) is_empty inside k = asked site h (meaning e) (λ v. Put stream.Ended (k v))
+valued site h None true inside k = Put stream.Ended (k (value.Text []))
+valued site h None false inside k = Begin (inside (Take (λ s. k (value.Fragment (filled s [])))))
+
+-- a parameter that was passed is not evaluated
+abbrev pub unless_passed : {N : Type 0} → Option (Value N) → (default : Plan N) → (Value N → Plan N) → Plan N
+unless_passed None default k = default
+unless_passed (Some v) default k = Put stream.Ended (k v)
 
 abbrev mutual
   pub planned : {N : Type 0} → Instrs → Here N → Plan N → Plan N
   planned no_instrs h after = after
-  planned (instr site form is) h after = plan site form h (planned is h after)
+  planned (instr site form is) h after = plan site form h (λ here. planned is here after)
 
-  -- one instruction
-  pub plan : {N : Type 0} → Site → Form → Here N → Plan N → Plan N
-  plan site (without_content what) h after = planned_without site h what after
-  plan site (with_content what is) h after = planned_with site h what (λ more. Deep (suc h.depth) site.place (planned is (deeper h) more)) after
-  plan site (control c) h after = planned_control site c h after
+  -- One instruction, before the rest of its content. The rest stands where the instruction does, but that it sees a variable
+  pub plan : {N : Type 0} → Site → Form → Here N → (rest : Here N → Plan N) → Plan N
+  plan site (without_content what) h rest = planned_without site h what (rest h)
+  plan site (with_content (made.Variable name select) is) h rest =
+      valued site h select (is_empty is) (λ more. Deep (suc h.depth) site.place (planned is (deeper h) more)) (λ v. rest (with_variable name v h))
+  plan site (with_content what is) h rest = planned_with site h what (λ more. Deep (suc h.depth) site.place (planned is (deeper h) more)) (rest h)
+  plan site (control c) h rest = planned_control site c h (rest h)
+
+  -- what is passed, after what was before it. The last of one name comes first, so that it counts
+  pub passed : {N : Type 0} → Bindings → Here N → List (Bound N) → (List (Bound N) → Plan N) → Plan N
+  passed no_bindings h done k = k done
+  passed (binding site name select is more) h done k =
+      valued site h select (is_empty is) (λ after. Deep (suc h.depth) site.place (planned is (deeper h) after))
+      (λ v. passed more h (record { name = name; value = v } ∷ done) k)
 
   pub planned_control : {N : Type 0} → Site → Control → Here N → Plan N → Plan N
   planned_control site (for_each e keys is) h after =
@@ -183,8 +236,9 @@ abbrev mutual
       asked site h (truth_meant e) (λ b. if b then Deep (suc h.depth) site.place (planned is (deeper h) after) else Put stream.Ended after)
   planned_control site (choose bs) h after = planned_branches bs h after
   planned_control site (apply_templates s bs) h after =
-      asked site h (nodes_meant s.select) (λ ns. Put stream.Ended (applied_to site.place s.mode h.depth ns after))
-  planned_control site (call_template name bs) h after = called site h (template_called name h.templates) after
+      asked site h (nodes_meant s.select) (λ ns. Put stream.Ended
+      (passed bs h [] (λ parameters. applied_to site.place s.mode parameters h.depth ns after)))
+  planned_control site (call_template name bs) h after = called site h (λ k. passed bs h [] k) (template_called name h.templates) after
 
   -- the first branch whose test is true, or that has none
   pub planned_branches : {N : Type 0} → Branches → Here N → Plan N → Plan N
@@ -198,20 +252,51 @@ abbrev mutual
 abbrev pub here_in : {N : Type 0} → N → ResolvedUnit N → Here N
 here_in n u = record { node = n; position = None; size = None; bindings = []; depth = 0; templates = u.templates; sets = u.sets }
 
-abbrev pub declared_planned : {N : Type 0} → sheet.Declared → Here N → Plan N
-declared_planned (sheet.ATemplate t) h = planned t.content h End
-declared_planned (sheet.AGlobal g) h = End
-declared_planned (sheet.ASet s) h = End
-declared_planned (sheet.AKey k) h = End
+-- the parameters of a template, each seen by those after it: what was passed, or its default
+abbrev pub with_parameters : {N : Type 0} → Bindings → (given : List (Bound N)) → Here N → (Here N → Plan N) → Plan N
+with_parameters no_bindings given h k = k h
+with_parameters {N = N} (binding site name select is more) given h k =
+    let rest : Value N → Plan N = λ v. with_parameters more given (with_variable name v h) k in
+    unless_passed (binding_of name given)
+    (valued site h select (is_empty is) (λ after. Deep (suc h.depth) site.place (planned is (deeper h) after)) rest) rest
 
-abbrev pub unit_planned : {N : Type 0} → N → Answer N → Plan N
-unit_planned n (question.Resolved u) = declared_planned u.unit.declared (here_in n u)
-unit_planned n _ = End
+abbrev pub is_no_uri : List ℕ → Bool
+is_no_uri [] = true
+is_no_uri (c ∷ cs) = false
 
--- built-in rules (section 5.8): a root and an element apply templates to their children in the same mode, a text and an attribute give
--- their text, the others nothing
+-- what a global holds (section 11.4). Its content stands at its own level
+abbrev pub held : {N : Type 0} → Binding → Here N → Plan N
+held b h = elim b.select [
+  | Some e ↦ asked b.site h (meaning e) (λ v. Yield v)
+  | None ↦ if is_empty b.content then Yield (value.Text []) else planned b.content h End
+]
+
+-- a parameter at the top whose name has no prefix may be given from outside, as a string
+abbrev pub may_be_given : sheet.GlobalBinding → Bool
+may_be_given g = g.is_parameter && is_no_uri g.binding.name.uri
+
+abbrev pub unless_given : {N : Type 0} → Answer N → Plan N → Plan N
+unless_given (question.Passed (Some text)) own = Yield (value.Text text)
+unless_given _ own = own
+
+abbrev pub global_planned : {N : Type 0} → sheet.GlobalBinding → Here N → Plan N
+global_planned g h =
+    if may_be_given g then Inquire (question.External g.binding.name.local) (λ a. unless_given a (held g.binding h)) else held g.binding h
+
+abbrev pub declared_planned : {N : Type 0} → sheet.Declared → (given : List (Bound N)) → Here N → Plan N
+declared_planned (sheet.ATemplate t) given h = with_parameters t.parameters given h (λ here. planned t.content here End)
+declared_planned (sheet.AGlobal g) given h = global_planned g h
+declared_planned (sheet.ASet s) given h = End
+declared_planned (sheet.AKey k) given h = End
+
+abbrev pub unit_planned : {N : Type 0} → N → (given : List (Bound N)) → Answer N → Plan N
+unit_planned n given (question.Resolved u) = declared_planned u.unit.declared given (here_in n u)
+unit_planned n given _ = End
+
+-- built-in rules (section 5.8): a root and an element apply templates to their children in the same mode and pass nothing, a text and an
+-- attribute give their text, the others nothing
 abbrev pub children_applied : {N : Type 0} → Option Expanded → N → Plan N
-children_applied mode n = Inquire (question.Step n axis.Child (OfType type.Node)) (λ a. applied_to nowhere mode 0 (nodes_in a) End)
+children_applied mode n = Inquire (question.Step n axis.Child (OfType type.Node)) (λ a. applied_to nowhere mode [] 0 (nodes_in a) End)
 
 abbrev pub text_put : {N : Type 0} → N → Plan N
 text_put n = Inquire (question.Text n) (λ a. Put (text_item (text_in a)) End)
@@ -229,6 +314,6 @@ built_in mode n = Inquire (question.Name n) (λ a. elim (kind_in a) [
 
 abbrev pub plan_of : {N : Type 0} → Call N → Plan N
 plan_of c = elim c.target [
-  | UnitOf element ↦ Inquire (question.Unit element) (λ a. unit_planned c.node a)
+  | UnitOf element ↦ Inquire (question.Unit element) (λ a. unit_planned c.node c.parameters a)
   | BuiltIn mode ↦ built_in mode c.node
 ]

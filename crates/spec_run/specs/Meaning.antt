@@ -143,7 +143,7 @@ levels_of_a_run = 1200
 
 -- the rule for the root is entered first
 abbrev pub root_call : {N : Type 0} → Setting N → Call N
-root_call s = rule_call nowhere None 1 s.root 1 (s.ask (question.Choice s.root None AllRules))
+root_call s = rule_call nowhere None [] 1 s.root 1 (s.ask (question.Choice s.root None AllRules))
 
 abbrev pub run_of : {N : Type 0} → Setting N → Whole
 run_of s = run s levels_of_a_run s.globals [] [] (root_call s)

@@ -19,13 +19,9 @@ is_not_yet xsl.PreserveSpace = true
 is_not_yet xsl.Key = true
 is_not_yet xsl.NamespaceAlias = true
 is_not_yet xsl.AttributeSet = true
-is_not_yet xsl.Param = true
-is_not_yet xsl.WithParam = true
-is_not_yet xsl.Variable = true
 is_not_yet xsl.ApplyImports = true
 is_not_yet xsl.Sort = true
 is_not_yet xsl.Number = true
-is_not_yet xsl.Message = true
 is_not_yet _ = false
 
 abbrev pub has_sets : Inside → Bool → List Written → Bool

@@ -1,5 +1,5 @@
--- What documents come to: the result of the stylesheet on the source with its output method and its messages, or why there is none, with the
--- messages before it. Nothing but the documents bears on it: no number of a node, and nothing that was held before.
+-- What documents come to: the result of the stylesheet on the source, with the parameters, its output method and its messages, or why there is
+-- none, with the messages before it. Nothing but these bears on it: no number of a node, and nothing that was held before.
 use Rattle.std.specs.Prelude.{◌≡◌, ℕ, List, [], Option, None, Some, Result, Ok, Err}
 use Rattle.spec_document.specs.Name.{Expanded}
 use Rattle.spec_document.specs.Forest.{Plain, Document}
@@ -15,7 +15,7 @@ use Rattle.spec_compile.specs.Unit.{TopLevel}
 use Rattle.spec_compile.specs.Sheet as compile
 use Rattle.spec_compile.specs.Sheet.{earlier_of, fault_in, IsRead, refusal_at, IsSheet}
 use Rattle.spec_result.specs.Shape.{shaped}
-use Rattle.spec_run.specs.Documents.{Documents, main_name}
+use Rattle.spec_run.specs.Documents.{Parameters, Documents, main_name}
 use Rattle.spec_run.specs.Plan.{Refused, nowhere}
 use Rattle.spec_run.specs.Meaning.{Whole, run_of}
 use Rattle.spec_run.specs.World.{setting_of}
@@ -56,9 +56,9 @@ outcome_by method whole = elim whole.refusal [
 ]
 
 -- a static refusal has no messages
-abbrev pub outcome_of : Plain → Result Sheet compile.Refusal → Outcome
-outcome_of source (Err why) = Failed (refused_static why) []
-outcome_of source (Ok sheet) = outcome_by sheet.method (run_of (setting_of sheet (document_of source)))
+abbrev pub outcome_of : Parameters → Plain → Result Sheet compile.Refusal → Outcome
+outcome_of parameters source (Err why) = Failed (refused_static why) []
+outcome_of parameters source (Ok sheet) = outcome_by sheet.method (run_of (setting_of sheet parameters (document_of source)))
 
 -- S01: there is no module `main`; S02: there is no source
 abbrev pub no_main : Refusal
@@ -67,12 +67,12 @@ no_main = record { code = Static NoMain; place = nowhere }
 abbrev pub no_source : Refusal
 no_source = record { code = Static NoSource; place = nowhere }
 
-abbrev pub Comes : Modules → Option Plain → Option Plain → Outcome → Type 0
-Comes modules None source outcome = outcome ≡ Failed no_main []
-Comes modules (Some main) None outcome = outcome ≡ Failed no_source []
-Comes modules (Some main) (Some source) outcome =
-    (result : Result Sheet compile.Refusal) × IsStylesheet modules main_name main result × (outcome ≡ outcome_of source result)
+abbrev pub Comes : Modules → Parameters → Option Plain → Option Plain → Outcome → Type 0
+Comes modules parameters None source outcome = outcome ≡ Failed no_main []
+Comes modules parameters (Some main) None outcome = outcome ≡ Failed no_source []
+Comes modules parameters (Some main) (Some source) outcome =
+    (result : Result Sheet compile.Refusal) × IsStylesheet modules main_name main result × (outcome ≡ outcome_of parameters source result)
 
 -- the documents have this outcome
 abbrev pub IsOutcome : Documents → Outcome → Type 0
-IsOutcome documents outcome = Comes documents.modules (documents.modules main_name) documents.source outcome
+IsOutcome documents outcome = Comes documents.modules documents.parameters (documents.modules main_name) documents.source outcome

@@ -1,7 +1,7 @@
 -- The true answers of a stylesheet and a source to all questions. The nodes of the source are named by a key of the reader's choice, and so
 -- are the elements of the stylesheet: by their places, or by their numbers.
-use Rattle.std.specs.Prelude.{ℕ, Bool, true, false, ◌&&◌, List, [], ◌∷◌, ◌++◌, Option, None, Some, slice_get, bytes_eq, if◌then◌else◌}
-use Rattle.std.specs.List.{find, flat_map}
+use Rattle.std.specs.Prelude.{ℕ, Bool, true, false, ◌&&◌, List, [], ◌∷◌, ◌++◌, map, Option, None, Some, slice_get, bytes_eq, if◌then◌else◌}
+use Rattle.std.specs.List.{find, filter, flat_map}
 use Rattle.spec_document.specs.Name.{Expanded, same_name}
 use Rattle.spec_document.specs.Forest.{Document}
 use Rattle.spec_document.specs.Place as document
@@ -16,8 +16,9 @@ use Rattle.spec_meaning.specs.Program.{Supply, Said, Gives, outcome_of}
 use Rattle.spec_meaning.specs.Supplies.{at_hand}
 use Rattle.spec_meaning.specs.Truth.{answer_by, entry_named, told_of}
 use Rattle.spec_transform.specs.Choice.{context_for, chosen}
+use Rattle.spec_run.specs.Documents.{Parameters}
 use Rattle.spec_run.specs.Copy.{copy_of}
-use Rattle.spec_run.specs.Meaning.{Setting}
+use Rattle.spec_run.specs.Meaning.{NamedGlobal, Setting}
 
 abbrev pub same_module : Option (List ℕ) → Option (List ℕ) → Bool
 same_module None None = true
@@ -94,6 +95,17 @@ counts units u = elim u.declared [
   | sheet.AKey k ↦ false
 ]
 
+-- those that count, in the order of the stylesheet
+abbrev pub global_in : sheet.Declared → List Expanded
+global_in (sheet.AGlobal g) = g.binding.name ∷ []
+global_in (sheet.ATemplate t) = []
+global_in (sheet.ASet s) = []
+global_in (sheet.AKey k) = []
+
+abbrev pub globals_of : {K : Type 0} → (stylesheet.Place → K) → List sheet.Unit → List (NamedGlobal K)
+globals_of named units =
+    flat_map (λ u. map (λ name. record { name = name; element = named u.site.place }) (global_in u.declared)) (filter (counts units) units)
+
 abbrev pub unit_by : {K : Type 0} → (stylesheet.Place → K) → List sheet.Unit → Option sheet.Unit → Answer K
 unit_by named units None = Gone
 unit_by named units (Some u) = Resolved (record { unit = u; templates = templates_called named units (called_in_unit u.declared); sets = []; counts = counts units u })
@@ -126,16 +138,15 @@ rule_at named same s tree n mode candidates =
 
 -- ---- All
 
--- `key` names the nodes of the source by its entries, `named` the elements of the stylesheet by their places. Keys and parameters from
--- outside do not run yet
-abbrev pub truth_by : {L K : Type 0} → (Entry L → K) → (K → K → Bool) → (stylesheet.Place → K) → Sheet → List (Entry L) → Question K → Answer K
-truth_by key same named s entries (question.Copy n) = told_of (λ e. Copied (copy_of e.item)) (entry_named key same entries n)
-truth_by key same named s entries (question.Choice n mode candidates) =
+-- `key` names the nodes of the source by its entries, `named` the elements of the stylesheet by their places. Keys do not run yet
+abbrev pub truth_by : {L K : Type 0} → (Entry L → K) → (K → K → Bool) → (stylesheet.Place → K) → Sheet → Parameters → List (Entry L) → Question K → Answer K
+truth_by key same named s parameters entries (question.Copy n) = told_of (λ e. Copied (copy_of e.item)) (entry_named key same entries n)
+truth_by key same named s parameters entries (question.Choice n mode candidates) =
     told_of (λ e. rule_at named same s (answer_by key same entries) n mode candidates) (entry_named key same entries n)
-truth_by key same named s entries (question.Unit element) = unit_at named same s.units element
-truth_by key same named s entries (question.Key name text) = SomeNodes []
-truth_by key same named s entries (question.External name) = Passed None
-truth_by key same named s entries q = answer_by key same entries q
+truth_by key same named s parameters entries (question.Unit element) = unit_at named same s.units element
+truth_by key same named s parameters entries (question.Key name text) = SomeNodes []
+truth_by key same named s parameters entries (question.External name) = Passed (parameters name)
+truth_by key same named s parameters entries q = answer_by key same entries q
 
 -- ---- By places
 
@@ -148,12 +159,12 @@ same_node (InSource p) (InSource q) = is_same_place p q
 same_node (InModule a) (InModule b) = same_element a b
 same_node _ _ = false
 
-abbrev pub truth_at_places : {L : Type 0} → Sheet → Document L → Question Node → Answer Node
-truth_at_places s document = truth_by (λ e. InSource e.place) same_node InModule s (entries_of document)
+abbrev pub truth_at_places : {L : Type 0} → Sheet → Parameters → Document L → Question Node → Answer Node
+truth_at_places s parameters document = truth_by (λ e. InSource e.place) same_node InModule s parameters (entries_of document)
 
 abbrev pub root_place : document.Place
 root_place = record { positions = []; ending = document.Itself }
 
--- globals do not run yet
-abbrev pub setting_of : {L : Type 0} → Sheet → Document L → Setting Node
-setting_of s document = record { ask = truth_at_places s document; root = InSource root_place; globals = [] }
+abbrev pub setting_of : {L : Type 0} → Sheet → Parameters → Document L → Setting Node
+setting_of s parameters document =
+    record { ask = truth_at_places s parameters document; root = InSource root_place; globals = globals_of InModule s.units }

@@ -37,13 +37,9 @@ fn is_not_yet(element: XsltElement) -> bool
             | XsltElement::Key
             | XsltElement::NamespaceAlias
             | XsltElement::AttributeSet
-            | XsltElement::Param
-            | XsltElement::WithParam
-            | XsltElement::Variable
             | XsltElement::ApplyImports
             | XsltElement::Sort
             | XsltElement::Number
-            | XsltElement::Message
     )
 }
 
