@@ -16,16 +16,16 @@ use Rattle.spec_run.specs.Meaning.{Setting, Past, Whole, going_into, global_call
 use Rattle.xt_tree.specs.declared.node_ref.NodeRef.{NodeRef}
 use Rattle.xt_tree.specs.declared.value.Value as code
 use Rattle.xt_tree.specs.ValueView as view
-use Rattle.xt_run.specs.View.{refused_of}
+use Rattle.xt_run.specs.View.{refused_of, named_of}
 use Rattle.xt_run.specs.declared.call.Refused.{Refused}
+use Rattle.xt_run.specs.declared.global.NamedGlobal.{NamedGlobal}
 use Rattle.xt_text.specs.declared.memory.Memory.{Memory}
-use Rattle.xt_drive.specs.declared.globals.NamedGlobal.{NamedGlobal}
 use Rattle.xt_drive.specs.declared.globals.HeldGlobal.{HeldGlobal}
 use Rattle.xt_drive.specs.declared.outcome.Outcome.{Outcome as Came}
 use Rattle.xt_drive.specs.declared.outcome.Held.{Held}
 use Rattle.xt_drive.specs.declared.outcome.Held.TheVariants as held
 use Rattle.xt_drive.specs.declared.whole.Whole.{Whole as CodeWhole}
-use Rattle.xt_drive.specs.View.{named_of, held_of, setting_in, outcome_of, supplied_of, whole_of, IsTurnOf, IsTurn, IsFinished}
+use Rattle.xt_drive.specs.View.{held_of, setting_in, outcome_of, supplied_of, whole_of, IsTurnOf, IsTurn, IsFinished}
 
 abbrev Ask : Type 0
 Ask = Question NodeRef → Answer NodeRef

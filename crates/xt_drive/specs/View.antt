@@ -20,15 +20,15 @@ use Rattle.xt_tree.specs.declared.node_ref.NodeRef.{NodeRef}
 use Rattle.xt_tree.specs.declared.value.Value as code
 use Rattle.xt_tree.specs.ValueView.{value_of}
 use Rattle.xt_tree.specs.StreamView.{stream_of}
-use Rattle.xt_run.specs.View.{refused_of}
+use Rattle.xt_run.specs.View.{refused_of, named_of}
 use Rattle.xt_run.specs.Progress.{Gift, Streamed, RefusedAs}
 use Rattle.xt_run.specs.Advances.{gift_of}
+use Rattle.xt_run.specs.declared.global.NamedGlobal.{NamedGlobal}
 use Rattle.xt_run.specs.declared.turn.Entered.{Entered}
 use Rattle.xt_run.specs.declared.turn.Entered.TheVariants as entered
 use Rattle.xt_run.specs.declared.turn.RunFault.{RunFault}
 use Rattle.xt_run.specs.declared.turn.RunFault.TheVariants as faults
 use Rattle.xt_text.specs.declared.memory.Memory.{Memory}
-use Rattle.xt_drive.specs.declared.globals.NamedGlobal.{NamedGlobal}
 use Rattle.xt_drive.specs.declared.globals.HeldGlobal.{HeldGlobal}
 use Rattle.xt_drive.specs.declared.globals.Globals.{Globals}
 use Rattle.xt_drive.specs.declared.globals.Reference.{Reference}
@@ -41,9 +41,6 @@ use Rattle.xt_drive.specs.declared.outcome.Held.TheVariants as held
 use Rattle.xt_drive.specs.declared.whole.Whole.{Whole}
 
 -- ---- What a run is in
-
-abbrev pub named_of : NamedGlobal → means.NamedGlobal NodeRef
-named_of g = record { name = g.name; element = g.element }
 
 abbrev pub held_of : HeldGlobal → Bound NodeRef
 held_of g = record { name = g.name; value = value_of g.value }

@@ -1,5 +1,5 @@
 // Calls that a driver makes.
-ghost use Rattle.std.specs.Prelude.{◌≡◌, IfOk, None};
+ghost use Rattle.std.specs.Prelude.{◌≡◌, [], IfOk, None};
 ghost use Rattle.std.specs.Option.{option_or};
 ghost use Rattle.spec_meaning.specs.Question.{AllRules};
 ghost use Rattle.spec_meaning.specs.Question as asked;
@@ -84,7 +84,7 @@ fn target(nodes: &[NodeRef]) -> Target
 
 /// The call of the template rule of the root (XSLT 1.0, section 5.1).
 pub fn root_call<W: World>(alloc: Global, world: &mut W, root: NodeRef) -> Result<Call, Memory>
-    ensures call { IfOk result (λ c. call_of c ≡ rule_call nowhere None 1 root 1 ((W.state world.old).truth (asked.Choice root None AllRules))) }
+    ensures call { IfOk result (λ c. call_of c ≡ rule_call nowhere None [] 1 root 1 ((W.state world.old).truth (asked.Choice root None AllRules))) }
     ensures truth { (W.state world.new).truth ≡ (W.state world.old).truth }
     ensures name { W.name world.new ≡ W.name world.old }
 {

@@ -7,24 +7,17 @@ ghost use Rattle.spec_run.specs.Direct.{Supplied};
 ghost use Rattle.spec_run.specs.Meaning.{element_named, global_call, needs_itself, refer};
 ghost use Rattle.xp_syntax.specs.PartView.{place_of};
 ghost use Rattle.xt_tree.specs.declared.node_ref.NodeRef.{NodeRef};
-ghost use Rattle.xt_run.specs.View.{call_of};
-ghost use Rattle.xt_drive.specs.View.{named_of, held_of, found_or, Refers};
+ghost use Rattle.xt_run.specs.View.{call_of, named_of};
+ghost use Rattle.xt_drive.specs.View.{held_of, found_or, Refers};
 
 use crate::calls::global_call;
 use crate::level::Needed;
 use std::alloc::Global;
 use xt_ask::{copy_name, copy_value};
 use xt_names::Expanded;
-use xt_run::{Call, Entered};
+use xt_run::{Call, Entered, NamedGlobal};
 use xt_text::{Memory, Text};
 use xt_tree::{NodeRef, Value};
-
-/// A global variable or parameter that counts, by the node of its element.
-#[derive(Drop)]
-pub struct NamedGlobal {
-    pub name: Expanded,
-    pub element: NodeRef,
-}
 
 /// A global whose turn is past, with its value.
 #[derive(Drop)]

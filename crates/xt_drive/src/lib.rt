@@ -16,5 +16,4 @@ mod level;
 mod outcome;
 mod whole;
 
-pub use globals::NamedGlobal;
 pub use whole::{Whole, run};

@@ -12,14 +12,14 @@ ghost use Rattle.xt_drive.specs.View.{held_of, ending_of, outcome_of, meant_at_t
 
 use crate::calls::{global_call, nowhere, root_call};
 use crate::drive::means;
-use crate::globals::{Globals, HeldGlobal, NamedGlobal, with_name};
+use crate::globals::{Globals, HeldGlobal, with_name};
 use crate::outcome::{Ending, Held, Outcome, as_held};
 use std::alloc::Global;
 use std::rc::Rc;
 use xt_ask::{World, copy_name};
 use xt_names::Expanded;
 use xt_result::messages;
-use xt_run::{Call, Engine, Refused};
+use xt_run::{Call, Engine, NamedGlobal, Refused};
 use xt_text::{Memory, Text};
 use xt_tree::{Items, NodeRef, Value};
 

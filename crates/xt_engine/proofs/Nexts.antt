@@ -4,6 +4,7 @@ use Rattle.std.specs.Option.{option_map}
 use Rattle.std.specs.Prelude.{slice_get}
 use Rattle.std.proofs.lemmas.List.{at_drop_more, at_drop_all}
 use Rattle.std.proofs.lemmas.Option.{slice_get-map, slice_get_read}
+use Rattle.spec_expression.specs.declared.code.DynCode.TheVariants as code
 use Rattle.spec_stylesheet.specs.Instruction.{instrs}
 use Rattle.spec_meaning.specs.Question as question
 use Rattle.spec_meaning.specs.Question.{Question, Answer, AllRules}
@@ -15,7 +16,9 @@ use Rattle.spec_run.specs.Passes.{wraps, stays}
 use Rattle.xp_syntax.specs.declared.instr.Instr.{Instr}
 use Rattle.xp_syntax.specs.InstrView.{instr_of}
 use Rattle.xp_syntax.specs.PartView.{place_of}
+use Rattle.xt_base.specs.declared.place.Place.{Place}
 use Rattle.xt_tree.specs.declared.node_ref.NodeRef.{NodeRef}
+use Rattle.xt_ask.specs.View.{bindings_of}
 use Rattle.xt_run.specs.declared.wrapping.Wrapping.{Wrapping}
 use Rattle.xt_run.specs.View.{wrapping_of}
 use Rattle.xt_going.specs.View.{going_of}
@@ -26,8 +29,8 @@ use Rattle.xt_frames.specs.declared.frame.Copies.{Copies}
 use Rattle.xt_frames.specs.declared.frame.Frame.{Frame}
 use Rattle.xt_frames.specs.declared.frame.Frame.TheVariants as frames
 use Rattle.xt_frames.specs.declared.run.Run.{Run}
-use Rattle.xt_frames.specs.declared.run.Next.TheVariants.{Went}
-use Rattle.xt_frames.specs.View.{here_of, inside, inside_at, after_body, left_frame, left_over}
+use Rattle.xt_frames.specs.declared.run.Next.TheVariants.{Went, Halt}
+use Rattle.xt_frames.specs.View.{here_of, inside, inside_at, following, left_frame, left_over}
 use Rattle.xt_frames.specs.Left.{left_in, StepsFrom}
 use Rattle.xt_frames.proofs.Performs.{goes}
 use Rattle.xt_frames.proofs.Frames.{does_steps}
@@ -37,10 +40,10 @@ pub instr_at : (is : List Instr) (n : ℕ) (x : Instr) → n < length is → x �
 instr_at is n x lt is_x = slice_get-map instr_of is n ∙ ap (λ o. option_map instr_of o) (slice_get_read is (length is) n x refl lt is_x)
 
 pub body_next : (b : Body) (x : Instr) (after : Plan NodeRef) → x ≡ get_or b.content.value.items b.next x → b.next < length b.content.value.items
-    → left_frame (frames.Body b) after ≡ plan (instr_of x).site (instr_of x).form (here_of b.here) (after_body b after)
+    → left_frame (frames.Body b) after ≡ plan (instr_of x).site (instr_of x).form (here_of b.here) (following b after)
 body_next b x after is_x lt =
     at_drop_more (λ is. planned (instrs (map instr_of is)) (here_of b.here) after) b.content.value.items b.next x lt
-    ∙ ap (λ y. plan (instr_of y).site (instr_of y).form (here_of b.here) (after_body b after)) (sym is_x)
+    ∙ ap (λ y. plan (instr_of y).site (instr_of y).form (here_of b.here) (following b after)) (sym is_x)
 
 pub body_none : (b : Body) (after : Plan NodeRef) → length b.content.value.items ≤ b.next → left_frame (frames.Body b) after ≡ after
 body_none b after le = at_drop_all (λ is. planned (instrs (map instr_of is)) (here_of b.here) after) b.content.value.items b.next le
@@ -58,17 +61,17 @@ loop_none l after le =
 
 -- the rule of one of the nodes is entered, once it is chosen
 abbrev pub entered_then : Application → NodeRef → ℕ → Plan NodeRef → Answer NodeRef → Plan NodeRef
-entered_then a n p after answer = Enter (rule_call (place_of a.place) a.mode (length a.nodes.items) n p answer) a.depth after
+entered_then a n p after answer = Enter (rule_call (place_of a.place) a.mode (bindings_of a.parameters) (length a.nodes.items) n p answer) a.depth after
 
 pub application_next : (a : Application) (x : NodeRef) (after : Plan NodeRef) → a.next < length a.nodes.items
-    → left_frame (frames.Application a) after ≡ Inquire (question.Choice (get_or a.nodes.items a.next x) a.mode AllRules) (entered_then a (get_or a.nodes.items a.next x) (a.next + 1) (left_frame (frames.Application (record { place = a.place; mode = a.mode; nodes = a.nodes; next = a.next + 1; depth = a.depth })) after))
+    → left_frame (frames.Application a) after ≡ Inquire (question.Choice (get_or a.nodes.items a.next x) a.mode AllRules) (entered_then a (get_or a.nodes.items a.next x) (a.next + 1) (left_frame (frames.Application (record { place = a.place; mode = a.mode; parameters = a.parameters; nodes = a.nodes; next = a.next + 1; depth = a.depth })) after))
 application_next a x after lt =
-    let f = applied (place_of a.place) a.mode (length a.nodes.items) a.depth in
+    let f = applied (place_of a.place) a.mode (bindings_of a.parameters) (length a.nodes.items) a.depth in
     at_drop_more (λ ns. each f (suc a.next) ns after) a.nodes.items a.next x lt
     ∙ ap (λ n. f (get_or a.nodes.items a.next x) n (each f (suc n) (drop (a.next + 1) a.nodes.items) after)) (sym (add-one a.next))
 
 pub application_none : (a : Application) (after : Plan NodeRef) → length a.nodes.items ≤ a.next → left_frame (frames.Application a) after ≡ after
-application_none a after le = at_drop_all (λ ns. each (applied (place_of a.place) a.mode (length a.nodes.items) a.depth) (suc a.next) ns after) a.nodes.items a.next le
+application_none a after le = at_drop_all (λ ns. each (applied (place_of a.place) a.mode (bindings_of a.parameters) (length a.nodes.items) a.depth) (suc a.next) ns after) a.nodes.items a.next le
 
 pub copies_next : (c : Copies) (x : NodeRef) (after : Plan NodeRef) → c.next < length c.nodes.items
     → left_frame (frames.Copies c) after ≡ Inquire (question.Copy (get_or c.nodes.items c.next x)) (λ a. Put (stream_in a) (left_frame (frames.Copies (record { nodes = c.nodes; next = c.next + 1 })) after))
@@ -83,3 +86,7 @@ pub wrap_does : (ask : Question NodeRef → Answer NodeRef) (how : Wrapping) (ol
 wrap_does ask how old new same_frames room supplies going =
     let n : length new.frames.items ≡ length old.frames.items = ap (λ (fs : Vec Frame Global). length fs.items) same_frames in
     does_steps ask _ _ old new Went (goes ask (Wrap (wrapping_of how) (left_in old)) (left_in old) (wrap (wrapping_of how) (going_of old.going)) old new (ap (λ (fs : Vec Frame Global). left_over fs.items End) same_frames) going (wraps stays) (omega arith) (omega (arith, n)) room supplies)
+
+-- the run has ended, by a message
+pub terminate_does : (ask : Question NodeRef → Answer NodeRef) (place : Place) (r : Run) → StepsFrom ask (frames.Terminate place) r r (Halt (record { code = code.Terminated; place = place }))
+terminate_does ask place r = record { so = record { last = going_of r.going; passes = stays; content = refl }; room = refl; supplies = refl }

@@ -1,14 +1,17 @@
 -- How a run goes on, by what its last step came to.
-use Rattle.std.proofs.Common.{◌≡◌, ℕ, [], length, Ok, Err, Result, IfOk, refl, sym, ap, ◌∙◌, subst}
+use Rattle.std.proofs.Common.{◌≡◌, ℕ, suc, [], length, Ok, Err, Result, IfOk, refl, sym, ap, ◌∙◌, subst, arith}
 use Rattle.spec_document.specs.Name.{Expanded}
 use Rattle.spec_meaning.specs.Question.{Question, Answer}
 use Rattle.spec_run.specs.Plan as plan
 use Rattle.spec_run.specs.Plan.{Plan, End}
-use Rattle.spec_run.specs.Direct.{Finished}
+use Rattle.spec_run.specs.Direct as direct
+use Rattle.spec_run.specs.Direct.{Ending, Finished}
 use Rattle.spec_run.specs.Passes.{Passes, stays}
 use Rattle.xp_syntax.specs.PartView.{place_of}
 use Rattle.xt_base.specs.declared.place.Place.{Place}
 use Rattle.xt_tree.specs.declared.node_ref.NodeRef.{NodeRef}
+use Rattle.xt_tree.specs.declared.value.Value.{Value}
+use Rattle.xt_tree.specs.ValueView.{value_of}
 use Rattle.xt_tree.specs.StreamView.{stream_of}
 use Rattle.xt_ask.specs.View.{supplies_of}
 use Rattle.xt_text.specs.declared.memory.Memory.{Memory}
@@ -21,18 +24,18 @@ use Rattle.xt_run.specs.declared.turn.RunFault.TheVariants as faults
 use Rattle.xt_run.specs.View.{call_of, refused_of}
 use Rattle.xt_run.specs.Progress as progress
 use Rattle.xt_run.specs.Progress.{Goes}
-use Rattle.xt_run.specs.Advances.{Made, made, ran_of, Ends, Stops, HaltsSo}
+use Rattle.xt_run.specs.Advances.{Made, made, ran_of, ends, Ends, Stops, HaltsSo}
 use Rattle.xt_going.specs.View.{going_of}
 use Rattle.xt_frames.specs.declared.frame.Frame.{Frame}
 use Rattle.xt_frames.specs.declared.run.Waiting.{Waiting}
 use Rattle.xt_frames.specs.declared.run.Waiting.TheVariants as waits
 use Rattle.xt_frames.specs.declared.run.Run.{Run}
 use Rattle.xt_frames.specs.declared.run.Next.{Next}
-use Rattle.xt_frames.specs.declared.run.Next.TheVariants.{Went, Want, Needs, Done, Halt}
+use Rattle.xt_frames.specs.declared.run.Next.TheVariants.{Went, Want, Needs, Done, Gave, Halt}
 use Rattle.xt_frames.specs.View.{left_over}
 use Rattle.xt_frames.specs.Left.{left_in, waiting_of, progress_of, hand, Steps, StepsFrom}
-use Rattle.xt_frames.proofs.Passing.{passes_then}
-use Rattle.xt_frames.proofs.Lefts.{moved, misses_moved, stops_after, stops_moved, passes_at, if_ok}
+use Rattle.xt_frames.proofs.Passed.{passes_then}
+use Rattle.xt_frames.proofs.Lefts.{comes_after, moved, misses_moved, stops_after, stops_moved, passes_at, if_ok}
 use Rattle.xt_engine.specs.Onward.{Onward}
 
 -- where a run is, some steps on
@@ -75,11 +78,20 @@ onward_needs {first = first} {now = now} name d place w c s e =
       );
     }
 
+-- the plan has come to its end
+onward_ends : {ask : Question NodeRef → Answer NodeRef} {first now : Run} (new : Run) (fin : progress.Progress) (ran : Ran) (e : Ending NodeRef) → Come ask first now
+    → Passes ask (hand now) now.room (left_in now) (going_of now.going) (ends e) (going_of new.going) → ran_of ran ≡ made (going_of new.going) e → Onward ask (progress_of first) (from_first first) fin (Ok (turns.Done ran))
+onward_ends {ask = ask} {first = first} {now = now} new fin ran e c s is_ran =
+    let P : Made NodeRef → Type 0 = λ m. Ends ask (hand first) first.room (left_in first) (going_of first.going) m in
+    record { so = subst P (sym is_ran) (record { last = going_of new.going; passes = passes_then c.passes (moved first now c.room c.supplies s); same = refl }) }
+
 pub onward_done : {ask : Question NodeRef → Answer NodeRef} {first now new : Run} {k : ℕ} (fin : progress.Progress) (ran : Ran) → Come ask first now → Steps ask (left_in now) k now new Done → ran_of ran ≡ made (going_of new.going) Finished
     → Onward ask (progress_of first) (from_first first) fin (Ok (turns.Done ran))
-onward_done {ask = ask} {first = first} {now = now} {new = new} fin ran c s e =
-    let P : Made NodeRef → Type 0 = λ m. Ends ask (hand first) first.room (left_in first) (going_of first.going) m in
-    record { so = subst P (sym e) (record { last = going_of new.going; passes = passes_then c.passes (moved first now c.room c.supplies s.so); same = refl }) }
+onward_done {new = new} fin ran c s e = onward_ends new fin ran Finished c s.so e
+
+pub onward_gave : {ask : Question NodeRef → Answer NodeRef} {first now new : Run} {k : ℕ} (fin : progress.Progress) (ran : Ran) (value : Value) → Come ask first now → Steps ask (left_in now) k now new (Gave value) → ran_of ran ≡ made (going_of new.going) (direct.Gave (value_of value))
+    → Onward ask (progress_of first) (from_first first) fin (Ok (turns.Done ran))
+onward_gave {new = new} fin ran value c s e = onward_ends new fin ran (direct.Gave (value_of value)) c s.so e
 
 pub onward_halt : {ask : Question NodeRef → Answer NodeRef} {first now new : Run} {k : ℕ} (fin : progress.Progress) (why : Refused) (fault : RunFault) → Come ask first now → Steps ask (left_in now) k now new (Halt why) → HaltsSo (refused_of why) (going_of new.going) (Err fault)
     → Onward ask (progress_of first) (from_first first) fin (Err fault)
@@ -100,3 +112,7 @@ pub steps_of : {f g : Frame} (old new : Run) (ask : Question NodeRef → Answer 
 steps_of old new ask r e h =
     let P : Frame → Type 0 = λ f. IfOk r (StepsFrom ask f old new) in
     subst P (sym e) (if_ok r h (λ next s. s ask))
+
+-- with a frame more to begin with
+pub steps_more : (ask : Question NodeRef → Answer NodeRef) (p : Plan NodeRef) (k : ℕ) (old new : Run) (next : Next) → Steps ask p k old new next → Steps ask p (suc k) old new next
+steps_more ask p k old new next h = comes_after ask p p (suc k) k old old new next h stays (omega arith) refl refl (λ n d l b. b)

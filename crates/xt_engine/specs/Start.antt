@@ -1,14 +1,11 @@
 -- How instantiations begin.
-use Rattle.std.specs.Prelude.{◌≡◌, ◌≤◌, length, map, Option, None, Some, Vec}
-use Rattle.std.specs.Global.{Global}
-use Rattle.std.specs.declared.rc.Rc.{Rc}
+use Rattle.std.specs.Prelude.{◌≡◌, ◌≤◌, ℕ, List, length, Option, None, Some}
 use Rattle.spec_stylesheet.specs.Sheet.{Declared}
-use Rattle.spec_stylesheet.specs.Instruction.{instrs}
-use Rattle.spec_run.specs.Plan.{Plan, End}
-use Rattle.spec_run.specs.Content.{Here, planned, declared_planned}
-use Rattle.xp_syntax.specs.declared.instr.Instr.{Instr}
-use Rattle.xp_syntax.specs.InstrView.{instr_of}
+use Rattle.spec_meaning.specs.Value as value
+use Rattle.spec_run.specs.Plan.{Plan, Yield}
+use Rattle.xp_syntax.specs.SheetView.{declared_of}
 use Rattle.xt_tree.specs.declared.node_ref.NodeRef.{NodeRef}
+use Rattle.xt_frames.specs.declared.standing.Standing.{Standing}
 use Rattle.xt_frames.specs.declared.run.Run.{Run}
 use Rattle.xt_frames.specs.Left.{left_in}
 
@@ -20,11 +17,11 @@ pub record Begun (p : Plan NodeRef) (old new : Run) : Type 0 where
   pub room : new.room ≡ old.room
   pub supplies : new.supplies ≡ old.supplies
 
--- what is planned of a content, or nothing
-abbrev pub content_planned : Option (Rc (Vec Instr Global) Global) → Here NodeRef → Plan NodeRef
-content_planned None h = End
-content_planned (Some content) h = planned (instrs (map instr_of content.value.items)) h End
+-- what stands here
+abbrev pub declared_in : Standing → Declared
+declared_in s = declared_of s.unit.value.unit.value.declared
 
--- this is all that what is declared plans
-pub record HasContent (declared : Declared) (content : Option (Rc (Vec Instr Global) Global)) : Type 0 where
-  pub same : (h : Here NodeRef) → declared_planned declared h ≡ content_planned content h
+-- a text that is given is the value
+abbrev pub unless_text : Option (List ℕ) → Plan NodeRef → Plan NodeRef
+unless_text None own = own
+unless_text (Some text) own = Yield (value.Text text)

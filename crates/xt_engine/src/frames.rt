@@ -8,16 +8,19 @@ ghost use Rattle.spec_run.specs.Content.{at, target_by};
 ghost use Rattle.xt_frames.specs.View.{here_of};
 ghost use Rattle.xt_ask.specs.View.{answer_of};
 ghost use Rattle.xt_frames.specs.declared.frame.Frame.TheVariants as Frame;
+ghost use Rattle.xt_frames.specs.declared.run.Run as declared;
 ghost use Rattle.xt_frames.specs.Left.{StepsFrom};
 
+use spec_expression::DynCode;
 use std::alloc::Global;
-use xt_ask::{Answer, Bindings, Candidates, Focus, Question, World, copy_name_if, copy_place};
+use xt_ask::{Answer, Candidates, Focus, Question, World, copy_name_if, copy_place};
+use xt_base::Place;
 use xt_frames::{
     Application, Body, Copies, Frame, Loop, Next, Run, Standing, go_into, push, share_content, want,
 };
 use xt_names::Expanded;
 use xt_perform::{perform, put_copy};
-use xt_run::{Call, Target, Wrapping};
+use xt_run::{Call, Refused, Target, Wrapping};
 use xt_text::Memory;
 
 /// Goes on with a content.
@@ -112,7 +115,7 @@ pub(crate) fn go_on_application<W: World>(
     let call = Call {
         target: target_by(alloc, &left.mode, answer)?,
         node,
-        parameters: Bindings::Empty,
+        parameters: left.parameters.share()?,
         position: Some(left.next as u64 + 1),
         size: Some(size),
         by: copy_place(alloc, &left.place)?,
@@ -121,6 +124,7 @@ pub(crate) fn go_on_application<W: World>(
     let rest = Frame::Application(Application {
         place: left.place,
         mode: left.mode,
+        parameters: left.parameters,
         nodes: left.nodes,
         next: left.next + 1,
         depth,
@@ -165,4 +169,14 @@ pub(crate) fn go_on_copies<W: World>(
         }),
     )?;
     Ok(Next::Went)
+}
+
+/// Ends the run, by the message at this place (XSLT 1.0, section 13). Takes no memory.
+pub(crate) fn terminate(place: Place) -> Next
+    ensures { (ask : question.Question NodeRef → question.Answer NodeRef) → (run : declared.Run) → StepsFrom ask (Frame.Terminate place) run run result }
+{
+    Next::Halt(Refused {
+        code: DynCode::Terminated,
+        place,
+    })
 }

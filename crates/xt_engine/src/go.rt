@@ -1,12 +1,11 @@
 // A run, up to its end or to what it wants next.
 ghost use Rattle.std.specs.Prelude.{◌≡◌, IfOk};
-ghost use Rattle.spec_run.specs.Direct.{Finished};
 ghost use Rattle.xp_syntax.specs.PartView.{place_of};
 ghost use Rattle.xt_ask.specs.View.{supplies_of};
 ghost use Rattle.xt_run.specs.View.{call_of, refused_of};
 ghost use Rattle.xt_run.specs.Progress as progress;
 ghost use Rattle.xt_run.specs.Progress.{Goes, started, after_call, after_global};
-ghost use Rattle.xt_run.specs.Advances.{HaltsSo, gift_of, ran_of, made};
+ghost use Rattle.xt_run.specs.Advances.{HaltsSo, ending_of, gift_of, ran_of, made};
 ghost use Rattle.xt_going.specs.View.{going_of};
 ghost use Rattle.xt_frames.specs.Left.{progress_of, waiting_of};
 ghost use Rattle.xt_engine.specs.Onward.{Onward};
@@ -22,13 +21,15 @@ use xt_going::Going;
 use xt_names::Expanded;
 use xt_run::{Call, Entered, Ran, Refused, RunFault, Turn};
 use xt_text::Memory;
+use xt_tree::Value;
 
 /// Starts one instantiation, with so many levels below its own.
 pub(crate) fn start(alloc: Global, call: &Call, room: u64) -> Result<Run, Memory>
     ensures { IfOk result (λ run. progress_of run ≡ started (call_of call.now) room) }
 {
     let mut frames = Vec::new(alloc);
-    frames.push(Frame::Start(call.target.copy(alloc)?, call.node))?;
+    let parameters = call.parameters.share()?;
+    frames.push(Frame::Start(call.target.copy(alloc)?, call.node, parameters))?;
     Ok(Run {
         room,
         supplies: supplies_for(alloc, call),
@@ -49,15 +50,15 @@ fn supplies_for(alloc: Global, call: &Call) -> Supplies
     }
 }
 
-/// Takes out what a run made that came to its end.
-fn finish(alloc: Global, run: &mut Run) -> Result<Ran, Memory>
-    ensures { IfOk result (λ ran. ran_of ran ≡ made (going_of run.old.going) Finished) }
+/// Takes out what a run made that came to its end, with its value where it has one.
+fn finish(alloc: Global, run: &mut Run, value: Option<Value>) -> Result<Ran, Memory>
+    ensures { IfOk result (λ ran. ran_of ran ≡ made (going_of run.old.going) (ending_of value)) }
 {
     let stream = run.going.close(alloc)?;
     let events = mem::replace(&mut run.going.events, Vec::new(alloc));
     Ok(Ran {
         stream,
-        value: None,
+        value,
         events,
         height: run.going.height,
     })
@@ -90,7 +91,8 @@ pub(crate) fn go<W: World>(alloc: Global, run: &mut Run, world: &mut W) -> Resul
                 run.waiting = wait_for(alloc, &name, depth, &place)?;
                 return Ok(Turn::WantGlobal(name, depth, place));
             }
-            Next::Done => return Ok(Turn::Done(finish(alloc, run)?)),
+            Next::Done => return Ok(Turn::Done(finish(alloc, run, None)?)),
+            Next::Gave(value) => return Ok(Turn::Done(finish(alloc, run, Some(value))?)),
             Next::Halt(why) => return Err(halt(alloc, run, why)),
         }
     }

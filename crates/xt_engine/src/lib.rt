@@ -10,6 +10,7 @@
 
 mod frames;
 mod go;
+mod parameters;
 mod runner;
 mod start;
 mod step;

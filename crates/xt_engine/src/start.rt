@@ -1,30 +1,32 @@
-// The start of an instantiation: the content of a template, or what a built-in rule does.
-ghost use Rattle.std.specs.Prelude.{◌≡◌, [], suc, length, IfOk, OnOk};
+// The start of an instantiation: a template with its parameters, a global, or what a built-in rule does.
+ghost use Rattle.std.specs.Prelude.{◌≡◌, [], suc, length, IfOk};
+ghost use Rattle.spec_stylesheet.specs.Sheet.{ATemplate, AGlobal};
 ghost use Rattle.spec_meaning.specs.Question as question;
 ghost use Rattle.spec_run.specs.Plan as plan;
-ghost use Rattle.spec_run.specs.Content.{built_in, children_applied, text_put, unit_planned, here_in};
+ghost use Rattle.spec_run.specs.Content.{built_in, children_applied, text_put, declared_planned, unit_planned, global_planned, may_be_given, is_no_uri, unless_given, held, here_in};
 ghost use Rattle.xp_syntax.specs.PartView.{place_of};
-ghost use Rattle.xp_syntax.specs.SheetView.{declared_of};
+ghost use Rattle.xp_syntax.specs.SheetView.{template_of, global_of, declared_of};
 ghost use Rattle.xt_tree.specs.declared.node_ref.NodeRef.{NodeRef};
-ghost use Rattle.xt_ask.specs.View.{answer_of, resolved_of};
+ghost use Rattle.xt_ask.specs.View.{answer_of, bindings_of, resolved_of};
 ghost use Rattle.xt_frames.specs.declared.frame.Frame.TheVariants as Frame;
-ghost use Rattle.xt_frames.specs.View.{here_of};
+ghost use Rattle.xt_frames.specs.View.{here_of, global_left};
 ghost use Rattle.xt_frames.specs.Left.{Does, StepsFrom};
-ghost use Rattle.xt_engine.specs.Start.{Begun, HasContent};
+ghost use Rattle.xt_engine.specs.Start.{Begun, declared_in, unless_text};
 
+use crate::parameters::share_bindings;
 use spec_document::{Axis, Kind};
 use spec_expression::NodeType;
 use std::alloc::Global;
 use std::rc::Rc;
-use xp_syntax::{Declared, Instr, Test};
+use xp_syntax::{Declared, GlobalBinding, Template, Test};
 use xt_ask::{Answer, Bindings, Focus, Question, ResolvedUnit, World};
 use xt_base::Place;
-use xt_frames::{Application, Body, Frame, Next, Run, Standing, push, share_content};
+use xt_frames::{Application, Frame, Next, Parameters, Run, Standing, push, share_content};
 use xt_names::Expanded;
 use xt_perform::kind_in;
 use xt_run::Target;
-use xt_text::{Memory, Path};
-use xt_tree::{Item, NodeRef};
+use xt_text::{Memory, Path, Text};
+use xt_tree::{Item, NodeRef, Value};
 
 /// Begins an instantiation, whose frame was taken off.
 pub(crate) fn go_on_start<W: World>(
@@ -32,14 +34,15 @@ pub(crate) fn go_on_start<W: World>(
     run: &mut Run,
     target: Target,
     node: NodeRef,
+    parameters: Bindings,
     world: &mut W,
 ) -> Result<Next, Memory>
-    ensures does { IfOk result (StepsFrom (W.state world.old).truth (Frame.Start target node) run.old run.new) }
+    ensures does { IfOk result (StepsFrom (W.state world.old).truth (Frame.Start target node parameters) run.old run.new) }
     ensures truth { (W.state world.new).truth ≡ (W.state world.old).truth }
     ensures name { W.name world.new ≡ W.name world.old }
 {
     match target {
-        Target::Unit(element) => begin_unit(alloc, run, element, node, world),
+        Target::Unit(element) => begin_unit(alloc, run, element, node, parameters, world),
         Target::BuiltIn(mode) => begin_built_in(alloc, run, mode, node, world),
     }
 }
@@ -50,82 +53,187 @@ fn begin_unit<W: World>(
     run: &mut Run,
     element: NodeRef,
     node: NodeRef,
+    parameters: Bindings,
     world: &mut W,
 ) -> Result<Next, Memory>
-    ensures does { IfOk result (Does (W.state world.old).truth (plan.Inquire (question.Unit element) (λ a. unit_planned node a)) (suc (length run.old.frames.items)) run.old run.new) }
+    ensures does { IfOk result (Does (W.state world.old).truth (plan.Inquire (question.Unit element) (λ a. unit_planned node (bindings_of parameters) a)) (suc (length run.old.frames.items)) run.old run.new) }
     ensures truth { (W.state world.new).truth ≡ (W.state world.old).truth }
     ensures name { W.name world.new ≡ W.name world.old }
 {
     let answer = run.going.ask(alloc, world, Question::Unit(element))?;
-    begin_answered(alloc, run, answer, node)?;
-    Ok(Next::Went)
+    leave_nothing(alloc, run);
+    begin_answered(alloc, run, answer, node, parameters, world)
 }
 
 /// Begins the unit that was answered.
-fn begin_answered(alloc: Global, run: &mut Run, answer: Answer, node: NodeRef) -> Result<(), Memory>
-    ensures { OnOk result (Begun (unit_planned node (answer_of answer)) run.old run.new) }
-{
-    match answer {
-        Answer::Resolved(unit) => begin_content(alloc, run, unit, node),
-        _ => {
-            leave_nothing(alloc, run);
-            Ok(())
-        }
-    }
-}
-
-/// Begins the content of a template: nothing else has one yet.
-fn begin_content(
+fn begin_answered<W: World>(
     alloc: Global,
     run: &mut Run,
-    unit: Rc<ResolvedUnit>,
+    answer: Answer,
     node: NodeRef,
-) -> Result<(), Memory>
-    ensures { OnOk result (Begun (unit_planned node (question.Resolved (resolved_of unit.value))) run.old run.new) }
+    parameters: Bindings,
+    world: &mut W,
+) -> Result<Next, Memory>
+    requires { run.old.frames.items ≡ [] }
+    ensures does { IfOk result (Does (W.state world.old).truth (unit_planned node (bindings_of parameters) (answer_of answer)) 2 run.old run.new) }
+    ensures truth { (W.state world.new).truth ≡ (W.state world.old).truth }
+    ensures name { W.name world.new ≡ W.name world.old }
 {
-    leave_nothing(alloc, run);
-    match content_of(&unit.unit.declared)? {
-        None => Ok(()),
-        Some(content) => push(run, Frame::Body(first_body(content, unit, node))),
+    match answer {
+        Answer::Resolved(unit) => {
+            let here = first_of(share_unit(&unit)?, node);
+            begin_declared(alloc, run, &unit.unit.declared, here, parameters, world)
+        }
+        _ => Ok(Next::Went),
     }
 }
 
-/// The content of a template.
-fn content_of(declared: &Declared) -> Result<Option<Rc<Vec<Instr>>>, Memory>
-    ensures { IfOk result (HasContent (declared_of declared.now)) }
+/// The same unit, shared.
+fn share_unit(unit: &Rc<ResolvedUnit>) -> Result<Rc<ResolvedUnit>, Memory>
+    ensures { IfOk result (λ u. u.value ≡ unit.now.value) }
+{
+    Ok(unit.clone()?)
+}
+
+/// Where a unit stands at the level of its instantiation for this node. Takes no memory.
+fn first_of(unit: Rc<ResolvedUnit>, node: NodeRef) -> Standing
+    ensures here { here_of result ≡ here_in node (resolved_of unit.value) }
+    ensures unit { result.unit ≡ unit }
+{
+    Standing {
+        focus: Focus {
+            node,
+            position: None,
+            size: None,
+        },
+        bindings: Bindings::Empty,
+        depth: 0,
+        unit,
+    }
+}
+
+/// Begins what is declared, which stands here.
+fn begin_declared<W: World>(
+    alloc: Global,
+    run: &mut Run,
+    declared: &Declared,
+    here: Standing,
+    parameters: Bindings,
+    world: &mut W,
+) -> Result<Next, Memory>
+    requires none { run.old.frames.items ≡ [] }
+    requires stands { declared_in here ≡ declared_of declared.now }
+    ensures does { IfOk result (Does (W.state world.old).truth (declared_planned (declared_of declared.now) (bindings_of parameters) (here_of here)) 2 run.old run.new) }
+    ensures truth { (W.state world.new).truth ≡ (W.state world.old).truth }
+    ensures name { W.name world.new ≡ W.name world.old }
 {
     match declared {
-        Declared::Template(template) => Ok(Some(share_content(&template.content)?)),
-        Declared::Global(_) => Ok(None),
-        Declared::AttributeSet(_) => Ok(None),
-        Declared::Key(_) => Ok(None),
+        Declared::Template(template) => begin_template(run, template, here, parameters),
+        Declared::Global(global) => begin_global(alloc, run, global, here, world),
+        Declared::AttributeSet(_) => Ok(Next::Went),
+        Declared::Key(_) => Ok(Next::Went),
     }
 }
 
-/// A content from its first instruction on, at the level of its instantiation for this node. Takes no memory.
-fn first_body(content: Rc<Vec<Instr>>, unit: Rc<ResolvedUnit>, node: NodeRef) -> Body
-    ensures content { result.content ≡ content }
-    ensures next { result.next ≡ 0 }
-    ensures here { here_of result.here ≡ here_in node (resolved_of unit.value) }
+/// Begins a template, by its parameters.
+fn begin_template(
+    run: &mut Run,
+    template: &Template,
+    here: Standing,
+    parameters: Bindings,
+) -> Result<Next, Memory>
+    requires { run.old.frames.items ≡ [] }
+    ensures { IfOk result (λ next. (ask : question.Question NodeRef → question.Answer NodeRef) → Does ask (declared_planned (ATemplate (template_of template.now)) (bindings_of parameters) (here_of here)) 2 run.old run.new next) }
 {
-    Body {
-        content,
+    let left = Parameters {
+        bindings: share_bindings(&template.parameters)?,
         next: 0,
-        here: Standing {
-            focus: Focus {
-                node,
-                position: None,
-                size: None,
-            },
-            bindings: Bindings::Empty,
-            depth: 0,
-            unit,
-        },
+        given: parameters,
+        content: share_content(&template.content)?,
+        here,
+    };
+    push(run, Frame::Parameters(left))?;
+    Ok(Next::Went)
+}
+
+/// Begins a global: a parameter may be given from outside (XSLT 1.0, section 11.4).
+fn begin_global<W: World>(
+    alloc: Global,
+    run: &mut Run,
+    global: &GlobalBinding,
+    here: Standing,
+    world: &mut W,
+) -> Result<Next, Memory>
+    requires none { run.old.frames.items ≡ [] }
+    requires stands { declared_in here ≡ AGlobal (global_of global.now) }
+    ensures does { IfOk result (Does (W.state world.old).truth (global_planned (global_of global.now) (here_of here)) 2 run.old run.new) }
+    ensures truth { (W.state world.new).truth ≡ (W.state world.old).truth }
+    ensures name { W.name world.new ≡ W.name world.old }
+{
+    if may_be_given(global) {
+        return begin_parameter(alloc, run, global, here, world);
     }
+    begin_own(run, here)
+}
+
+/// Whether a global may be given from outside: it is a parameter whose name has no URI. Takes no memory.
+fn may_be_given(global: &GlobalBinding) -> bool
+    ensures { result ≡ may_be_given (global_of global.now) }
+{
+    global.is_parameter && has_no_uri(&global.binding.name)
+}
+
+/// Whether a name has no URI. Takes no memory.
+fn has_no_uri(name: &Expanded) -> bool
+    ensures { result ≡ is_no_uri name.now.uri }
+{
+    name.uri().is_empty()
+}
+
+/// Begins a global that may be given from outside.
+fn begin_parameter<W: World>(
+    alloc: Global,
+    run: &mut Run,
+    global: &GlobalBinding,
+    here: Standing,
+    world: &mut W,
+) -> Result<Next, Memory>
+    requires none { run.old.frames.items ≡ [] }
+    requires stands { declared_in here ≡ AGlobal (global_of global.now) }
+    ensures does { IfOk result (Does (W.state world.old).truth (plan.Inquire (question.External (global_of global.now).binding.name.local) (λ a. unless_given a (held (global_of global.now).binding (here_of here)))) 2 run.old run.new) }
+    ensures truth { (W.state world.new).truth ≡ (W.state world.old).truth }
+    ensures name { W.name world.new ≡ W.name world.old }
+{
+    let name = global.binding.name.local().copy(alloc)?;
+    let answer = run.going.ask(alloc, world, Question::External(name))?;
+    match text_given(answer) {
+        Some(text) => Ok(Next::Gave(Value::Text(text))),
+        None => begin_own(run, here),
+    }
+}
+
+/// The text that is given from outside.
+fn text_given(answer: Answer) -> Option<Text>
+    ensures { (own : plan.Plan NodeRef) → unless_given (answer_of answer) own ≡ unless_text result own }
+{
+    match answer {
+        Answer::Passed(text) => text,
+        _ => None,
+    }
+}
+
+/// Begins what a global says itself that it holds, in a frame of its own: what is asked before is not asked again
+/// where it lacks another global.
+fn begin_own(run: &mut Run, here: Standing) -> Result<Next, Memory>
+    requires { run.old.frames.items ≡ [] }
+    ensures { IfOk result (λ next. (ask : question.Question NodeRef → question.Answer NodeRef) → Does ask (global_left (declared_in here) (here_of here)) 2 run.old run.new next) }
+{
+    push(run, Frame::Global(here))?;
+    Ok(Next::Went)
 }
 
 /// Leaves nothing of a run.
-fn leave_nothing(alloc: Global, run: &mut Run)
+pub(crate) fn leave_nothing(alloc: Global, run: &mut Run)
     ensures begun { Begun plan.End run.old run.new }
     ensures none { run.new.frames.items ≡ [] }
 {
@@ -177,6 +285,7 @@ fn apply_to_children<W: World>(
     let left = Application {
         place: nowhere(alloc),
         mode,
+        parameters: Bindings::Empty,
         nodes: answer.into_nodes(alloc),
         next: 0,
         depth: 0,

@@ -3,11 +3,14 @@ ghost use Rattle.std.specs.Prelude.{◌≡◌, length, suc, IfOk};
 ghost use Rattle.xt_frames.specs.declared.frame.Frame.TheVariants as Frame;
 ghost use Rattle.xt_frames.specs.Left.{left_in, Steps, StepsFrom};
 
-use crate::frames::{go_on_application, go_on_body, go_on_copies, go_on_loop, go_on_wrap};
+use crate::frames::{
+    go_on_application, go_on_body, go_on_copies, go_on_loop, go_on_wrap, terminate,
+};
+use crate::parameters::{go_on_arguments, go_on_global, go_on_parameters};
 use crate::start::go_on_start;
 use std::alloc::Global;
 use xt_ask::World;
-use xt_frames::{Branches, Frame, Next, Run};
+use xt_frames::{Branches, Frame, Next, Run, take_held};
 use xt_perform::{choose_from, go_on_attributes};
 use xt_text::Memory;
 
@@ -35,14 +38,21 @@ fn go_on<W: World>(
     ensures name { W.name world.new ≡ W.name world.old }
 {
     match frame {
-        Frame::Start(target, node) => go_on_start(alloc, run, target, node, world),
+        Frame::Start(target, node, parameters) => {
+            go_on_start(alloc, run, target, node, parameters, world)
+        }
         Frame::Body(body) => go_on_body(alloc, run, body, world),
         Frame::Attributes(attributes) => go_on_attributes(alloc, run, attributes, world),
         Frame::Branches(branches) => go_on_branches(alloc, run, branches, world),
         Frame::Loop(left) => go_on_loop(alloc, run, left),
         Frame::Application(left) => go_on_application(alloc, run, left, world),
+        Frame::Arguments(left) => go_on_arguments(alloc, run, left, world),
+        Frame::Parameters(left) => go_on_parameters(alloc, run, left, world),
+        Frame::Global(here) => go_on_global(alloc, run, here, world),
         Frame::Copies(left) => go_on_copies(alloc, run, left, world),
         Frame::Wrap(how) => go_on_wrap(alloc, run, how),
+        Frame::Take(holder) => take_held(alloc, run, holder),
+        Frame::Terminate(place) => Ok(terminate(place)),
     }
 }
 

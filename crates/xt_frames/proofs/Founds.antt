@@ -23,7 +23,7 @@ use Rattle.xt_frames.specs.declared.run.Came.{Came}
 use Rattle.xt_frames.specs.declared.run.Came.TheVariants as came
 use Rattle.xt_frames.specs.Noted.{noted_in, event_at, traced, read_in, Settled, SettledSo}
 use Rattle.xt_frames.specs.Left.{Found, FoundSo}
-use Rattle.xt_frames.proofs.Passing.{Lifted, lifted}
+use Rattle.xt_frames.proofs.Passed.{Lifted, lifted}
 
 -- what the run of a program says of the plan that begins with it
 lifts : {A : Type 0} (ask : Question NodeRef → Answer NodeRef) (hand : ℕ → Supply NodeRef) (room : ℕ) (k : A → Plan NodeRef) (d : ℕ) (place : Place) (g : Going NodeRef) (p : Program NodeRef A) {none : List Read} {c : Ending NodeRef A}

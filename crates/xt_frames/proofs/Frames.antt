@@ -19,10 +19,10 @@ use Rattle.xt_frames.specs.declared.frame.Frame.TheVariants as frames
 use Rattle.xt_frames.specs.declared.frame.Body.{Body}
 use Rattle.xt_frames.specs.declared.run.Run.{Run}
 use Rattle.xt_frames.specs.declared.run.Next.{Next}
-use Rattle.xt_frames.specs.declared.run.Next.TheVariants.{Went, Want, Needs, Done, Halt}
+use Rattle.xt_frames.specs.declared.run.Next.TheVariants.{Went}
 use Rattle.xt_frames.specs.View.{here_of, left_frame, left_over, rest_of}
 use Rattle.xt_frames.specs.Left.{left_in, hand, steps, Comes, Does, IsBack, Performs, IsLeft, Steps, StepsFrom, Pushed}
-use Rattle.xt_frames.proofs.Passing.{passes_then}
+use Rattle.xt_frames.proofs.Passed.{passes_then}
 use Rattle.xt_frames.proofs.Lefts.{pushed, one_more, steps_at, passes_at, comes_after, moved, misses_moved}
 use Rattle.xt_frames.proofs.Performs.{goes, does_performs}
 

@@ -1,9 +1,11 @@
 -- Items that have no holes.
-use Rattle.std.proofs.Common.{◌≡◌, ℕ, List, [], Global, rules, refl, sym, ap, ◌∙◌}
+use Rattle.std.proofs.Common.{◌≡◌, ℕ, List, [], ◌∷◌, Global, rules, refl, sym, ap, ◌∙◌}
 use Rattle.std.specs.declared.rc.Rc.{Rc}
 use Rattle.spec_meaning.specs.Stream.{Stream, Ended, Text, Attribute, holes}
 use Rattle.xt_ask.specs.declared.context.Bindings as bindings
+use Rattle.xt_ask.specs.declared.context.Binding.{Binding}
 use Rattle.xt_ask.specs.View.{bindings_of}
+use Rattle.xt_tree.specs.ValueView.{value_of}
 use Rattle.xt_tree.specs.StreamView.{item_step, items_step, single_of, stream_of}
 use Rattle.xt_tree.specs.declared.items.Items.{Items}
 use Rattle.xt_tree.specs.declared.items.Item.{Item-F, fold-roll-Item}
@@ -21,3 +23,7 @@ view-Attribute name uri content = ap single_of (sym (code.rolls-Attribute name u
 -- no variables
 pub view-Empty : bindings_of bindings.Empty ≡ []
 view-Empty = search (rules, bindings.the_lemmas)
+
+-- a variable more
+pub view-More : (binding : Rc Binding Global) → bindings_of (bindings.More binding) ≡ record { name = binding.value.name; value = value_of binding.value.value } ∷ bindings_of binding.value.outer
+view-More = search (rules, bindings.the_lemmas)

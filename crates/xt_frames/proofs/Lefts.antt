@@ -1,5 +1,5 @@
 -- How steps of a run change what is left.
-use Rattle.std.proofs.Common.{◌≡◌, ℕ, suc, ◌<◌, ◌≤◌, List, [], ◌∷◌, ◌++◌, map, length, Option, None, Result, Ok, Err, IfOk, OnOk, Global, Vec, refl, sym, ap, ◌∙◌, subst, arith}
+use Rattle.std.proofs.Common.{◌≡◌, ℕ, suc, ◌<◌, ◌≤◌, true, false, List, [], ◌∷◌, ◌++◌, map, length, Option, None, Result, Ok, Err, IfOk, OnOk, Global, Vec, refl, sym, ap, ◌∙◌, subst, arith}
 use Rattle.std.specs.declared.rc.Rc.{Rc}
 use Rattle.std.proofs.lemmas.List.{length-append}
 use Rattle.std.proofs.lemmas.Bool.{lt-ltb, le-ltb}
@@ -14,7 +14,7 @@ use Rattle.spec_meaning.specs.Supplies.{at_hand}
 use Rattle.spec_run.specs.Plan.{Refused, Plan, End, Stop, Begin}
 use Rattle.spec_run.specs.Direct.{too_deep}
 use Rattle.spec_run.specs.Going.{Going, begun, deepened}
-use Rattle.spec_run.specs.Content.{Here, deeper, planned}
+use Rattle.spec_run.specs.Content.{Here, deeper, planned, is_empty}
 use Rattle.spec_run.specs.Passes.{Passes, stays, begins, goes_deep, is_too_deep}
 use Rattle.xp_syntax.specs.declared.instr.Instr.{Instr}
 use Rattle.xp_syntax.specs.InstrView.{instr_of}
@@ -31,10 +31,10 @@ use Rattle.xt_frames.specs.declared.frame.Frame.{Frame}
 use Rattle.xt_frames.specs.declared.frame.Frame.TheVariants as frames
 use Rattle.xt_frames.specs.declared.run.Run.{Run}
 use Rattle.xt_frames.specs.declared.run.Next.{Next}
-use Rattle.xt_frames.specs.declared.run.Next.TheVariants.{Went, Want, Needs, Done, Halt}
+use Rattle.xt_frames.specs.declared.run.Next.TheVariants.{Went, Want, Needs, Done, Gave, Halt}
 use Rattle.xt_frames.specs.View.{here_of, inside, left_frame, left_over}
 use Rattle.xt_frames.specs.Left.{left_in, hand, steps, weight, Comes, ComesSo, Does, Pushed}
-use Rattle.xt_frames.proofs.Passing.{passes_then}
+use Rattle.xt_frames.proofs.Passed.{passes_then}
 
 -- the innermost goes first
 pub left_snoc : (fs : List Frame) (f : Frame) (after : Plan NodeRef) → left_over (fs ++ f ∷ []) after ≡ left_frame f (left_over fs after)
@@ -91,6 +91,7 @@ comes_after {needs = needs} {more = more} ask p q k l old mid new next h s le ro
     go (Want call depth) d = passes_then s (moved old mid room supplies d)
     go (Needs name depth place) d = f name depth (place_of place) d
     go Done d = passes_then s (moved old mid room supplies d)
+    go (Gave value) d = passes_then s (moved old mid room supplies d)
     go (Halt why) d = stops_after s (stops_moved old mid room supplies d)
 
 pub steps_at : (ask : Question NodeRef → Answer NodeRef) (old mid : Run) {q r : Plan NodeRef} {g h : Going NodeRef} → mid.room ≡ old.room → mid.supplies ≡ old.supplies → q ≡ r → g ≡ h
@@ -136,16 +137,22 @@ sink_does ask old mid new place is h after next does left more going room suppli
     comes_after ask _ q _ _ old mid new next does (passes_at same going (begins stays)) (omega (arith, e, more)) room supplies (λ n d p x. x)
 
 -- the same over the frames of the rest and of the end
-pub sink_after : (ask : Question NodeRef → Answer NodeRef) (old low mid top new : Run) (place : Place) (is : Instrs) (h : Here NodeRef) (rest end : Frame) (next : Next) → low.frames ≡ old.frames → low.room ≡ old.room → low.supplies ≡ old.supplies → going_of low.going ≡ begun (going_of old.going)
-    → Pushed rest low mid → Pushed end mid top → Does ask (inside place is h (left_in top)) (length top.frames.items) top new next
-    → Does ask (Begin (inside place is h (left_frame end (left_frame rest (left_in old))))) (suc (length old.frames.items)) old new next
-sink_after ask old low mid top new place is h rest end next frames room supplies going a b does =
-    let one = one_more low.frames.items mid.frames.items rest a.frames in
+pub sink_after : (ask : Question NodeRef → Answer NodeRef) (old mid top new : Run) (place : Place) (is : Instrs) (h : Here NodeRef) (rest end : Frame) (next : Next) → mid.frames.items ≡ old.frames.items ++ rest ∷ [] → going_of mid.going ≡ begun (going_of old.going) → mid.room ≡ old.room → mid.supplies ≡ old.supplies
+    → Pushed end mid top → Does ask (inside place is h (left_in top)) (length top.frames.items) top new next → Does ask (Begin (inside place is h (left_frame end (left_frame rest (left_in old))))) (suc (length old.frames.items)) old new next
+sink_after ask old mid top new place is h rest end next frames going room supplies b does =
+    let one = one_more old.frames.items mid.frames.items rest frames in
     let two = one_more mid.frames.items top.frames.items end b.frames in
+    let left : left_in top ≡ left_frame end (left_frame rest (left_in old)) = pushed mid top end b.frames ∙ ap (left_frame end) (pushed old mid rest frames) in
+    sink_does ask old top new place is h (left_frame end (left_frame rest (left_in old))) next does left (omega (arith, one, two)) (ap going_of b.going ∙ going) (b.room ∙ room) (b.supplies ∙ supplies)
+
+-- the same over the frame of the end alone
+pub held_in_sink : (ask : Question NodeRef → Answer NodeRef) (old low mid new : Run) (place : Place) (is : Instrs) (h : Here NodeRef) (end : Frame) (next : Next) → low.frames ≡ old.frames → low.room ≡ old.room → low.supplies ≡ old.supplies → going_of low.going ≡ begun (going_of old.going)
+    → Pushed end low mid → Does ask (inside place is h (left_in mid)) (length mid.frames.items) mid new next → Does ask (Begin (inside place is h (left_frame end (left_in old)))) (suc (length old.frames.items)) old new next
+held_in_sink ask old low mid new place is h end next frames room supplies going b does =
+    let one = one_more low.frames.items mid.frames.items end b.frames in
     let n : length low.frames.items ≡ length old.frames.items = ap (λ (fs : Vec Frame Global). length fs.items) frames in
-    let left : left_in top ≡ left_frame end (left_frame rest (left_in old)) =
-    pushed mid top end b.frames ∙ ap (left_frame end) (pushed low mid rest a.frames) ∙ ap (λ (fs : Vec Frame Global). left_frame end (left_frame rest (left_over fs.items End))) frames in
-    sink_does ask old top new place is h (left_frame end (left_frame rest (left_in old))) next does left (omega (arith, one, two, n)) (ap going_of (b.going ∙ a.going) ∙ going) (b.room ∙ a.room ∙ room) (b.supplies ∙ a.supplies ∙ supplies)
+    let left : left_in mid ≡ left_frame end (left_in old) = pushed low mid end b.frames ∙ ap (λ (fs : Vec Frame Global). left_frame end (left_over fs.items End)) frames in
+    sink_does ask old mid new place is h (left_frame end (left_in old)) next does left (omega (arith, one, n)) (ap going_of b.going ∙ going) (b.room ∙ room) (b.supplies ∙ supplies)
 
 pub if_ok : {T E : Type 0} {P Q : T → Type 0} (r : Result T E) → IfOk r P → ((x : T) → P x → Q x) → IfOk r Q
 if_ok (Ok x) h f = f x h
@@ -154,3 +161,12 @@ if_ok (Err e) h f = tt
 pub if_both : {T E : Type 0} {P R : T → Type 0} {Q : Type 0} (r : Result T E) → IfOk r P → OnOk r Q → ((x : T) → P x → Q → R x) → IfOk r R
 if_both (Ok x) h k f = f x h k
 if_both (Err e) h k f = tt
+
+-- whether a content has instructions
+pub no_content : (is : List Instr) → length is ≡ 0 → is_empty (instrs (map instr_of is)) ≡ true
+no_content [] h = refl
+no_content (i ∷ is) h = absurd (omega (arith, h))
+
+pub some_content : (is : List Instr) → 0 < length is → is_empty (instrs (map instr_of is)) ≡ false
+some_content [] h = absurd (omega (arith, h))
+some_content (i ∷ is) h = refl

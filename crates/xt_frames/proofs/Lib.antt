@@ -1,4 +1,4 @@
-pub mod Passing
+pub mod Passed
 pub mod Founds
 pub mod Lefts
 pub mod Performs

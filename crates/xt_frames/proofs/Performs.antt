@@ -6,8 +6,8 @@ use Rattle.spec_meaning.specs.Stream.{Stream, Ended, filled}
 use Rattle.spec_meaning.specs.Question.{Question, Answer}
 use Rattle.spec_meaning.specs.Program.{Supply}
 use Rattle.spec_run.specs.Plan as plan
-use Rattle.spec_run.specs.Plan.{Plan, End, Put, Inquire}
-use Rattle.spec_run.specs.Going.{Going, Asked, noted, put, closed}
+use Rattle.spec_run.specs.Plan.{Plan, End, Put, Take, Inquire}
+use Rattle.spec_run.specs.Going.{Going, Asked, noted, put, taken, aside, closed}
 use Rattle.spec_run.specs.Passes.{Passes, stays, asks, uses, puts, begins, wraps, takes, goes_deep, is_too_deep}
 use Rattle.xp_syntax.specs.PartView.{place_of}
 use Rattle.xt_tree.specs.declared.node_ref.NodeRef.{NodeRef}
@@ -19,7 +19,7 @@ use Rattle.xt_going.specs.View.{going_of}
 use Rattle.xt_frames.specs.declared.frame.Frame.{Frame}
 use Rattle.xt_frames.specs.declared.run.Run.{Run}
 use Rattle.xt_frames.specs.declared.run.Next.{Next}
-use Rattle.xt_frames.specs.declared.run.Next.TheVariants.{Went, Want, Needs, Done, Halt}
+use Rattle.xt_frames.specs.declared.run.Next.TheVariants.{Went, Want, Needs, Done, Gave, Halt}
 use Rattle.xt_frames.specs.View.{left_frame, left_over}
 use Rattle.xt_frames.specs.Left.{left_in, hand, steps, Comes, Does, IsBack, Performs, IsStill, Pushed, HasNeeds, NeedsSo}
 use Rattle.xt_frames.proofs.Lefts.{pushed, one_more, steps_at, passes_at, comes_after}
@@ -85,6 +85,7 @@ perform_lacks ask p f old mid new name depth place next h still needs back = go 
     go Went e = absurd e
     go (Want c d) e = absurd e
     go Done e = absurd e
+    go (Gave v) e = absurd e
     go (Halt w) e = absurd e
 
 pub does_performs : (ask : Question NodeRef → Answer NodeRef) (p : Plan NodeRef) (f : Frame) (old new : Run) (next : Next) → Does ask p (suc (length old.frames.items)) old new next → Performs ask f p old new next
@@ -146,3 +147,12 @@ pub inquired : {needs : Expanded → ℕ → Place → Type 0} (ask : Question N
 inquired ask q then k old mid new next going room supplies does =
     let s = steps_at ask old mid {q = then (ask q)} {r = then (ask q)} room supplies refl going in
     comes_after ask (Inquire q then) (then (ask q)) _ _ old mid new next does (passes_at refl going (asks stays)) (omega (arith, s)) room supplies (λ n d p x. x)
+
+-- the innermost sink is taken, and then a frame
+pub take_does : (ask : Question NodeRef → Answer NodeRef) (then : Stream → Plan NodeRef) (f : Frame) (old mid new : Run) → mid.frames ≡ old.frames → mid.room ≡ old.room → mid.supplies ≡ old.supplies → going_of mid.going ≡ aside (going_of old.going) → Pushed f mid new
+    → left_frame f (left_in old) ≡ then (taken (going_of old.going)) → Does ask (Take then) (suc (length old.frames.items)) old new Went
+take_does ask then f old mid new frames room supplies going h left =
+    let n = one_more mid.frames.items new.frames.items f h.frames in
+    let m : length mid.frames.items ≡ length old.frames.items = ap (λ (fs : Vec Frame Global). length fs.items) frames in
+    let same = pushed mid new f h.frames ∙ ap (λ (fs : Vec Frame Global). left_frame f (left_over fs.items End)) frames ∙ left in
+    goes ask (Take then) (then (taken (going_of old.going))) (aside (going_of old.going)) old new same (ap going_of h.going ∙ going) (takes stays) (omega arith) (omega (arith, n, m)) (h.room ∙ room) (h.supplies ∙ supplies)

@@ -13,6 +13,7 @@ use Rattle.spec_run.specs.Going.{Asked, Saw, noted, put, begun, wrap, taken, asi
 use Rattle.spec_run.specs.Passes.{Passes}
 use Rattle.xp_syntax.specs.PartView.{place_of}
 use Rattle.xt_tree.specs.declared.node_ref.NodeRef.{NodeRef}
+use Rattle.xt_tree.specs.ValueView.{value_of}
 use Rattle.xt_ask.specs.View.{supplies_of}
 use Rattle.xt_run.specs.View.{call_of, refused_of}
 use Rattle.xt_run.specs.Progress as progress
@@ -24,7 +25,7 @@ use Rattle.xt_frames.specs.declared.run.Waiting.{Waiting}
 use Rattle.xt_frames.specs.declared.run.Waiting.TheVariants as waits
 use Rattle.xt_frames.specs.declared.run.Run.{Run}
 use Rattle.xt_frames.specs.declared.run.Next.{Next}
-use Rattle.xt_frames.specs.declared.run.Next.TheVariants.{Went, Want, Needs, Done, Halt}
+use Rattle.xt_frames.specs.declared.run.Next.TheVariants.{Went, Want, Needs, Done, Gave, Halt}
 use Rattle.xt_frames.specs.declared.run.Came.{Came}
 use Rattle.xt_frames.specs.declared.run.Came.TheVariants as came
 use Rattle.xt_frames.specs.View.{left_frame, left_over}
@@ -72,6 +73,7 @@ ComesSo needs ask p k old new Went =
 ComesSo needs ask p k old new (Want call depth) = Passes ask (hand old) old.room p (going_of old.going) (Enter (call_of call) depth (left_in new)) (going_of new.going)
 ComesSo needs ask p k old new (Needs name depth place) = needs name depth (place_of place)
 ComesSo needs ask p k old new Done = Passes ask (hand old) old.room p (going_of old.going) End (going_of new.going)
+ComesSo needs ask p k old new (Gave value) = Passes ask (hand old) old.room p (going_of old.going) (Yield (value_of value)) (going_of new.going)
 ComesSo needs ask p k old new (Halt why) = Stops ask (hand old) old.room p (going_of old.going) (refused_of why) (written new)
 
 pub record Comes (needs : Expanded → ℕ → Place → Type 0) (ask : Question NodeRef → Answer NodeRef) (p : Plan NodeRef) (k : ℕ) (old new : Run) (next : Next) : Type 0 where

@@ -3,18 +3,31 @@ use Rattle.std.specs.Prelude.{ℕ, suc, ◌+◌, List, [], ◌∷◌, map, drop,
 use Rattle.spec_document.specs.Name.{Expanded}
 use Rattle.spec_stylesheet.specs.Place.{Place, Site}
 use Rattle.spec_stylesheet.specs.Instruction as made
-use Rattle.spec_stylesheet.specs.Instruction.{Form, with_content, Instrs, Instr, instrs, branches}
+use Rattle.spec_stylesheet.specs.Instruction.{Form, with_content, Instrs, Instr, instrs, branches, bindings}
+use Rattle.spec_stylesheet.specs.Sheet as sheet
+use Rattle.spec_meaning.specs.Stream.{filled}
+use Rattle.spec_meaning.specs.Value as value
+use Rattle.spec_meaning.specs.Value.{Value}
+use Rattle.spec_meaning.specs.Context.{Bound}
 use Rattle.spec_run.specs.Plan as plan
-use Rattle.spec_run.specs.Plan.{Plan, End, Inquire, Wrap, Deep}
-use Rattle.spec_run.specs.Content.{Here, deeper, at, each, applied, nodes_copied, attributes_put, planned, planned_branches, plan_of}
+use Rattle.spec_run.specs.Plan.{Call, Plan, End, Stop, Inquire, Wrap, Take, Deep, Enter}
+use Rattle.spec_run.specs.Content.{Here, deeper, at, with_variable, each, applied, nodes_copied, attributes_put, terminated, planned, passed, planned_branches, with_parameters, held, plan_of}
 use Rattle.xp_syntax.specs.PartView.{place_of}
-use Rattle.xp_syntax.specs.InstrView.{instr_of, branch_of}
+use Rattle.xp_syntax.specs.InstrView.{instr_of, branch_of, binding_of}
+use Rattle.xp_syntax.specs.SheetView.{declared_of}
 use Rattle.xt_tree.specs.declared.node_ref.NodeRef.{NodeRef}
 use Rattle.xt_ask.specs.View.{bindings_of, template_of, sets_of}
 use Rattle.xt_run.specs.declared.call.Target.{Target}
-use Rattle.xt_run.specs.View.{target_of, wrapping_of}
+use Rattle.xt_run.specs.View.{target_of, call_of, wrapping_of}
 use Rattle.xt_frames.specs.declared.standing.Standing.{Standing}
 use Rattle.xt_frames.specs.declared.frame.Body.{Body}
+use Rattle.xt_frames.specs.declared.frame.Application.{Application}
+use Rattle.xt_frames.specs.declared.frame.Passing.{Passing}
+use Rattle.xt_frames.specs.declared.frame.Passing.TheVariants as passings
+use Rattle.xt_frames.specs.declared.frame.Arguments.{Arguments}
+use Rattle.xt_frames.specs.declared.frame.Parameters.{Parameters}
+use Rattle.xt_frames.specs.declared.frame.Holder.{Holder}
+use Rattle.xt_frames.specs.declared.frame.Holder.TheVariants as holders
 use Rattle.xt_frames.specs.declared.frame.Frame.{Frame}
 use Rattle.xt_frames.specs.declared.frame.Frame.TheVariants as frames
 
@@ -41,7 +54,11 @@ inside_at place is size h n p more = inside place is (at n p size h) more
 abbrev pub rest_of : Body → ℕ → Instrs
 rest_of b i = instrs (map instr_of (drop i b.content.value.items))
 
--- what comes after the next instruction of a body
+-- what comes after the next instruction of a body, where the rest of the body stands here
+abbrev pub following : Body → Plan NodeRef → Here NodeRef → Plan NodeRef
+following b after h = planned (rest_of b (b.next + 1)) h after
+
+-- where it stands where the body does
 abbrev pub after_body : Body → Plan NodeRef → Plan NodeRef
 after_body b after = planned (rest_of b (b.next + 1)) (here_of b.here) after
 
@@ -54,21 +71,65 @@ abbrev pub attributes_left_of : Here NodeRef → ℕ → Option Instr → Plan N
 attributes_left_of h next None after = after
 attributes_left_of h next (Some i) after = attributes_left h next i.site i.form after
 
+-- ---- Variables and parameters
+
+-- template rules with these parameters, for the nodes that are left
+abbrev pub application_left : Application → List (Bound NodeRef) → Plan NodeRef → Plan NodeRef
+application_left a parameters after =
+    each (applied (place_of a.place) a.mode parameters (length a.nodes.items) a.depth) (suc a.next) (drop a.next a.nodes.items) after
+
+abbrev pub with_passed : List (Bound NodeRef) → Call NodeRef → Call NodeRef
+with_passed parameters c =
+    record { target = c.target; node = c.node; parameters = parameters; position = c.position; size = c.size; by = c.by }
+
+-- what parameters are passed to
+abbrev pub passed_to : Passing → List (Bound NodeRef) → Plan NodeRef → Plan NodeRef
+passed_to (passings.Rules a) parameters after = application_left a parameters after
+passed_to (passings.Template call depth) parameters after = Enter (with_passed parameters (call_of call)) depth after
+
+-- after so much is passed
+abbrev pub arguments_left : Arguments → List (Bound NodeRef) → Plan NodeRef → Plan NodeRef
+arguments_left a done after =
+    passed (bindings (map binding_of (drop a.next a.bindings.value.items))) (here_of a.here) done (λ parameters. passed_to a.to parameters after)
+
+-- of a template that stands here
+abbrev pub parameters_left : Parameters → Here NodeRef → Plan NodeRef → Plan NodeRef
+parameters_left p h after =
+    with_parameters (bindings (map binding_of (drop p.next p.bindings.value.items))) (bindings_of p.given) h
+    (λ here. planned (instrs (map instr_of p.content.value.items)) here after)
+
+-- what is left once this value is held
+abbrev pub left_with : Holder → Value NodeRef → Plan NodeRef → Plan NodeRef
+left_with (holders.Variable name b) v after = planned (rest_of b b.next) (with_variable name v (here_of b.here)) after
+left_with (holders.Argument name a) v after = arguments_left a (record { name = name; value = v } ∷ bindings_of a.done) after
+left_with (holders.Parameter name p) v after = parameters_left p (with_variable name v (here_of p.here)) after
+
+-- of a global what it says itself that it holds
+abbrev pub global_left : sheet.Declared → Here NodeRef → Plan NodeRef
+global_left (sheet.AGlobal g) h = held g.binding h
+global_left _ h = End
+
 -- all of an instantiation that enters this for a node
-abbrev pub start_planned : Target → NodeRef → Plan NodeRef
-start_planned target node = plan_of (record { target = target_of target; node = node; parameters = []; position = None; size = None; by = plan.nowhere })
+abbrev pub start_planned : Target → NodeRef → List (Bound NodeRef) → Plan NodeRef
+start_planned target node parameters =
+    plan_of (record { target = target_of target; node = node; parameters = parameters; position = None; size = None; by = plan.nowhere })
 
 -- what is left of a frame, before what is left around it
 abbrev pub left_frame : Frame → Plan NodeRef → Plan NodeRef
-left_frame (frames.Start target node) after = start_planned target node
+left_frame (frames.Start target node parameters) after = start_planned target node (bindings_of parameters)
 left_frame (frames.Body b) after = planned (rest_of b b.next) (here_of b.here) after
 left_frame (frames.Attributes a) after = attributes_left_of (here_of a.here) a.next (slice_get (map instr_of a.content.value.items) a.number) after
 left_frame (frames.Branches b) after = planned_branches (branches (map branch_of (drop b.next b.branches.value.items))) (here_of b.here) after
 left_frame (frames.Loop l) after =
     each (inside_at (place_of l.place) (instrs (map instr_of l.content.value.items)) (length l.nodes.items) (here_of l.here)) (suc l.next) (drop l.next l.nodes.items) after
-left_frame (frames.Application a) after = each (applied (place_of a.place) a.mode (length a.nodes.items) a.depth) (suc a.next) (drop a.next a.nodes.items) after
+left_frame (frames.Application a) after = application_left a (bindings_of a.parameters) after
+left_frame (frames.Arguments a) after = arguments_left a (bindings_of a.done) after
+left_frame (frames.Parameters p) after = parameters_left p (here_of p.here) after
+left_frame (frames.Global s) after = global_left (declared_of s.unit.value.unit.value.declared) (here_of s)
 left_frame (frames.Copies c) after = nodes_copied (drop c.next c.nodes.items) after
 left_frame (frames.Wrap how) after = Wrap (wrapping_of how) after
+left_frame (frames.Take holder) after = Take (λ s. left_with holder (value.Fragment (filled s [])) after)
+left_frame (frames.Terminate place) after = Stop (terminated (place_of place))
 
 -- the outermost first
 abbrev pub left_over : List Frame → Plan NodeRef → Plan NodeRef

@@ -1,10 +1,11 @@
 // What is left of contents.
 use crate::Standing;
 use std::rc::Rc;
-use xp_syntax::{Branch, Instr};
+use xp_syntax::{Binding, Branch, Instr};
+use xt_ask::Bindings;
 use xt_base::Place;
 use xt_names::Expanded;
-use xt_run::{Target, Wrapping};
+use xt_run::{Call, Target, Wrapping};
 use xt_tree::NodeRef;
 
 /// A content from the next of its instructions on.
@@ -49,6 +50,8 @@ pub struct Loop {
 pub struct Application {
     pub place: Place,
     pub mode: Option<Expanded>,
+    /// The parameters that are passed to each.
+    pub parameters: Bindings,
     pub nodes: Vec<NodeRef>,
     pub next: usize,
     pub depth: u64,
@@ -61,17 +64,67 @@ pub struct Copies {
     pub next: usize,
 }
 
+/// What is passed to templates.
+#[derive(Drop)]
+pub enum Passing {
+    /// To the template rules of nodes, in place of the parameters that stand there.
+    Rules(Application),
+    /// To a template that is called from a content so deep, in place of the parameters of the call.
+    Template(Call, u64),
+}
+
+/// What is passed, from the next xsl:with-param on, and then what it is passed to (XSLT 1.0, section 11.6).
+#[derive(Drop)]
+pub struct Arguments {
+    pub bindings: Rc<Vec<Binding>>,
+    pub next: usize,
+    /// What is passed so far, the last first.
+    pub done: Bindings,
+    pub here: Standing,
+    pub to: Passing,
+}
+
+/// The parameters of a template from the next on, and then its content (XSLT 1.0, section 11.6).
+#[derive(Drop)]
+pub struct Parameters {
+    pub bindings: Rc<Vec<Binding>>,
+    pub next: usize,
+    /// What was passed.
+    pub given: Bindings,
+    pub content: Rc<Vec<Instr>>,
+    pub here: Standing,
+}
+
+/// What holds a value by this name, and what is left then.
+#[derive(Drop)]
+pub enum Holder {
+    /// A variable, before the rest of a content.
+    Variable(Expanded, Body),
+    /// A parameter that is passed.
+    Argument(Expanded, Arguments),
+    /// A parameter of a template.
+    Parameter(Expanded, Parameters),
+}
+
 /// What is left of one nested content, or comes at its end.
 #[derive(Drop)]
 pub enum Frame {
-    /// All of an instantiation of this target for this node.
-    Start(Target, NodeRef),
+    /// All of an instantiation of this target for this node, with these parameters.
+    Start(Target, NodeRef, Bindings),
     Body(Body),
     Attributes(Attributes),
     Branches(Branches),
     Loop(Loop),
     Application(Application),
+    Arguments(Arguments),
+    Parameters(Parameters),
+    /// All of a global that stands here, but what is given from outside.
+    Global(Standing),
     Copies(Copies),
     /// The end of the innermost sink.
     Wrap(Wrapping),
+    /// The end of the innermost sink, which is taken.
+    Take(Holder),
+    /// The end of the run, by the message at this place.
+    Terminate(Place),
 }

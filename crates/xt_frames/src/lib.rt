@@ -11,6 +11,7 @@
 #![tactic(auto)]
 
 mod frame;
+mod held;
 mod meant;
 mod noting;
 mod operand;
@@ -18,7 +19,11 @@ mod run;
 mod settle;
 mod standing;
 
-pub use frame::{Application, Attributes, Body, Branches, Copies, Frame, Loop};
+pub use frame::{
+    Application, Arguments, Attributes, Body, Branches, Copies, Frame, Holder, Loop, Parameters,
+    Passing,
+};
+pub use held::{hold, holding, take_held};
 pub use operand::{attribute, element, expansion, instruction, nodes, text, truth, value};
 pub use run::{
     Came, Next, Run, Waiting, go_into, lack, push, sink, want, write_fragment, write_text,

@@ -1,13 +1,15 @@
 // How far an instantiation has come, and what each step does to its frames.
-ghost use Rattle.std.specs.Prelude.{◌≡◌, suc, length, map, IfOk, OnOk};
+ghost use Rattle.std.specs.Prelude.{◌≡◌, suc, length, [], ◌∷◌, ◌++◌, map, IfOk, OnOk};
 ghost use Rattle.spec_stylesheet.specs.Instruction.{instrs};
 ghost use Rattle.spec_meaning.specs.Question as question;
 ghost use Rattle.spec_run.specs.Plan.{Put, Begin, Enter};
+ghost use Rattle.spec_run.specs.Going.{begun};
 ghost use Rattle.spec_run.specs.Content.{text_item};
 ghost use Rattle.xp_syntax.specs.PartView.{place_of};
 ghost use Rattle.xp_syntax.specs.InstrView.{instr_of};
 ghost use Rattle.xt_tree.specs.declared.node_ref.NodeRef.{NodeRef};
 ghost use Rattle.xt_run.specs.View.{call_of};
+ghost use Rattle.xt_going.specs.View.{going_of};
 ghost use Rattle.xt_frames.specs.View.{here_of, inside, left_frame};
 ghost use Rattle.xt_frames.specs.Left.{left_in, Does, Pushed, HasNeeds};
 
@@ -23,7 +25,7 @@ use xt_going::Going;
 use xt_names::Expanded;
 use xt_run::{Call, Refused};
 use xt_text::{Memory, Text};
-use xt_tree::{Fragment, Item};
+use xt_tree::{Fragment, Item, Value};
 
 /// What a run waits for.
 #[derive(Drop)]
@@ -57,6 +59,8 @@ pub enum Next {
     Needs(Expanded, u64, Place),
     /// Nothing is left.
     Done,
+    /// This is the value of the global that was run.
+    Gave(Value),
     Halt(Refused),
 }
 
@@ -168,9 +172,19 @@ pub fn sink(
 ) -> Result<Next, Memory>
     ensures { IfOk result (λ next. (ask : question.Question NodeRef → question.Answer NodeRef) → Does ask (Begin (inside (place_of place.now) (instrs (map instr_of content.now.value.items)) (here_of here) (left_frame end (left_frame rest (left_in run.old))))) (suc (length run.old.frames.items)) run.old run.new next) }
 {
-    run.going.begin(alloc)?;
-    push(run, rest)?;
+    begin(alloc, run, rest)?;
     push(run, end)?;
     let inner = share_content(content)?;
     go_into(alloc, run, place, inner, here)
+}
+
+// Begins a sink, before the rest.
+fn begin(alloc: Global, run: &mut Run, rest: Frame) -> Result<(), Memory>
+    ensures frames { OnOk result (run.new.frames.items ≡ run.old.frames.items ++ rest ∷ []) }
+    ensures going { OnOk result (going_of run.new.going ≡ begun (going_of run.old.going)) }
+    ensures room { OnOk result (run.new.room ≡ run.old.room) }
+    ensures supplies { OnOk result (run.new.supplies ≡ run.old.supplies) }
+{
+    run.going.begin(alloc)?;
+    push(run, rest)
 }

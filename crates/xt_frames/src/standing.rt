@@ -1,10 +1,15 @@
 // Where instructions stand.
-ghost use Rattle.std.specs.Prelude.{◌≡◌, map, IfOk};
+ghost use Rattle.std.specs.Prelude.{◌≡◌, ◌∷◌, map, IfOk};
+ghost use Rattle.xt_tree.specs.ValueView.{value_of};
+ghost use Rattle.xt_ask.specs.View.{bindings_of};
 
+use std::alloc::Global;
 use std::rc::Rc;
 use xp_syntax::{Instr, Site};
-use xt_ask::{Bindings, Context, Focus, ResolvedUnit};
+use xt_ask::{Binding, Bindings, Context, Focus, ResolvedUnit};
+use xt_names::Expanded;
 use xt_text::Memory;
+use xt_tree::Value;
 
 /// Where an instruction stands (XSLT 1.0, sections 1 and 11): the current node, the local variables in scope, how
 /// deep its content stands below the level of the instantiation, and the unit, with what its names name.
@@ -18,8 +23,9 @@ pub struct Standing {
 
 impl Standing {
     ghost use Rattle.std.specs.Prelude.{◌≡◌, IfOk};
-    ghost use Rattle.spec_run.specs.Content.{context_at};
+    ghost use Rattle.spec_run.specs.Content.{context_at, with_variable};
     ghost use Rattle.xp_syntax.specs.PartView.{site_of};
+    ghost use Rattle.xt_tree.specs.ValueView.{value_of};
     ghost use Rattle.xt_ask.specs.View.{context_of};
     ghost use Rattle.xt_frames.specs.View.{here_of};
 
@@ -38,6 +44,24 @@ impl Standing {
         })
     }
 
+    /// The same with one more variable in scope.
+    pub(crate) fn with_variable(
+        self,
+        alloc: Global,
+        name: Expanded,
+        value: Value,
+    ) -> Result<Standing, Memory>
+        ensures { IfOk result (λ s. here_of s ≡ with_variable name (value_of value) (here_of self)) }
+    {
+        let bindings = one_more(alloc, name, value, self.bindings)?;
+        Ok(Standing {
+            focus: self.focus,
+            bindings,
+            depth: self.depth,
+            unit: self.unit,
+        })
+    }
+
     /// What an expression at this element sees beside the focus.
     pub fn context(&self, site: &Site) -> Result<Context, Memory>
         ensures context { IfOk result (λ c. context_of self.now.focus c ≡ context_at (here_of self.now) (site_of site.now)) }
@@ -52,6 +76,19 @@ impl Standing {
             depth: self.depth,
         })
     }
+}
+
+/// These variables, and one more inside them.
+pub(crate) fn one_more(
+    alloc: Global,
+    name: Expanded,
+    value: Value,
+    outer: Bindings,
+) -> Result<Bindings, Memory>
+    ensures { IfOk result (λ b. bindings_of b ≡ (record { name = name; value = value_of value }) ∷ bindings_of outer) }
+{
+    let binding = Binding { name, value, outer };
+    Ok(Bindings::More(Rc::new(alloc, binding)?))
 }
 
 /// The same content, shared.

@@ -15,7 +15,7 @@ use Rattle.xt_going.specs.View.{going_of}
 use Rattle.xt_frames.specs.declared.run.Run.{Run}
 use Rattle.xt_frames.specs.declared.run.Next.{Next}
 use Rattle.xt_frames.specs.Left.{hand, Comes}
-use Rattle.xt_frames.proofs.Passing.{passes_then}
+use Rattle.xt_frames.proofs.Passed.{passes_then}
 use Rattle.xt_frames.proofs.Lefts.{steps_at, comes_after}
 use Rattle.xt_frames.proofs.Performs.{fewer}
 

@@ -26,10 +26,10 @@ use Rattle.xt_frames.specs.declared.run.Came.{Came}
 use Rattle.xt_frames.specs.declared.run.Came.TheVariants as came
 use Rattle.xt_frames.specs.declared.run.Run.{Run}
 use Rattle.xt_frames.specs.declared.run.Next.{Next}
-use Rattle.xt_frames.specs.declared.run.Next.TheVariants.{Went, Want, Needs, Done, Halt}
+use Rattle.xt_frames.specs.declared.run.Next.TheVariants.{Went, Want, Needs, Done, Gave, Halt}
 use Rattle.xt_frames.specs.View.{inside, left_frame, left_over}
 use Rattle.xt_frames.specs.Left.{left_in, hand, steps, Does, IsLeft, IsBack, Performs, Steps, Found, IsStill, Pushed, HasNeeds, NeedsSo}
-use Rattle.xt_frames.proofs.Passing.{passes_then}
+use Rattle.xt_frames.proofs.Passed.{passes_then}
 use Rattle.xt_frames.proofs.Lefts.{pushed, one_more, steps_at, passes_at, comes_after, moved, misses_moved, stops_after, stops_moved}
 use Rattle.xt_frames.proofs.Performs.{fewer, left_still, put_nothing}
 
@@ -135,6 +135,7 @@ looked_lacks ask bs start i h first now new last x f name next l lt is_x found s
     go Went e = absurd e
     go (Want c d) e = absurd e
     go Done e = absurd e
+    go (Gave v) e = absurd e
     go (Halt w) e = absurd e
 
 pub looked_end : (ask : Question NodeRef → Answer NodeRef) (bs : List Branch) (start i : ℕ) (h : Here NodeRef) (first now : Run) → Looked ask bs start i h first now → length bs ≤ i

@@ -5,3 +5,4 @@ pub mod Into
 pub mod Named
 pub mod Asked
 pub mod Written
+pub mod Held

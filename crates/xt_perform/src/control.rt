@@ -1,5 +1,5 @@
 // Instructions that say whether, how often or which contents run (XSLT 1.0, sections 5.4, 6, 8 and 9).
-ghost use Rattle.std.specs.Prelude.{◌≡◌, ◌<◌, ◌+◌, List, suc, length, map, IfOk, if◌then◌else◌};
+ghost use Rattle.std.specs.Prelude.{◌≡◌, ◌<◌, ◌+◌, List, [], suc, length, map, IfOk, if◌then◌else◌};
 ghost use Rattle.spec_stylesheet.specs.Instruction as made;
 ghost use Rattle.spec_stylesheet.specs.Instruction.{instrs};
 ghost use Rattle.spec_meaning.specs.Question as question;
@@ -8,7 +8,7 @@ ghost use Rattle.spec_run.specs.Plan.{Put};
 ghost use Rattle.spec_run.specs.Content as contents;
 ghost use Rattle.xp_syntax.specs.View.{expr_of};
 ghost use Rattle.xp_syntax.specs.PartView.{site_of};
-ghost use Rattle.xp_syntax.specs.InstrView.{instr_of, control_of, branch_of, selection_of};
+ghost use Rattle.xp_syntax.specs.InstrView.{instr_of, control_of, binding_of, branch_of, selection_of};
 ghost use Rattle.xt_tree.specs.declared.node_ref.NodeRef.{NodeRef};
 ghost use Rattle.xt_ask.specs.View.{template_of};
 ghost use Rattle.xt_frames.specs.declared.frame.Frame.TheVariants as Frame;
@@ -17,13 +17,14 @@ ghost use Rattle.xt_frames.specs.Left.{left_in, Does, Performs};
 
 use crate::choose::{choose_from, share_branches};
 use crate::simple::{advanced, into_content, nothing};
+use crate::variables::pass;
 use std::alloc::Global;
 use std::rc::Rc;
-use xp_syntax::{Branch, Control, Expr, Instr, Selection, Site};
+use xp_syntax::{Binding, Branch, Control, Expr, Instr, Selection, Site};
 use xt_ask::{Bindings, NamedTemplate, World, copy_name_if, copy_place};
 use xt_frames::{
-    Application, Body, Branches, Came, Frame, Loop, Next, Run, go_into, lack, nodes, push,
-    share_content, truth, want,
+    Application, Body, Branches, Came, Frame, Loop, Next, Passing, Run, lack, nodes, push,
+    share_content, truth,
 };
 use xt_names::Expanded;
 use xt_run::{Call, Target};
@@ -50,8 +51,10 @@ pub(crate) fn control<W: World>(
         }
         Control::If(test, content) => when(alloc, run, site, test, content, body, world),
         Control::Choose(branches) => choose(alloc, run, branches, body, world),
-        Control::ApplyTemplates(selection, _) => apply(alloc, run, site, selection, body, world),
-        Control::CallTemplate(name, _) => call(alloc, run, site, name, body),
+        Control::ApplyTemplates(selection, bindings) => {
+            apply(alloc, run, site, selection, bindings, body, world)
+        }
+        Control::CallTemplate(name, bindings) => call(alloc, run, site, name, bindings, body),
     }
 }
 
@@ -163,27 +166,17 @@ fn apply<W: World>(
     run: &mut Run,
     site: &Site,
     selection: &Selection,
+    bindings: &Rc<Vec<Binding>>,
     body: Body,
     world: &mut W,
 ) -> Result<Next, Memory>
     requires { body.next < usize.MAX }
-    ensures does { IfOk result (λ next. (bindings : made.Bindings) → Performs (W.state world.old).truth (Frame.Body body) (contents.planned_control (site_of site.now) (made.apply_templates (selection_of selection.now) bindings) (here_of body.here) (after_body body (left_in run.old))) run.old run.new next) }
+    ensures does { IfOk result (Performs (W.state world.old).truth (Frame.Body body) (contents.planned_control (site_of site.now) (made.apply_templates (selection_of selection.now) (made.bindings (map binding_of bindings.now.value.items))) (here_of body.here) (after_body body (left_in run.old))) run.old run.new) }
     ensures truth { (W.state world.new).truth ≡ (W.state world.old).truth }
     ensures name { W.name world.new ≡ W.name world.old }
 {
     match nodes(alloc, run, &selection.select, site, &body.here, world)? {
-        Came::Is(nodes) => {
-            let left = Application {
-                place: copy_place(alloc, &site.place)?,
-                mode: copy_name_if(alloc, &selection.mode)?,
-                nodes,
-                next: 0,
-                depth: body.here.depth,
-            };
-            push(run, Frame::Body(advanced(body)))?;
-            push(run, Frame::Application(left))?;
-            Ok(Next::Went)
-        }
+        Came::Is(nodes) => { apply_to(alloc, run, site, selection, bindings, nodes, body) }
         Came::Halts(why) => Ok(Next::Halt(why)),
         Came::Lacks(name) => {
             let depth = body.here.depth;
@@ -192,20 +185,45 @@ fn apply<W: World>(
     }
 }
 
+/// Applies template rules to these nodes, with what is passed.
+fn apply_to(
+    alloc: Global,
+    run: &mut Run,
+    site: &Site,
+    selection: &Selection,
+    bindings: &Rc<Vec<Binding>>,
+    nodes: Vec<NodeRef>,
+    body: Body,
+) -> Result<Next, Memory>
+    requires { body.next < usize.MAX }
+    ensures { IfOk result (λ next. (ask : question.Question NodeRef → question.Answer NodeRef) → let h = here_of body.here in Does ask (Put Ended (contents.passed (made.bindings (map binding_of bindings.now.value.items)) h [] (λ parameters. contents.applied_to (site_of site.now).place selection.now.mode parameters h.depth nodes.items (after_body body (left_in run.old))))) (suc (length run.old.frames.items)) run.old run.new next) }
+{
+    let to = Application {
+        place: copy_place(alloc, &site.place)?,
+        mode: copy_name_if(alloc, &selection.mode)?,
+        parameters: Bindings::Empty,
+        nodes,
+        next: 0,
+        depth: body.here.depth,
+    };
+    pass(run, bindings, Passing::Rules(to), body)
+}
+
 /// xsl:call-template (XSLT 1.0, section 6). A name that is no template's writes nothing.
 fn call(
     alloc: Global,
     run: &mut Run,
     site: &Site,
     name: &Expanded,
+    bindings: &Rc<Vec<Binding>>,
     body: Body,
 ) -> Result<Next, Memory>
     requires { body.next < usize.MAX }
-    ensures { IfOk result (λ next. (ask : question.Question NodeRef → question.Answer NodeRef) → Does ask (contents.called (site_of site.now) (here_of body.here) (contents.template_called name.now (here_of body.here).templates) (after_body body (left_in run.old))) (suc (length run.old.frames.items)) run.old run.new next) }
+    ensures { IfOk result (λ next. (ask : question.Question NodeRef → question.Answer NodeRef) → Does ask (contents.planned_control (site_of site.now) (made.call_template name.now (made.bindings (map binding_of bindings.now.value.items))) (here_of body.here) (after_body body (left_in run.old))) (suc (length run.old.frames.items)) run.old run.new next) }
 {
     match template_called(name, body.here.unit.templates.as_slice()) {
         None => nothing(run, body),
-        Some(element) => call_element(alloc, run, site, element, body),
+        Some(element) => call_element(alloc, run, site, element, bindings, body),
     }
 }
 
@@ -227,10 +245,11 @@ fn call_element(
     run: &mut Run,
     site: &Site,
     element: NodeRef,
+    bindings: &Rc<Vec<Binding>>,
     body: Body,
 ) -> Result<Next, Memory>
     requires { body.next < usize.MAX }
-    ensures { IfOk result (λ next. (ask : question.Question NodeRef → question.Answer NodeRef) → Does ask (contents.called (site_of site.now) (here_of body.here) (Some element) (after_body body (left_in run.old))) (suc (length run.old.frames.items)) run.old run.new next) }
+    ensures { IfOk result (λ next. (ask : question.Question NodeRef → question.Answer NodeRef) → Does ask (contents.called (site_of site.now) (here_of body.here) (λ k. contents.passed (made.bindings (map binding_of bindings.now.value.items)) (here_of body.here) [] k) (Some element) (after_body body (left_in run.old))) (suc (length run.old.frames.items)) run.old run.new next) }
 {
     let focus = body.here.focus;
     let depth = body.here.depth;
@@ -242,5 +261,5 @@ fn call_element(
         size: focus.size,
         by: copy_place(alloc, &site.place)?,
     };
-    want(run, Frame::Body(advanced(body)), call, depth)
+    pass(run, bindings, Passing::Template(call, depth), body)
 }

@@ -3,11 +3,13 @@ ghost use Rattle.std.specs.Prelude.{◌≡◌, ◌<◌, ◌+◌, suc, length, ma
 ghost use Rattle.spec_stylesheet.specs.Instruction as made;
 ghost use Rattle.spec_stylesheet.specs.Instruction.{instrs};
 ghost use Rattle.spec_meaning.specs.Question as question;
+ghost use Rattle.spec_expression.specs.Number.{text_of};
+ghost use Rattle.spec_meaning.specs.Stream.{Ended};
 ghost use Rattle.spec_meaning.specs.Convert as convert;
 ghost use Rattle.spec_run.specs.Plan as plan;
 ghost use Rattle.spec_run.specs.Going as goings;
-ghost use Rattle.spec_run.specs.Copy.{stream_in};
-ghost use Rattle.spec_run.specs.Content.{value_copied, copied_as, planned_with, kind_in};
+ghost use Rattle.spec_run.specs.Copy.{stream_in, without_attributes};
+ghost use Rattle.spec_run.specs.Content.{value_copied, nodes_copied, copied_as, planned_with, kind_in, text_item};
 ghost use Rattle.xt_names.specs.View.{entry_of};
 ghost use Rattle.xp_syntax.specs.PartView.{site_of};
 ghost use Rattle.xp_syntax.specs.InstrView.{instr_of};
@@ -30,13 +32,14 @@ use std::alloc::Global;
 use std::rc::Rc;
 use xp_syntax::{Instr, Site, Test};
 use xt_ask::{Answer, Question, World};
+use xt_base::Num;
 use xt_frames::{Body, Copies, Frame, Next, Run, push, write_fragment, write_text};
 use xt_going::Going;
 use xt_names::{Expanded, Namespace};
 use xt_run::Wrapping;
 use xt_streams::without_attributes;
 use xt_text::{Memory, Text};
-use xt_tree::Value;
+use xt_tree::{Fragment, NodeRef, Value};
 
 /// Writes a value, before the rest: a number or a boolean as its text.
 pub(crate) fn write_value(
@@ -48,25 +51,50 @@ pub(crate) fn write_value(
     ensures { IfOk result (λ next. (ask : question.Question NodeRef → question.Answer NodeRef) → Does ask (value_copied (value_of value) (left_frame rest (left_in run.old))) (suc (length run.old.frames.items)) run.old run.new next) }
 {
     match value {
-        Value::Nodes(nodes) => {
-            push(run, rest)?;
-            push(run, Frame::Copies(Copies { nodes, next: 0 }))?;
-            Ok(Next::Went)
-        }
-        Value::Fragment(fragment) => {
-            let kept = without_attributes(alloc, &fragment)?;
-            write_fragment(run, &kept, rest)
-        }
+        Value::Nodes(nodes) => write_nodes(run, nodes, rest),
+        Value::Fragment(fragment) => write_plain(alloc, run, fragment, rest),
         Value::Text(text) => write_text(run, text, rest),
-        Value::Number(number) => {
-            let text = number.text(alloc)?;
-            write_text(run, text, rest)
-        }
-        Value::Boolean(boolean) => {
-            let text = text_of_boolean(alloc, boolean)?;
-            write_text(run, text, rest)
-        }
+        Value::Number(number) => write_number(alloc, run, number, rest),
+        Value::Boolean(boolean) => write_boolean(alloc, run, boolean, rest),
     }
+}
+
+/// Leaves the copies of these nodes, before the rest.
+fn write_nodes(run: &mut Run, nodes: Vec<NodeRef>, rest: Frame) -> Result<Next, Memory>
+    ensures { IfOk result (λ next. (ask : question.Question NodeRef → question.Answer NodeRef) → Does ask (plan.Put Ended (nodes_copied nodes.items (left_frame rest (left_in run.old)))) (suc (length run.old.frames.items)) run.old run.new next) }
+{
+    push(run, rest)?;
+    push(run, Frame::Copies(Copies { nodes, next: 0 }))?;
+    Ok(Next::Went)
+}
+
+/// Writes a fragment without the attributes beside its nodes, before the rest.
+fn write_plain(
+    alloc: Global,
+    run: &mut Run,
+    fragment: Fragment,
+    rest: Frame,
+) -> Result<Next, Memory>
+    ensures { IfOk result (λ next. (ask : question.Question NodeRef → question.Answer NodeRef) → Does ask (plan.Put (without_attributes fragment) (left_frame rest (left_in run.old))) (suc (length run.old.frames.items)) run.old run.new next) }
+{
+    let kept = without_attributes(alloc, &fragment)?;
+    write_fragment(run, &kept, rest)
+}
+
+/// Writes a number as its text, before the rest.
+fn write_number(alloc: Global, run: &mut Run, number: Num, rest: Frame) -> Result<Next, Memory>
+    ensures { IfOk result (λ next. (ask : question.Question NodeRef → question.Answer NodeRef) → Does ask (plan.Put (text_item (text_of number)) (left_frame rest (left_in run.old))) (suc (length run.old.frames.items)) run.old run.new next) }
+{
+    let text = number.text(alloc)?;
+    write_text(run, text, rest)
+}
+
+/// Writes a boolean as its text, before the rest.
+fn write_boolean(alloc: Global, run: &mut Run, boolean: bool, rest: Frame) -> Result<Next, Memory>
+    ensures { IfOk result (λ next. (ask : question.Question NodeRef → question.Answer NodeRef) → Does ask (plan.Put (text_item (convert.text_of_boolean boolean)) (left_frame rest (left_in run.old))) (suc (length run.old.frames.items)) run.old run.new next) }
+{
+    let text = text_of_boolean(alloc, boolean)?;
+    write_text(run, text, rest)
 }
 
 fn text_of_boolean(alloc: Global, boolean: bool) -> Result<Text, Memory>

@@ -2,18 +2,19 @@
 ghost use Rattle.std.specs.Prelude.{◌≡◌, ◌<◌, ◌+◌, map, slice_get, Some, IfOk};
 ghost use Rattle.spec_stylesheet.specs.Instruction as made;
 ghost use Rattle.spec_stylesheet.specs.Instruction.{instrs};
-ghost use Rattle.spec_run.specs.Content.{plan, planned_with};
+ghost use Rattle.spec_run.specs.Content.{plan};
 ghost use Rattle.xp_syntax.specs.PartView.{site_of, with_content_of};
 ghost use Rattle.xp_syntax.specs.InstrView.{instr_of};
 ghost use Rattle.xt_frames.specs.declared.frame.Frame.TheVariants as Frame;
-ghost use Rattle.xt_frames.specs.View.{here_of, inside, after_body};
+ghost use Rattle.xt_frames.specs.View.{here_of, following};
 ghost use Rattle.xt_frames.specs.Left.{left_in, Performs};
 
 use crate::control::control;
 use crate::copying::copy;
 use crate::literal::literal;
-use crate::making::{attribute, collect, element, instruction};
-use crate::simple::{nothing, without_content};
+use crate::making::{attribute, collect, element, instruction, message};
+use crate::simple::without_content;
+use crate::variables::variable;
 use std::alloc::Global;
 use std::rc::Rc;
 use xp_syntax::{Form, Instr, Site, WithContent};
@@ -32,7 +33,7 @@ pub fn perform<W: World>(
 ) -> Result<Next, Memory>
     requires room { body.next < usize.MAX }
     requires stands { slice_get (map instr_of body.content.value.items) body.next ≡ Some (instr_of instr.now) }
-    ensures does { IfOk result (Performs (W.state world.old).truth (Frame.Body body) (plan (instr_of instr.now).site (instr_of instr.now).form (here_of body.here) (after_body body (left_in run.old))) run.old run.new) }
+    ensures does { IfOk result (Performs (W.state world.old).truth (Frame.Body body) (plan (instr_of instr.now).site (instr_of instr.now).form (here_of body.here) (following body (left_in run.old))) run.old run.new) }
     ensures truth { (W.state world.new).truth ≡ (W.state world.old).truth }
     ensures name { W.name world.new ≡ W.name world.old }
 {
@@ -57,7 +58,7 @@ fn with_content<W: World>(
 ) -> Result<Next, Memory>
     requires room { body.next < usize.MAX }
     requires stands { slice_get (map instr_of body.content.value.items) body.next ≡ Some (record { site = site_of site.now; form = made.with_content (with_content_of what.now) (instrs (map instr_of content.now.value.items)) }) }
-    ensures does { IfOk result (Performs (W.state world.old).truth (Frame.Body body) (planned_with (site_of site.now) (here_of body.here) (with_content_of what.now) (inside (site_of site.now).place (instrs (map instr_of content.now.value.items)) (here_of body.here)) (after_body body (left_in run.old))) run.old run.new) }
+    ensures does { IfOk result (Performs (W.state world.old).truth (Frame.Body body) (plan (site_of site.now) (made.with_content (with_content_of what.now) (instrs (map instr_of content.now.value.items))) (here_of body.here) (following body (left_in run.old))) run.old run.new) }
     ensures truth { (W.state world.new).truth ≡ (W.state world.old).truth }
     ensures name { W.name world.new ≡ W.name world.old }
 {
@@ -70,7 +71,9 @@ fn with_content<W: World>(
             instruction(alloc, run, site, target, content, body, world)
         }
         WithContent::Copy(_) => copy(alloc, run, site, content, body, world),
-        WithContent::Variable(_, _) => nothing(run, body),
-        WithContent::Message(_) => nothing(run, body),
+        WithContent::Variable(name, select) => {
+            variable(alloc, run, site, name, select, content, body, world)
+        }
+        WithContent::Message(terminates) => message(alloc, run, site, *terminates, content, body),
     }
 }

@@ -1,4 +1,4 @@
-//! What each instruction does (XSLT 1.0, sections 5 to 9 and 11.3). An instruction is a step of a run: it evaluates
+//! What each instruction does (XSLT 1.0, sections 5 to 9, 11 and 13). An instruction is a step of a run: it evaluates
 //! its expressions, writes, and leaves its content as frames. Where an expression lacks a global, the frame of the
 //! instruction is left as it was, and nothing that it did stands.
 //!
@@ -16,6 +16,7 @@ mod literal;
 mod making;
 mod namespaces;
 mod simple;
+mod variables;
 
 pub use attributes::go_on_attributes;
 pub use choose::choose_from;

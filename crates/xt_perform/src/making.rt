@@ -1,11 +1,12 @@
-// Elements, attributes and processing instructions whose names are made (XSLT 1.0, sections 7.1.2, 7.1.3 and 7.3).
+// What is made of contents: elements, attributes and processing instructions whose names are made, and messages
+// (XSLT 1.0, sections 7.1.2, 7.1.3, 7.3 and 13).
 ghost use Rattle.std.specs.Prelude.{◌≡◌, ◌<◌, ◌+◌, List, suc, length, map, IfOk};
 ghost use Rattle.spec_document.specs.Name.{Expanded};
 ghost use Rattle.spec_stylesheet.specs.Instruction as made;
 ghost use Rattle.spec_stylesheet.specs.Instruction.{instrs};
 ghost use Rattle.spec_meaning.specs.Question as question;
-ghost use Rattle.spec_run.specs.Plan.{Begin, Wrap};
-ghost use Rattle.spec_run.specs.Content.{planned_with};
+ghost use Rattle.spec_run.specs.Plan.{Begin, Wrap, Stop, AsMessage};
+ghost use Rattle.spec_run.specs.Content.{planned_with, terminated};
 ghost use Rattle.xp_syntax.specs.PartView.{site_of, made_name_of, avt_of};
 ghost use Rattle.xp_syntax.specs.InstrView.{instr_of};
 ghost use Rattle.xt_tree.specs.declared.node_ref.NodeRef.{NodeRef};
@@ -18,8 +19,8 @@ use crate::simple::advanced;
 use std::alloc::Global;
 use std::rc::Rc;
 use xp_syntax::{Avt, Instr, MadeName, Site};
-use xt_ask::World;
-use xt_frames::{Body, Came, Frame, Next, Run, lack, sink};
+use xt_ask::{World, copy_place};
+use xt_frames::{Body, Came, Frame, Next, Run, Standing, lack, sink};
 use xt_run::Wrapping;
 use xt_text::Memory;
 
@@ -121,4 +122,38 @@ pub(crate) fn instruction<W: World>(
             lack(alloc, run, Frame::Body(body), name, depth, &site.place)
         }
     }
+}
+
+/// xsl:message (XSLT 1.0, section 13).
+pub(crate) fn message(
+    alloc: Global,
+    run: &mut Run,
+    site: &Site,
+    terminates: bool,
+    content: &Rc<Vec<Instr>>,
+    body: Body,
+) -> Result<Next, Memory>
+    requires { body.next < usize.MAX }
+    ensures { IfOk result (λ next. (ask : question.Question NodeRef → question.Answer NodeRef) → Does ask (planned_with (site_of site.now) (here_of body.here) (made.Message terminates) (inside (site_of site.now).place (instrs (map instr_of content.now.value.items)) (here_of body.here)) (after_body body (left_in run.old))) (suc (length run.old.frames.items)) run.old run.new next) }
+{
+    if terminates {
+        last_message(alloc, run, site, content, body.here)
+    } else {
+        collect(alloc, run, site, Wrapping::Message, content, body)
+    }
+}
+
+/// A message that ends the run.
+fn last_message(
+    alloc: Global,
+    run: &mut Run,
+    site: &Site,
+    content: &Rc<Vec<Instr>>,
+    here: Standing,
+) -> Result<Next, Memory>
+    ensures { IfOk result (λ next. (ask : question.Question NodeRef → question.Answer NodeRef) → Does ask (Begin (inside (site_of site.now).place (instrs (map instr_of content.now.value.items)) (here_of here) (Wrap AsMessage (Stop (terminated (site_of site.now).place))))) (suc (length run.old.frames.items)) run.old run.new next) }
+{
+    let rest = Frame::Terminate(copy_place(alloc, &site.place)?);
+    let end = Frame::Wrap(Wrapping::Message);
+    sink(alloc, run, rest, end, &site.place, content, here)
 }

@@ -1,9 +1,10 @@
--- What calls, events and wrappings of the program stand for.
+-- What calls, events, wrappings and globals of the program stand for.
 use Rattle.std.specs.Prelude.{map}
 use Rattle.spec_stylesheet.specs.Place.{Place}
 use Rattle.spec_run.specs.Plan as plain
 use Rattle.spec_run.specs.Direct.{Known}
 use Rattle.spec_run.specs.Going as going
+use Rattle.spec_run.specs.Meaning as meant
 use Rattle.xp_syntax.specs.PartView.{place_of}
 use Rattle.xt_names.specs.View.{entry_of}
 use Rattle.xt_tree.specs.declared.node_ref.NodeRef.{NodeRef}
@@ -15,6 +16,7 @@ use Rattle.xt_run.specs.declared.call.Target.TheVariants as targets
 use Rattle.xt_run.specs.declared.call.Call.{Call}
 use Rattle.xt_run.specs.declared.event.Event.{Event}
 use Rattle.xt_run.specs.declared.event.Event.TheVariants as events
+use Rattle.xt_run.specs.declared.global.NamedGlobal.{NamedGlobal}
 use Rattle.xt_run.specs.declared.wrapping.Wrapping.{Wrapping}
 use Rattle.xt_run.specs.declared.wrapping.Wrapping.TheVariants as wrappings
 
@@ -48,3 +50,6 @@ wrapping_of (wrappings.Attribute name uri) = plain.AsAttribute name uri
 wrapping_of wrappings.Comment = plain.AsComment
 wrapping_of (wrappings.Instruction target) = plain.AsInstruction target
 wrapping_of wrappings.Message = plain.AsMessage
+
+abbrev pub named_of : NamedGlobal → meant.NamedGlobal NodeRef
+named_of g = record { name = g.name; element = g.element }

@@ -13,11 +13,13 @@
 mod call;
 mod engine;
 mod event;
+mod global;
 mod turn;
 mod wrapping;
 
 pub use call::{Call, Refused, Target};
 pub use engine::Engine;
 pub use event::{Event, Ran};
+pub use global::NamedGlobal;
 pub use turn::{Entered, RunFault, Turn};
 pub use wrapping::Wrapping;

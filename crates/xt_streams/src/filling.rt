@@ -1,5 +1,5 @@
 // Parts in place of holes, however many there are of either.
-ghost use Rattle.std.specs.Prelude.{◌≡◌, length, drop, IfOk};
+ghost use Rattle.std.specs.Prelude.{◌≡◌, [], length, drop, IfOk};
 ghost use Rattle.spec_meaning.specs.Stream.{filled, first_of};
 ghost use Rattle.xt_tree.specs.StreamView.{stream_of, streams_of};
 ghost use Rattle.xt_streams.specs.Parts.{as_many};
@@ -8,7 +8,7 @@ use crate::count_holes;
 use std::alloc::Global;
 use std::rc::Rc;
 use xt_text::Memory;
-use xt_tree::Items;
+use xt_tree::{Fragment, Items};
 
 /// The stream with the parts in place of its holes, in order: nothing for those that are left when there are
 /// no more parts. The parts are shared, and so is what has no holes.
@@ -24,6 +24,21 @@ pub fn fill(alloc: Global, items: &Items, parts: &[Rc<Items>]) -> Result<Rc<Item
     }
     let enough = as_many(alloc, count, parts)?;
     items.fill(alloc, enough.as_slice())
+}
+
+/// The fragment of a stream, with nothing in place of its holes. Where it has none it is shared.
+///
+/// # Errors
+/// Want of memory.
+pub fn fragment_of(alloc: Global, items: &Rc<Items>) -> Result<Fragment, Memory>
+    ensures { IfOk result (λ f. f ≡ filled (stream_of items.now.value) []) }
+{
+    if count_holes(items)? == 0 {
+        return Ok(Fragment::new(items.clone()?));
+    }
+    let none = Vec::new(alloc);
+    let whole = fill(alloc, items, none.as_slice())?;
+    Ok(Fragment::new(whole))
 }
 
 // So many of the parts: nothing for those that are not there.

@@ -4,6 +4,7 @@
 //! ```text
 //! let whole = fill(alloc, &items, parts)?;    // where there are fewer parts than holes, nothing for the rest
 //! let value = quiet(alloc, &whole)?;          // without its messages
+//! let fragment = fragment_of(alloc, &value)?; // as a value holds it
 //! ```
 #![tactic(auto)]
 
@@ -13,7 +14,7 @@ mod holes;
 mod item;
 mod messages;
 
-pub use filling::fill;
+pub use filling::{fill, fragment_of};
 pub use fragment::without_attributes;
 pub use holes::count_holes;
 pub use messages::quiet;

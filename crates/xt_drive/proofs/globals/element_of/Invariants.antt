@@ -1,6 +1,6 @@
 use Rattle.std.proofs.Common.{◌≡◌, map, drop}
 use Rattle.spec_run.specs.Meaning.{element_named}
-use Rattle.xt_drive.specs.View.{named_of}
+use Rattle.xt_run.specs.View.{named_of}
 use Rattle.xt_drive.proofs.globals.element_of.Given as goal
 
 abbrev pub invariant-loop-global : goal.invariant-loop-global

@@ -3,7 +3,8 @@ use Rattle.spec_meaning.specs.Question.{Choice, AllRules}
 use Rattle.spec_run.specs.Plan.{nowhere}
 use Rattle.spec_run.specs.Content.{rule_call}
 use Rattle.spec_run.specs.Meaning.{root_call, run}
-use Rattle.xt_drive.specs.View.{named_of, held_of, setting_in, supplied_of}
+use Rattle.xt_run.specs.View.{named_of}
+use Rattle.xt_drive.specs.View.{held_of, setting_in, supplied_of}
 use Rattle.xt_drive.proofs.Standing.{if_ok}
 use Rattle.xt_drive.proofs.Turns.{meant_here, root_here, turn_made, next_turn, turn_held, turn_refused, values_more, last_turn}
 use Rattle.xt_drive.proofs.whole.run_in.Goals as goal
@@ -75,7 +76,7 @@ returns-clause-run g c =
     let values = map held_of c.loop-global.values.items in
     let told = c.loop-global.told.items in
     let call = root_call s in
-    let same = c.in_ok-call.ensures.call ∙ ap (λ a. rule_call nowhere None 1 root 1 (a (Choice root None AllRules))) inv.truth in
+    let same = c.in_ok-call.ensures.call ∙ ap (λ a. rule_call nowhere None [] 1 root 1 (a (Choice root None AllRules))) inv.truth in
     let here = root_here root named levels (c.root_call.ensures.truth ∙ inv.truth) c.as_slice-2.ensures.value (c.as_slice-3.ensures.value ∙ c.new-none.ensures.items) same in
     let came = if_ok c.means-came.result c.means-came.ensures.meaning (λ x h. h ∙ here) in
     if_ok c.finished.result c.finished.ensures (λ w f. last_turn s levels named i values told call c.means-came.result w (omega arith) came f ∙ inv.same)

@@ -1,6 +1,7 @@
 use Rattle.std.proofs.Common.{◌≡◌, [], map, drop}
 use Rattle.spec_run.specs.Meaning.{run, root_call}
-use Rattle.xt_drive.specs.View.{named_of, held_of, setting_in}
+use Rattle.xt_run.specs.View.{named_of}
+use Rattle.xt_drive.specs.View.{held_of, setting_in}
 use Rattle.xt_drive.proofs.whole.run_in.Given as goal
 
 abbrev pub invariant-loop-global : goal.invariant-loop-global

@@ -9,7 +9,6 @@ use Rattle.xt_frames.specs.View.{left_frame}
 use Rattle.xt_frames.specs.Left.{left_in}
 use Rattle.xt_frames.proofs.Lefts.{if_ok}
 use Rattle.xt_frames.proofs.Performs.{inquired}
-use Rattle.xt_frames.proofs.Items.{view-Empty}
 use Rattle.xt_frames.proofs.Frames.{at_end, from_same}
 use Rattle.xt_engine.proofs.Nexts.{application_next, application_none, entered_then}
 use Rattle.xt_engine.proofs.frames.go_on_application.Goals as goal
@@ -29,9 +28,9 @@ returns-clause-does g c =
     let e = ap length slice in
     let none : NodeRef = record { node = record { number = 0 }; part = Itself } in
     let n = get_or a.nodes.items a.next none in
-    let j : Application = record { place = a.place; mode = a.mode; nodes = a.nodes; next = a.next + 1; depth = a.depth } in
+    let j : Application = record { place = a.place; mode = a.mode; parameters = a.parameters; nodes = a.nodes; next = a.next + 1; depth = a.depth } in
     let mid : Run = record { room = r.room; supplies = r.supplies; waiting = r.waiting; frames = r.frames; going = c.ask.new.self } in
     if_ok c.want.result c.want.ensures (λ next h.
     from_same truth (frames.Application a) _ r c.want.new.run next (application_next a none (left_in r) (omega (arith, e)))
     (inquired truth (Choice n a.mode AllRules) (entered_then a n (a.next + 1) (left_frame (frames.Application j) (left_in r))) _ r mid c.want.new.run next (rw (c.in_ok-mode.ensures, slice) at c.in_ok-answer.ensures.noted) refl refl
-    (rw (c.in_ok-target_by.ensures, c.in_ok-answer.ensures.answer, c.in_ok-mode.ensures, c.in_ok-copy_place.ensures, view-Empty, slice) at h truth)))
+    (rw (c.in_ok-target_by.ensures, c.in_ok-answer.ensures.answer, c.in_ok-mode.ensures, c.in_ok-copy_place.ensures, c.in_ok-share.ensures, slice) at h truth)))

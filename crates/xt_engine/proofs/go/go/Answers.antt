@@ -1,6 +1,6 @@
 use Rattle.std.proofs.Common.{refl, ◌∙◌}
 use Rattle.spec_run.specs.Passes.{stays}
-use Rattle.xt_engine.proofs.Onwards.{Come, steps_in, come_went, onward_want, onward_needs, onward_done, onward_halt}
+use Rattle.xt_engine.proofs.Onwards.{Come, steps_in, come_went, onward_want, onward_needs, onward_done, onward_gave, onward_halt}
 use Rattle.xt_engine.proofs.go.go.Goals as goal
 
 pub loop-call-init : goal.loop-call-init
@@ -36,3 +36,9 @@ returns-in-Halt-clause-onward g c =
     let inv = c.loop-call.invariant in
     let come : Come (g.W.World.state c.args.world.now).truth c.args.run.now c.loop-call.run = record { passes = inv.passes; room = inv.room; supplies = inv.supplies } in
     onward_halt _ c.in-Halt.why c.halt.result come (steps_in inv.truth c.in-Halt.is c.in_ok-step.ensures.does) c.halt.ensures
+
+pub returns-in-Gave-clause-onward : goal.returns-in-Gave-clause-onward
+returns-in-Gave-clause-onward g c =
+    let inv = c.loop-call.invariant in
+    let come : Come (g.W.World.state c.args.world.now).truth c.args.run.now c.loop-call.run = record { passes = inv.passes; room = inv.room; supplies = inv.supplies } in
+    onward_gave _ c.in_ok-finish-in-Gave.field-0 c.in-Gave.value come (steps_in inv.truth c.in-Gave.is c.in_ok-step.ensures.does) c.in_ok-finish-in-Gave.ensures

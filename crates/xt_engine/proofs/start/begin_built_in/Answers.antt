@@ -1,5 +1,6 @@
-use Rattle.std.proofs.Common.{refl, ap, ◌∙◌}
+use Rattle.std.proofs.Common.{refl, ap, ◌∙◌, arith}
 use Rattle.spec_document.specs.declared.kind.Kind.TheVariants as kind
+use Rattle.spec_run.specs.Plan.{End}
 use Rattle.spec_run.specs.Content.{kind_in}
 use Rattle.xt_frames.specs.declared.run.Run.{Run}
 use Rattle.xt_frames.specs.declared.run.Next.TheVariants.{Went}
@@ -49,7 +50,7 @@ returns-in-Namespace-clause-does g c =
     let r = c.args.run.now in
     let mid : Run = record { room = r.room; supplies = r.supplies; waiting = r.waiting; frames = r.frames; going = c.ask.new.self } in
     let low = c.leave_nothing.new.run in
-    built_in_does truth c.args.mode c.args.node kind.Namespace r mid low low Went (c.in-Namespace.ensures ∙ ap kind_in c.in_ok-answer.ensures.answer) c.in_ok-answer.ensures.noted refl refl c.leave_nothing.ensures.begun (nothing_does truth low c.leave_nothing.ensures.begun.left c.leave_nothing.ensures.none)
+    built_in_does truth c.args.mode c.args.node kind.Namespace r mid low low Went (c.in-Namespace.ensures ∙ ap kind_in c.in_ok-answer.ensures.answer) c.in_ok-answer.ensures.noted refl refl c.leave_nothing.ensures.begun (nothing_does truth End 1 low (omega arith) refl c.leave_nothing.ensures.none)
 
 pub returns-in-Comment-clause-does : goal.returns-in-Comment-clause-does
 returns-in-Comment-clause-does g c =
@@ -57,7 +58,7 @@ returns-in-Comment-clause-does g c =
     let r = c.args.run.now in
     let mid : Run = record { room = r.room; supplies = r.supplies; waiting = r.waiting; frames = r.frames; going = c.ask.new.self } in
     let low = c.leave_nothing.new.run in
-    built_in_does truth c.args.mode c.args.node kind.Comment r mid low low Went (c.in-Comment.ensures ∙ ap kind_in c.in_ok-answer.ensures.answer) c.in_ok-answer.ensures.noted refl refl c.leave_nothing.ensures.begun (nothing_does truth low c.leave_nothing.ensures.begun.left c.leave_nothing.ensures.none)
+    built_in_does truth c.args.mode c.args.node kind.Comment r mid low low Went (c.in-Comment.ensures ∙ ap kind_in c.in_ok-answer.ensures.answer) c.in_ok-answer.ensures.noted refl refl c.leave_nothing.ensures.begun (nothing_does truth End 1 low (omega arith) refl c.leave_nothing.ensures.none)
 
 pub returns-in-Instruction-clause-does : goal.returns-in-Instruction-clause-does
 returns-in-Instruction-clause-does g c =
@@ -65,4 +66,4 @@ returns-in-Instruction-clause-does g c =
     let r = c.args.run.now in
     let mid : Run = record { room = r.room; supplies = r.supplies; waiting = r.waiting; frames = r.frames; going = c.ask.new.self } in
     let low = c.leave_nothing.new.run in
-    built_in_does truth c.args.mode c.args.node kind.Instruction r mid low low Went (c.in-Instruction.ensures ∙ ap kind_in c.in_ok-answer.ensures.answer) c.in_ok-answer.ensures.noted refl refl c.leave_nothing.ensures.begun (nothing_does truth low c.leave_nothing.ensures.begun.left c.leave_nothing.ensures.none)
+    built_in_does truth c.args.mode c.args.node kind.Instruction r mid low low Went (c.in-Instruction.ensures ∙ ap kind_in c.in_ok-answer.ensures.answer) c.in_ok-answer.ensures.noted refl refl c.leave_nothing.ensures.begun (nothing_does truth End 1 low (omega arith) refl c.leave_nothing.ensures.none)

@@ -2,7 +2,7 @@ use Rattle.std.proofs.Common.{IfOk, subst, sym, ap, ◌∙◌, map}
 use Rattle.spec_stylesheet.specs.Instruction as made
 use Rattle.spec_run.specs.Content.{planned_control}
 use Rattle.xp_syntax.specs.PartView.{site_of, sort_key_of}
-use Rattle.xp_syntax.specs.InstrView.{control_of, binding_of}
+use Rattle.xp_syntax.specs.InstrView.{control_of}
 use Rattle.xt_frames.specs.declared.frame.Frame.TheVariants as frames
 use Rattle.xt_frames.specs.View.{here_of, after_body}
 use Rattle.xt_frames.specs.Left.{left_in, Performs}
@@ -41,7 +41,7 @@ returns-in-ApplyTemplates-clause-does g c =
     let old = c.args.run.now in
     let b = c.args.body in
     let P : made.Control → Type 0 = λ x. IfOk c.apply.result (λ next. Performs truth (frames.Body b) (planned_control (site_of c.args.site.now) x (here_of b.here) (after_body b (left_in old))) old c.apply.new.run next) in
-    subst P (sym (ap control_of c.in-ApplyTemplates.is ∙ view-ApplyTemplates _ c.in-ApplyTemplates.field-1)) (if_ok c.apply.result c.apply.ensures.does (λ next h. h (made.bindings (map binding_of c.in-ApplyTemplates.field-1.value.items))))
+    subst P (sym (ap control_of c.in-ApplyTemplates.is ∙ view-ApplyTemplates _ _)) c.apply.ensures.does
 
 pub returns-in-CallTemplate-clause-does : goal.returns-in-CallTemplate-clause-does
 returns-in-CallTemplate-clause-does g c =
@@ -49,4 +49,4 @@ returns-in-CallTemplate-clause-does g c =
     let old = c.args.run.now in
     let b = c.args.body in
     let P : made.Control → Type 0 = λ x. IfOk c.call.result (λ next. Performs truth (frames.Body b) (planned_control (site_of c.args.site.now) x (here_of b.here) (after_body b (left_in old))) old c.call.new.run next) in
-    subst P (sym (ap control_of c.in-CallTemplate.is ∙ view-CallTemplate _ c.in-CallTemplate.field-1)) (if_ok c.call.result c.call.ensures (λ next h. does_performs truth _ (frames.Body b) old c.call.new.run next (h truth)))
+    subst P (sym (ap control_of c.in-CallTemplate.is ∙ view-CallTemplate _ _)) (if_ok c.call.result c.call.ensures (λ next h. does_performs truth _ (frames.Body b) old c.call.new.run next (h truth)))

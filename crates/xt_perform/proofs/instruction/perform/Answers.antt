@@ -6,7 +6,7 @@ use Rattle.xp_syntax.specs.InstrView.{instr_of, form_of, control_of}
 use Rattle.xp_syntax.specs.declared.instr.Form.{Form}
 use Rattle.xp_syntax.specs.declared.instr.Instr.{out-Instr}
 use Rattle.xt_frames.specs.declared.frame.Frame.TheVariants as frames
-use Rattle.xt_frames.specs.View.{here_of, after_body}
+use Rattle.xt_frames.specs.View.{here_of, following}
 use Rattle.xt_frames.specs.Left.{left_in, Performs}
 use Rattle.xt_perform.proofs.Views.{view-Instr, view-WithoutContent, view-WithContent, view-Control}
 use Rattle.xt_perform.proofs.instruction.perform.Goals as goal
@@ -19,7 +19,7 @@ returns-in-WithoutContent-clause-does g c =
     let i = c.args.instr.now in
     let at : made.Form → made.Instr = λ f. record { site = site_of (out-Instr i).site; form = f } in
     let e = view-Instr i ∙ ap (λ f. at (form_of f)) c.in-WithoutContent.is ∙ ap at (view-WithoutContent c.in-WithoutContent.what) in
-    let P : made.Instr → Type 0 = λ x. IfOk c.without_content.result (λ next. Performs truth (frames.Body b) (plan x.site x.form (here_of b.here) (after_body b (left_in old))) old c.without_content.new.run next) in
+    let P : made.Instr → Type 0 = λ x. IfOk c.without_content.result (λ next. Performs truth (frames.Body b) (plan x.site x.form (here_of b.here) (following b (left_in old))) old c.without_content.new.run next) in
     subst P (sym e) c.without_content.ensures.does
 
 pub returns-in-WithContent-clause-does : goal.returns-in-WithContent-clause-does
@@ -30,7 +30,7 @@ returns-in-WithContent-clause-does g c =
     let i = c.args.instr.now in
     let at : made.Form → made.Instr = λ f. record { site = site_of (out-Instr i).site; form = f } in
     let e = view-Instr i ∙ ap (λ f. at (form_of f)) c.in-WithContent.is ∙ ap at (view-WithContent c.in-WithContent.what c.in-WithContent.content) in
-    let P : made.Instr → Type 0 = λ x. IfOk c.with_content.result (λ next. Performs truth (frames.Body b) (plan x.site x.form (here_of b.here) (after_body b (left_in old))) old c.with_content.new.run next) in
+    let P : made.Instr → Type 0 = λ x. IfOk c.with_content.result (λ next. Performs truth (frames.Body b) (plan x.site x.form (here_of b.here) (following b (left_in old))) old c.with_content.new.run next) in
     subst P (sym e) c.with_content.ensures.does
 
 pub returns-in-Control-clause-does : goal.returns-in-Control-clause-does
@@ -41,7 +41,7 @@ returns-in-Control-clause-does g c =
     let i = c.args.instr.now in
     let at : made.Form → made.Instr = λ f. record { site = site_of (out-Instr i).site; form = f } in
     let e = view-Instr i ∙ ap (λ f. at (form_of f)) c.in-Control.is ∙ ap at (view-Control c.in-Control.what) in
-    let P : made.Instr → Type 0 = λ x. IfOk c.control.result (λ next. Performs truth (frames.Body b) (plan x.site x.form (here_of b.here) (after_body b (left_in old))) old c.control.new.run next) in
+    let P : made.Instr → Type 0 = λ x. IfOk c.control.result (λ next. Performs truth (frames.Body b) (plan x.site x.form (here_of b.here) (following b (left_in old))) old c.control.new.run next) in
     subst P (sym e) c.control.ensures.does
 
 pub with_content-requires-clause-stands : goal.with_content-requires-clause-stands

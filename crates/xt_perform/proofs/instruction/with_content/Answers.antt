@@ -21,12 +21,17 @@ returns-in-Copy-clause-does g c =
     let truth = (g.W.World.state c.args.world.now).truth in
     if_ok c.copy.result c.copy.ensures.does (λ next h. rw c.in-Copy.is (does_performs truth _ (frames.Body c.args.body) c.args.run.now c.copy.new.run next (h)))
 
+pub returns-in-Attribute-clause-does : goal.returns-in-Attribute-clause-does
+returns-in-Attribute-clause-does g c = if_ok c.attribute.result c.attribute.ensures.does (λ next h. rw c.in-Attribute.is h)
+
+pub returns-in-ProcessingInstruction-clause-does : goal.returns-in-ProcessingInstruction-clause-does
+returns-in-ProcessingInstruction-clause-does g c =
+    if_ok c.instruction.result c.instruction.ensures.does (λ next h. rw c.in-ProcessingInstruction.is h)
+
 pub returns-in-Variable-clause-does : goal.returns-in-Variable-clause-does
-returns-in-Variable-clause-does g c =
-    let truth = (g.W.World.state c.args.world.now).truth in
-    if_ok c.nothing.result c.nothing.ensures (λ next h. rw c.in-Variable.is (does_performs truth _ (frames.Body c.args.body) c.args.run.now c.nothing.new.run next (h truth)))
+returns-in-Variable-clause-does g c = if_ok c.variable.result c.variable.ensures.does (λ next h. rw c.in-Variable.is h)
 
 pub returns-in-Message-clause-does : goal.returns-in-Message-clause-does
 returns-in-Message-clause-does g c =
     let truth = (g.W.World.state c.args.world.now).truth in
-    if_ok c.nothing-in-Message.result c.nothing-in-Message.ensures (λ next h. rw c.in-Message.is (does_performs truth _ (frames.Body c.args.body) c.args.run.now c.nothing-in-Message.new.run next (h truth)))
+    if_ok c.message.result c.message.ensures (λ next h. rw c.in-Message.is (does_performs truth _ (frames.Body c.args.body) c.args.run.now c.message.new.run next (h truth)))

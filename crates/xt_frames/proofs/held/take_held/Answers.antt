@@ -1,0 +1,20 @@
+use Rattle.std.proofs.Common.{[], refl, ap, ◌∙◌}
+use Rattle.spec_meaning.specs.Stream.{Stream, filled}
+use Rattle.spec_meaning.specs.Value.{Fragment}
+use Rattle.spec_run.specs.Plan.{Plan}
+use Rattle.xt_tree.specs.declared.node_ref.NodeRef.{NodeRef}
+use Rattle.xt_frames.specs.declared.run.Run.{Run}
+use Rattle.xt_frames.specs.View.{left_with}
+use Rattle.xt_frames.specs.Left.{left_in}
+use Rattle.xt_frames.proofs.Performs.{take_does}
+use Rattle.xt_frames.proofs.Frames.{does_steps}
+use Rattle.xt_frames.proofs.held.take_held.Goals as goal
+
+pub returns : goal.returns
+returns c ask =
+    let old = c.args.run.now in
+    let mid : Run = record { room = old.room; supplies = old.supplies; waiting = old.waiting; frames = old.frames; going = c.take.new.self } in
+    let K : Stream → Plan NodeRef = λ s. left_with c.args.holder (Fragment (filled s [])) (left_in old) in
+    let whole = c.in_ok-fragment.ensures ∙ ap (λ s. filled s []) c.in_ok-items.ensures.taken in
+    let left = c.in_ok-frame.ensures (left_in old) ∙ ap (λ s. left_with c.args.holder (Fragment s) (left_in old)) whole in
+    does_steps ask _ _ old c.push.new.run _ (take_does ask K c.in_ok-frame.frame old mid c.push.new.run refl refl refl c.in_ok-items.ensures.aside c.in_ok-push.ensures left)

@@ -1,0 +1,152 @@
+// What variables and parameters hold (XSLT 1.0, section 11).
+ghost use Rattle.std.specs.Prelude.{◌≡◌, suc, length, map, None, IfOk};
+ghost use Rattle.std.specs.Option.{option_map};
+ghost use Rattle.spec_stylesheet.specs.Instruction.{instrs};
+ghost use Rattle.spec_meaning.specs.Stream.{Ended};
+ghost use Rattle.spec_meaning.specs.Meaning.{meaning};
+ghost use Rattle.spec_meaning.specs.Question as question;
+ghost use Rattle.spec_run.specs.Plan.{Plan, Put};
+ghost use Rattle.spec_run.specs.Content.{asked, is_empty, valued};
+ghost use Rattle.xp_syntax.specs.View.{expr_of};
+ghost use Rattle.xp_syntax.specs.PartView.{site_of};
+ghost use Rattle.xp_syntax.specs.InstrView.{instr_of};
+ghost use Rattle.xt_tree.specs.declared.node_ref.NodeRef.{NodeRef};
+ghost use Rattle.xt_tree.specs.ValueView.{value_of};
+ghost use Rattle.xt_frames.specs.declared.frame.Frame.TheVariants as Frame;
+ghost use Rattle.xt_frames.specs.View.{here_of, inside, left_frame, left_with};
+ghost use Rattle.xt_frames.specs.Left.{left_in, Does, Performs, StepsFrom};
+
+use crate::standing::{one_more, share_content};
+use crate::{
+    Arguments, Body, Came, Frame, Holder, Next, Parameters, Run, Standing, go_into, lack, push,
+    value,
+};
+use std::alloc::Global;
+use std::rc::Rc;
+use xp_syntax::{Expr, Instr, Site};
+use xt_ask::World;
+use xt_streams::fragment_of;
+use xt_text::{Memory, Text};
+use xt_tree::Value;
+
+/// What is left once this value is held.
+pub fn holding(alloc: Global, holder: Holder, value: Value) -> Result<Frame, Memory>
+    ensures { IfOk result (λ f. (after : Plan NodeRef) → left_frame f after ≡ left_with holder (value_of value) after) }
+{
+    match holder {
+        Holder::Variable(name, body) => {
+            let here = body.here.with_variable(alloc, name, value)?;
+            Ok(Frame::Body(Body {
+                content: body.content,
+                next: body.next,
+                here,
+            }))
+        }
+        Holder::Argument(name, arguments) => {
+            let done = one_more(alloc, name, value, arguments.done)?;
+            Ok(Frame::Arguments(Arguments {
+                bindings: arguments.bindings,
+                next: arguments.next,
+                done,
+                here: arguments.here,
+                to: arguments.to,
+            }))
+        }
+        Holder::Parameter(name, parameters) => {
+            let here = parameters.here.with_variable(alloc, name, value)?;
+            Ok(Frame::Parameters(Parameters {
+                bindings: parameters.bindings,
+                next: parameters.next,
+                given: parameters.given,
+                content: parameters.content,
+                here,
+            }))
+        }
+    }
+}
+
+/// What the element at this site holds, by its select or its content, and then what is left once that is held.
+/// Where its select lacks a global, this frame is put back.
+pub fn hold<W: World>(
+    alloc: Global,
+    run: &mut Run,
+    site: &Site,
+    select: &Option<Expr>,
+    content: &Rc<Vec<Instr>>,
+    here: &Standing,
+    holder: Holder,
+    back: Frame,
+    world: &mut W,
+) -> Result<Next, Memory>
+    ensures does { IfOk result (Performs (W.state world.old).truth back (valued (site_of site.now) (here_of here.now) (option_map expr_of select.now) (is_empty (instrs (map instr_of content.now.value.items))) (inside (site_of site.now).place (instrs (map instr_of content.now.value.items)) (here_of here.now)) (λ v. left_with holder v (left_in run.old))) run.old run.new) }
+    ensures truth { (W.state world.new).truth ≡ (W.state world.old).truth }
+    ensures name { W.name world.new ≡ W.name world.old }
+{
+    match select {
+        Some(expr) => hold_selected(alloc, run, site, expr, here, holder, back, world),
+        None => hold_content(alloc, run, site, content, here, holder),
+    }
+}
+
+// The value of this expression.
+fn hold_selected<W: World>(
+    alloc: Global,
+    run: &mut Run,
+    site: &Site,
+    select: &Expr,
+    here: &Standing,
+    holder: Holder,
+    back: Frame,
+    world: &mut W,
+) -> Result<Next, Memory>
+    ensures does { IfOk result (Performs (W.state world.old).truth back (asked (site_of site.now) (here_of here.now) (meaning (expr_of select.now)) (λ v. Put Ended (left_with holder v (left_in run.old)))) run.old run.new) }
+    ensures truth { (W.state world.new).truth ≡ (W.state world.old).truth }
+    ensures name { W.name world.new ≡ W.name world.old }
+{
+    match value(alloc, run, select, site, here, world)? {
+        Came::Is(value) => hold_value(alloc, run, holder, value),
+        Came::Halts(why) => Ok(Next::Halt(why)),
+        Came::Lacks(name) => lack(alloc, run, back, name, here.depth, &site.place),
+    }
+}
+
+// What this content makes, or the empty string where there is none.
+fn hold_content(
+    alloc: Global,
+    run: &mut Run,
+    site: &Site,
+    content: &Rc<Vec<Instr>>,
+    here: &Standing,
+    holder: Holder,
+) -> Result<Next, Memory>
+    ensures { IfOk result (λ next. (ask : question.Question NodeRef → question.Answer NodeRef) → Does ask (valued (site_of site.now) (here_of here.now) None (is_empty (instrs (map instr_of content.now.value.items))) (inside (site_of site.now).place (instrs (map instr_of content.now.value.items)) (here_of here.now)) (λ v. left_with holder v (left_in run.old))) (suc (length run.old.frames.items)) run.old run.new next) }
+{
+    if content.is_empty() {
+        return hold_value(alloc, run, holder, Value::Text(Text::new(alloc)));
+    }
+    run.going.begin(alloc)?;
+    push(run, Frame::Take(holder))?;
+    let inner = share_content(content)?;
+    let here = here.share()?;
+    go_into(alloc, run, &site.place, inner, here)
+}
+
+/// Goes on after the content of what holds it: the innermost sink is taken.
+pub fn take_held(alloc: Global, run: &mut Run, holder: Holder) -> Result<Next, Memory>
+    ensures { IfOk result (λ next. (ask : question.Question NodeRef → question.Answer NodeRef) → StepsFrom ask (Frame.Take holder) run.old run.new next) }
+{
+    let items = run.going.take(alloc)?;
+    let fragment = fragment_of(alloc, &items)?;
+    let frame = holding(alloc, holder, Value::Fragment(fragment))?;
+    push(run, frame)?;
+    Ok(Next::Went)
+}
+
+// Nothing is written, and this value is held.
+fn hold_value(alloc: Global, run: &mut Run, holder: Holder, value: Value) -> Result<Next, Memory>
+    ensures { IfOk result (λ next. (ask : question.Question NodeRef → question.Answer NodeRef) → Does ask (Put Ended (left_with holder (value_of value) (left_in run.old))) (suc (length run.old.frames.items)) run.old run.new next) }
+{
+    let frame = holding(alloc, holder, value)?;
+    push(run, frame)?;
+    Ok(Next::Went)
+}

@@ -1,0 +1,7 @@
+use Rattle.xt_frames.specs.declared.frame.Frame.TheVariants as frames
+use Rattle.xt_frames.proofs.Performs.{two_frames}
+use Rattle.xt_perform.proofs.copying.write_nodes.Goals as goal
+
+pub returns : goal.returns
+returns c ask =
+    two_frames ask c.args.rest (frames.Copies (record { nodes = c.args.nodes; next = 0 })) c.args.run.now c.push.new.run c.push-2.new.run c.in_ok-push.ensures c.in_ok-push-2.ensures
