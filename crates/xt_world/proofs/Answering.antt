@@ -15,6 +15,7 @@ use Rattle.spec_meaning.specs.Question.{Question, Answer, SomeNodes, Candidates}
 use Rattle.spec_meaning.specs.Program.{Said, Gives, Refuses, Lacks, outcome_of}
 use Rattle.spec_meaning.specs.Truth.{answer_by, entry_named, told_of}
 use Rattle.spec_transform.specs.Choice.{context_for, chosen}
+use Rattle.spec_run.specs.Documents.{Parameters}
 use Rattle.spec_run.specs.World as definition
 use Rattle.spec_run.specs.World.{no_globals, element_of_unit, rule_by, rule_at}
 use Rattle.xt_tree.specs.declared.node_ref.NodeRef.{NodeRef}
@@ -83,17 +84,17 @@ choice_is sheet s h document node mode candidates =
     (chosen same_ref (context_for sheet.units node) node mode candidates sheet.rules.rules))
 
 -- ---- all
-pub truth_is : (sheet : Sheet) (s : Stylesheet) → IsOf sheet s → (document : Document ℕ) (q : Question NodeRef)
-    → truth_in s document q ≡ truth_by_numbers sheet document q
-truth_is sheet s h document (question.Step node axis test) = refl
-truth_is sheet s h document (question.Text node) = refl
-truth_is sheet s h document (question.Name node) = refl
-truth_is sheet s h document (question.Place node) = refl
-truth_is sheet s h document (question.Order nodes) = refl
-truth_is sheet s h document (question.Key name value) = refl
-truth_is sheet s h document (question.Choice node mode candidates) =
+pub truth_is : (sheet : Sheet) (s : Stylesheet) → IsOf sheet s → (parameters : Parameters) (document : Document ℕ) (q : Question NodeRef)
+    → truth_in s parameters document q ≡ truth_by_numbers sheet parameters document q
+truth_is sheet s h parameters document (question.Step node axis test) = refl
+truth_is sheet s h parameters document (question.Text node) = refl
+truth_is sheet s h parameters document (question.Name node) = refl
+truth_is sheet s h parameters document (question.Place node) = refl
+truth_is sheet s h parameters document (question.Order nodes) = refl
+truth_is sheet s h parameters document (question.Key name value) = refl
+truth_is sheet s h parameters document (question.Choice node mode candidates) =
     ap (λ (a : Answer NodeRef). told_of (λ (e : Entry ℕ). a) (entry_named ref_of same_ref (entries_of document) node))
     (choice_is sheet s h document node mode candidates)
-truth_is sheet s h document (question.Copy node) = refl
-truth_is sheet s h document (question.Unit element) = unit_is sheet.units element s.elements.items s.units.items h.elements h.units
-truth_is sheet s h document (question.External name) = refl
+truth_is sheet s h parameters document (question.Copy node) = refl
+truth_is sheet s h parameters document (question.Unit element) = unit_is sheet.units element s.elements.items s.units.items h.elements h.units
+truth_is sheet s h parameters document (question.External name) = refl

@@ -1,3 +1,4 @@
 pub mod Numbered
+pub mod ParameterView
 pub mod Units
 pub mod View

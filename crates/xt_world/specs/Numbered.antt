@@ -7,8 +7,9 @@ use Rattle.spec_document.specs.Order.{entries_of}
 use Rattle.spec_stylesheet.specs.Place.{Place}
 use Rattle.spec_stylesheet.specs.Sheet.{Sheet, Unit}
 use Rattle.spec_meaning.specs.Question.{Question, Answer}
+use Rattle.spec_run.specs.Documents.{Parameters}
 use Rattle.spec_run.specs.Meaning.{Setting}
-use Rattle.spec_run.specs.World.{same_element, truth_by}
+use Rattle.spec_run.specs.World.{globals_of, same_element, truth_by}
 use Rattle.xt_tree.specs.declared.node_ref.NodeRef.{NodeRef}
 use Rattle.xt_tree.specs.declared.node_ref.Part.TheVariants as part
 use Rattle.xp_axes.specs.View.{ref_of, same_ref}
@@ -23,9 +24,9 @@ ref_to number = record { node = record { number = number }; part = part.Itself }
 abbrev pub element_called : List Unit → Place → NodeRef
 element_called units place = record { node = record { number = index_from 0 place units }; part = part.Attribute 0 }
 
-abbrev pub truth_by_numbers : Sheet → Document ℕ → Question NodeRef → Answer NodeRef
-truth_by_numbers s document = truth_by ref_of same_ref (element_called s.units) s (entries_of document)
+abbrev pub truth_by_numbers : Sheet → Parameters → Document ℕ → Question NodeRef → Answer NodeRef
+truth_by_numbers s parameters document = truth_by ref_of same_ref (element_called s.units) s parameters (entries_of document)
 
--- globals do not run yet
-abbrev pub setting_by_numbers : Sheet → Document ℕ → Setting NodeRef
-setting_by_numbers s document = record { ask = truth_by_numbers s document; root = ref_to document.root; globals = [] }
+abbrev pub setting_by_numbers : Sheet → Parameters → Document ℕ → Setting NodeRef
+setting_by_numbers s parameters document =
+    record { ask = truth_by_numbers s parameters document; root = ref_to document.root; globals = globals_of (element_called s.units) s.units }

@@ -11,6 +11,7 @@ use Rattle.spec_meaning.specs.Question.{Question, Answer, Gone, SomeNodes, Copie
 use Rattle.spec_meaning.specs.Program.{Said, Gives, outcome_of}
 use Rattle.spec_meaning.specs.Truth.{answer_by, entry_named, told_of}
 use Rattle.spec_transform.specs.Choice.{context_for, chosen}
+use Rattle.spec_run.specs.Documents.{Parameters}
 use Rattle.spec_run.specs.Copy.{copy_of}
 use Rattle.spec_run.specs.World.{no_globals}
 use Rattle.xt_tree.specs.declared.node_ref.NodeRef.{NodeRef}
@@ -62,11 +63,15 @@ said_of s document node mode candidates =
 abbrev pub copy_in : Document ℕ → NodeRef → Answer NodeRef
 copy_in document node = told_of (λ e. Copied (copy_of e.item)) (entry_named ref_of same_ref (entries_of document) node)
 
-abbrev pub truth_in : Stylesheet → Document ℕ → Question NodeRef → Answer NodeRef
-truth_in s document (question.Copy node) = copy_in document node
-truth_in s document (question.Choice node mode candidates) =
+-- the element of the rule of a node of the source
+abbrev pub choice_in : Stylesheet → Document ℕ → NodeRef → Option Expanded → Candidates → Answer NodeRef
+choice_in s document node mode candidates =
     told_of (λ e. rule_held s (said_of s document node mode candidates)) (entry_named ref_of same_ref (entries_of document) node)
-truth_in s document (question.Unit element) = unit_held s element
-truth_in s document (question.Key name text) = SomeNodes []
-truth_in s document (question.External name) = Passed None
-truth_in s document q = answer_by ref_of same_ref (entries_of document) q
+
+abbrev pub truth_in : Stylesheet → Parameters → Document ℕ → Question NodeRef → Answer NodeRef
+truth_in s parameters document (question.Copy node) = copy_in document node
+truth_in s parameters document (question.Choice node mode candidates) = choice_in s document node mode candidates
+truth_in s parameters document (question.Unit element) = unit_held s element
+truth_in s parameters document (question.Key name text) = SomeNodes []
+truth_in s parameters document (question.External name) = Passed (parameters name)
+truth_in s parameters document q = answer_by ref_of same_ref (entries_of document) q

@@ -152,7 +152,7 @@ fn name_of(global: &GlobalBinding) -> &Expanded
 }
 
 /// Of a global, whether it is the one of its name that counts.
-fn counts(units: &[Rc<Unit>], unit: &Unit) -> bool
+pub fn counts(units: &[Rc<Unit>], unit: &Unit) -> bool
     ensures { result ≡ definition.counts (plain_units units.now) (unit_of unit.now) }
 {
     match &unit.declared {

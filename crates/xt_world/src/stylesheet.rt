@@ -1,20 +1,24 @@
 // A stylesheet that can be run.
-ghost use Rattle.std.specs.Prelude.{◌≡◌, ℕ, map, IfOk};
+ghost use Rattle.std.specs.Prelude.{◌≡◌, ◌++◌, ℕ, map, IfOk, OnOk};
 ghost use Rattle.spec_document.specs.Forest.{Document};
 ghost use Rattle.spec_meaning.specs.Question.{Question};
+ghost use Rattle.spec_run.specs.Documents.{Parameters};
+ghost use Rattle.spec_run.specs.World.{globals_of};
 ghost use Rattle.xp_syntax.specs.SheetView.{sheet_of, unit_of};
 ghost use Rattle.xp_syntax.specs.PartView.{place_of};
 ghost use Rattle.xt_ask.specs.View.{resolved_of};
 ghost use Rattle.xt_tree.specs.declared.node_ref.NodeRef.{NodeRef};
 ghost use Rattle.xt_world.specs.Numbered.{element_called, truth_by_numbers};
-ghost use Rattle.xt_world.specs.Units.{called_among, plain_units, resolved_among};
+ghost use Rattle.xt_run.specs.View.{named_of};
+ghost use Rattle.xt_world.specs.Units.{called_among, global_by, globals_among, plain_units, resolved_among};
 ghost use Rattle.xt_world.specs.View.{truth_in};
 
-use crate::resolve::{element_called, resolve};
+use crate::resolve::{counts, element_called, resolve};
 use std::alloc::Global;
 use std::rc::Rc;
-use xp_syntax::{Rules, Sheet, Unit};
-use xt_ask::ResolvedUnit;
+use xp_syntax::{Declared, Rules, Sheet, Unit};
+use xt_ask::{ResolvedUnit, copy_name};
+use xt_run::NamedGlobal;
 use xt_text::Memory;
 use xt_tree::NodeRef;
 
@@ -27,21 +31,26 @@ pub struct Stylesheet {
     pub units: Vec<Rc<ResolvedUnit>>,
     /// What the element of each unit is called.
     pub elements: Vec<NodeRef>,
+    /// The globals that count, in the order of the stylesheet.
+    pub globals: Vec<NamedGlobal>,
 }
 
 impl Stylesheet {
     /// The stylesheet, of which the world of any source answers truly.
     pub fn new(alloc: Global, sheet: Sheet) -> Result<Stylesheet, Memory>
-        ensures { IfOk result (λ s. (document : Document ℕ) (q : Question NodeRef) → truth_in s document q ≡ truth_by_numbers (sheet_of sheet) document q) }
+        ensures truth { IfOk result (λ s. (parameters : Parameters) (document : Document ℕ) (q : Question NodeRef) → truth_in s parameters document q ≡ truth_by_numbers (sheet_of sheet) parameters document q) }
+        ensures globals { IfOk result (λ s. map named_of s.globals.items ≡ globals_of (element_called (sheet_of sheet).units) (sheet_of sheet).units) }
     {
         let rules = sheet.rules;
         let units = shared(alloc, sheet.units)?;
         let elements = elements(alloc, units.as_slice())?;
+        let globals = globals(alloc, units.as_slice())?;
         let units = resolved(alloc, units.as_slice())?;
         Ok(Stylesheet {
             rules,
             units,
             elements,
+            globals,
         })
     }
 }
@@ -66,6 +75,40 @@ fn elements(alloc: Global, units: &[Rc<Unit>]) -> Result<Vec<NodeRef>, Memory>
         elements.push(element_called(units, &unit.site.place))?;
     }
     Ok(elements)
+}
+
+/// The globals that count.
+fn globals(alloc: Global, units: &[Rc<Unit>]) -> Result<Vec<NamedGlobal>, Memory>
+    ensures { IfOk result (λ list. map named_of list.items ≡ globals_among (plain_units units.now) (plain_units units.now)) }
+{
+    let mut list = Vec::new(alloc);
+    for unit in units {
+        add_global(alloc, units, unit, &mut list)?;
+    }
+    Ok(list)
+}
+
+// Adds the unit, if it is a global that counts.
+fn add_global(
+    alloc: Global,
+    units: &[Rc<Unit>],
+    unit: &Rc<Unit>,
+    list: &mut Vec<NamedGlobal>,
+) -> Result<(), Memory>
+    ensures { OnOk result (map named_of list.new.items ≡ map named_of list.old.items ++ global_by (plain_units units.now) (unit_of unit.now.value)) }
+{
+    if !counts(units, unit) {
+        return Ok(());
+    }
+    match &unit.declared {
+        Declared::Global(global) => {
+            let name = copy_name(alloc, &global.binding.name)?;
+            let element = element_called(units, &unit.site.place);
+            list.push(NamedGlobal { name, element })?;
+            Ok(())
+        }
+        _ => Ok(()),
+    }
 }
 
 /// The units with what their names name.

@@ -4,9 +4,10 @@ ghost use Rattle.spec_meaning.specs.Program.{Gives};
 ghost use Rattle.spec_meaning.specs.Question as question;
 ghost use Rattle.xt_ask.specs.View.{answer_of, candidates_of, question_of};
 ghost use Rattle.xt_plain.specs.View.{truth_of};
-ghost use Rattle.xt_world.specs.View.{GivesNumber, copy_in, rule_held, said_of, truth_in, unit_held};
+ghost use Rattle.xt_world.specs.ParameterView.{parameters_of};
+ghost use Rattle.xt_world.specs.View.{GivesNumber, choice_in, copy_in, rule_held, said_of, truth_in, unit_held};
 
-use crate::Stylesheet;
+use crate::{Parameters, Stylesheet};
 use std::alloc::Global;
 use xp_eval::Eval;
 use xt_ask::{Answer, Candidates, EvalFault, Given, Question, Supplies, Wanted, World};
@@ -14,27 +15,35 @@ use xt_copy::copy_of;
 use xt_match::choose;
 use xt_names::Expanded;
 use xt_plain::PlainWorld;
-use xt_text::Memory;
+use xt_text::{Memory, Text};
 use xt_tree::{Doc, NodeRef};
 
-/// A stylesheet and a source.
+/// A stylesheet, a source, and the values that parameters are given.
 #[derive(Drop)]
 pub struct SheetWorld<'a> {
     pub alloc: Global,
     pub document: &'a Doc,
     pub stylesheet: &'a Stylesheet,
+    pub parameters: &'a Parameters,
 }
 
 impl<'a> World for SheetWorld<'a> {
     ghost use Rattle.std.specs.Prelude.{[], None};
+    ghost use Rattle.xt_world.specs.ParameterView.{parameters_of};
     ghost use Rattle.xt_world.specs.View.{truth_in};
 
-    ghost state = { λ w. record { truth = truth_in w.stylesheet.now w.document.now; reads = None } };
+    ghost state = { λ w. record { truth = truth_in w.stylesheet.now (parameters_of w.parameters.now) w.document.now; reads = None } };
 
     ghost name = { λ w. [] };
 
     fn ask(&mut self, question: &Question) -> Result<Answer, Memory> {
-        answer(self.alloc, self.document, self.stylesheet, question)
+        answer(
+            self.alloc,
+            self.document,
+            self.stylesheet,
+            self.parameters,
+            question,
+        )
     }
 
     fn see(&mut self, _wanted: &Wanted, _depth: u64, _given: &Given) -> Result<(), Memory> {
@@ -47,9 +56,10 @@ fn answer(
     alloc: Global,
     document: &Doc,
     stylesheet: &Stylesheet,
+    parameters: &Parameters,
     question: &Question,
 ) -> Result<Answer, Memory>
-    ensures { IfOk result (λ a. answer_of a ≡ truth_in stylesheet.now document.now (question_of question.now)) }
+    ensures { IfOk result (λ a. answer_of a ≡ truth_in stylesheet.now (parameters_of parameters.now) document.now (question_of question.now)) }
 {
     match question {
         Question::Copy(node) => copied(alloc, document, node),
@@ -58,7 +68,7 @@ fn answer(
         }
         Question::Unit(element) => unit(stylesheet, element),
         Question::Key(_, _) => Ok(Answer::Nodes(Vec::new(alloc))),
-        Question::External(_) => Ok(Answer::Passed(None)),
+        Question::External(name) => passed(alloc, parameters, name),
         _ => plain(alloc, document, question),
     }
 }
@@ -79,6 +89,16 @@ fn copied(alloc: Global, document: &Doc, node: &NodeRef) -> Result<Answer, Memor
         return Ok(Answer::Gone);
     }
     Ok(Answer::Copied(copy_of(alloc, document, node)?))
+}
+
+// A copy of the value of the parameter of this name, where one is given.
+fn passed(alloc: Global, parameters: &Parameters, name: &Text) -> Result<Answer, Memory>
+    ensures { IfOk result (λ a. answer_of a ≡ question.Passed (parameters_of parameters.now name.now)) }
+{
+    match parameters.get(name) {
+        None => Ok(Answer::Passed(None)),
+        Some(value) => Ok(Answer::Passed(Some(value.copy(alloc)?))),
+    }
 }
 
 /// The unit whose element is called so.
@@ -106,7 +126,7 @@ fn chosen(
     mode: &Option<Expanded>,
     candidates: Candidates,
 ) -> Result<Answer, Memory>
-    ensures { IfOk result (λ a. answer_of a ≡ truth_in stylesheet.now document.now (question.Choice node mode.now (candidates_of candidates))) }
+    ensures { IfOk result (λ a. answer_of a ≡ choice_in stylesheet.now document.now node mode.now (candidates_of candidates)) }
 {
     document.distinct_numbers();
     if !document.has(alloc, &node)? {

@@ -1,11 +1,10 @@
 use Rattle.std.proofs.Common.{refl, sym}
 use Rattle.spec_document.specs.Order.{entries_of}
 use Rattle.spec_meaning.specs.Naming.{unlabelled, first}
-use Rattle.spec_meaning.specs.Related.{none}
 use Rattle.spec_meaning.proofs.Named.{documents_alike, places_apart}
 use Rattle.spec_run.specs.World.{InSource, InModule, same_node, setting_of}
 use Rattle.spec_run.proofs.Copies.{documents_copied}
-use Rattle.spec_run.proofs.Truths.{in_source, truths}
+use Rattle.spec_run.proofs.Truths.{in_source, settings}
 use Rattle.spec_run.proofs.Meanings.{same_run}
 use Rattle.xp_axes.specs.View.{ref_of, same_ref}
 use Rattle.xp_axes.proofs.Told.{all_told}
@@ -15,13 +14,10 @@ use Rattle.xt_world.proofs.Listed.{strangers_at_places, nodes_apart, strangers_a
 use Rattle.xt_world.proofs.laws.same_run.Goals as goal
 
 pub returns : goal.returns
-returns c = λ sheet document numbered.
-    sym (same_run (setting_of sheet (unlabelled document)) (setting_by_numbers sheet document) (record {
-      worlds = truths (λ e. InSource e.place) same_node InModule ref_of same_ref (element_called sheet.units) sheet
-          (entries_of (unlabelled document)) (entries_of document) (documents_alike document) (documents_copied document)
-          (nodes_apart (entries_of (unlabelled document)) (places_apart (unlabelled document))) (all_told document numbered)
-          (strangers_at_places sheet.units (entries_of (unlabelled document))) (strangers_at_numbers sheet.units document)
-          (elements_told sheet.units);
-      roots = in_source (record { entry = _; other = _; beside = first; named = refl; also_named = refl });
-      globals = none;
-    }))
+returns c = λ sheet parameters document numbered.
+    sym (same_run (setting_of sheet parameters (unlabelled document)) (setting_by_numbers sheet parameters document)
+    (settings (λ e. InSource e.place) same_node InModule ref_of same_ref (element_called sheet.units) sheet parameters
+    (entries_of (unlabelled document)) (entries_of document) (documents_alike document) (documents_copied document)
+    (nodes_apart (entries_of (unlabelled document)) (places_apart (unlabelled document))) (all_told document numbered)
+    (strangers_at_places sheet.units (entries_of (unlabelled document))) (strangers_at_numbers sheet.units document)
+    (elements_told sheet.units) (in_source (record { entry = _; other = _; beside = first; named = refl; also_named = refl }))))

@@ -1,19 +1,24 @@
 use Rattle.std.proofs.Common.{ap, ◌∙◌, refl}
 use Rattle.xp_syntax.specs.SheetView.{sheet_of}
-use Rattle.xt_world.specs.Units.{called_among, plain_units, resolved_among}
+use Rattle.xt_world.specs.Units.{called_among, globals_among, plain_units, resolved_among}
 use Rattle.xt_world.proofs.Answering.{truth_is}
 use Rattle.xt_world.proofs.stylesheet.Stylesheet.new.Goals as goal
 
-pub returns : goal.returns
-returns c =
+pub returns-clause-truth : goal.returns-clause-truth
+returns-clause-truth c =
     let first = ap plain_units c.as_slice.ensures.value ∙ c.in_ok-units.ensures in
-    let second = ap plain_units c.as_slice-2.ensures.value ∙ c.in_ok-units.ensures in
-    λ document q.
+    let last = ap plain_units c.as_slice-3.ensures.value ∙ c.in_ok-units.ensures in
+    λ parameters document q.
     truth_is (sheet_of c.args.sheet)
-    (record { rules = c.args.sheet.rules; units = c.in_ok-units-2.units; elements = c.in_ok-elements.elements })
+    (record { rules = c.args.sheet.rules; units = c.in_ok-units-2.units; elements = c.in_ok-elements.elements; globals = c.in_ok-globals.globals })
     (record {
       elements = c.in_ok-elements.ensures ∙ (λ i. called_among (first i) (first i));
-      units = c.in_ok-units-2.ensures {u = tt} ∙ (λ i. resolved_among (second i) (second i));
+      units = c.in_ok-units-2.ensures {u = tt} ∙ (λ i. resolved_among (last i) (last i));
       rules = refl;
     })
-    document q
+    parameters document q
+
+pub returns-clause-globals : goal.returns-clause-globals
+returns-clause-globals c =
+    let second = ap plain_units c.as_slice-2.ensures.value ∙ c.in_ok-units.ensures in
+    c.in_ok-globals.ensures ∙ (λ i. globals_among (second i) (second i))
