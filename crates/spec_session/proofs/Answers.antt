@@ -2,6 +2,9 @@
 use Rattle.std.proofs.Common.{◌≡◌, ℕ, Bool, true, false, List, [], ◌∷◌, Option, None, Some, bytes_eq, refl, lit<, subst, inl, inr, sym}
 use Rattle.std.specs.Prelude.{◌||◌, Result, Ok, Err, if◌then◌else◌}
 use Rattle.std.specs.Str.{chars}
+use Rattle.std.specs.List.{list_all}
+use Rattle.spec_document.specs.Character.{is_char}
+use Rattle.spec_document.specs.Name.{is_ncname}
 use Rattle.spec_document.specs.Scope.{root_scope}
 use Rattle.spec_document.specs.Forest.{Plain, Document, plain}
 use Rattle.spec_document.specs.Fault.{Fault}
@@ -10,9 +13,9 @@ use Rattle.spec_session.specs.Request.{Request, SetSource, SetModule, DropModule
 use Rattle.spec_session.specs.Request.{SetParameter, Show, Write, Messages, Dump, Statistics, request_by, Words, is_text, is_taken, or_number, asked_by}
 use Rattle.spec_session.specs.Request.{words_of}
 use Rattle.spec_structure.specs.Modules.{is_among}
-use Rattle.spec_run.specs.Documents.{Documents, with_source, with_module}
+use Rattle.spec_run.specs.Documents.{Documents, with_source, with_module, parameter_fault}
 use Rattle.spec_session.specs.Reply.{Reply}
-use Rattle.spec_session.specs.Machine.{State, initial, Step, Run, answer_of, answer_by, answer_to, kept_by, shows, document_named}
+use Rattle.spec_session.specs.Machine.{State, initial, Step, Run, answer_of, answer_by, answer_to, kept_by, given_by, shows, document_named}
 use Rattle.spec_session.proofs.Steps.{AreFinite, IsOther, finite_after}
 use Rattle.spec_session.proofs.FaultNumbers.{FaultIsAbove, fault-above}
 
@@ -42,6 +45,14 @@ kept : (make : Plain → Documents → Documents) (old : State) (result : Result
 kept make old (Ok document) h finite = finite (plain document.nodes)
 kept make old (Err fault) h finite = h
 
+given : (name value : List ℕ) (old : State) → AreFinite old.documents → IsOther (given_by name value old (parameter_fault name value))
+given name value old finite = go (list_all is_char value) (is_ncname name)
+  where
+    go : (of_chars is_name : Bool) → IsOther (given_by name value old (if of_chars then (if is_name then None else Some 10) else Some 8))
+    go true true = record { names = finite.names; all = finite.all }
+    go true false = lit< tt
+    go false is_name = lit< tt
+
 shown : (o : Option Plain) → IsOther (shows o)
 shown None = lit< tt
 shown (Some tree) = tt
@@ -60,9 +71,9 @@ to old finite (SetText document path value) = lit< tt
 to old finite (SetAttribute document path name value) = lit< tt
 to old finite (RemoveAttribute document path name) = lit< tt
 to old finite (Rename document path name) = lit< tt
-to old finite (SetParameter name value) = lit< tt
+to old finite (SetParameter name value) = given name value old finite
 to old finite Write = tt
-to old finite Messages = lit< tt
+to old finite Messages = tt
 to old finite Statistics = lit< tt
 
 formed : (old : State) → AreFinite old.documents → (o : Option Request) → IsOther (answer_by old (or_number o 4))

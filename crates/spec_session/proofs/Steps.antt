@@ -10,8 +10,8 @@ use Rattle.spec_stylesheet.specs.declared.method.Method.TheVariants as method
 use Rattle.spec_structure.specs.Modules.{is_among}
 use Rattle.spec_run.specs.Documents.{Documents}
 use Rattle.spec_run.specs.Outcome.{Outcome, Done, Failed, IsOutcome}
-use Rattle.spec_session.specs.Machine.{State, Answer, Refuses, Changes, ShowsResult, WritesResult, ShowsDocument, Gives, Step, answer_of}
-use Rattle.spec_session.specs.Machine.{change_reply, result_reply, written_by, written_reply}
+use Rattle.spec_session.specs.Machine.{State, Answer, Refuses, Changes, ShowsResult, WritesResult, ShowsMessages, ShowsDocument, Gives, Step, answer_of}
+use Rattle.spec_session.specs.Machine.{change_reply, result_reply, written_by, written_reply, messages_reply}
 
 number_in : Reply → ℕ
 number_in (No number) = number
@@ -46,6 +46,7 @@ IsOther (Refuses number) = 1 < number
 IsOther (Changes next) = AreFinite next.documents
 IsOther ShowsResult = Unit {0}
 IsOther WritesResult = Unit {0}
+IsOther ShowsMessages = Unit {0}
 IsOther (ShowsDocument tree) = Unit {0}
 
 above : (n : ℕ) → 1 < n → n ≡ 1 → ⊥
@@ -79,6 +80,8 @@ gives some old finite ShowsResult h none =
     some old.documents finite.names finite.all (λ o. none (result_reply o.0, old, ((o.0, o.1, refl), refl), result_differs o.0))
 gives some old finite WritesResult h none =
     some old.documents finite.names finite.all (λ o. none (written_reply o.0, old, ((o.0, o.1, refl), refl), written_differs o.0))
+gives some old finite ShowsMessages h none =
+    some old.documents finite.names finite.all (λ o. none (messages_reply o.0, old, ((o.0, o.1, refl), refl), λ e. cc))
 gives some old finite (ShowsDocument tree) h none = none (Shown _, old, (refl, refl), λ e. cc)
 
 -- what one answer gives is one reply and one state
@@ -91,6 +94,8 @@ one same old ShowsResult reply other new another g h =
     (g.0.2 ∙ ap result_reply (same old.documents g.0.0 h.0.0 g.0.1 h.0.1) ∙ sym h.0.2, g.1 ∙ sym h.1)
 one same old WritesResult reply other new another g h =
     (g.0.2 ∙ ap written_reply (same old.documents g.0.0 h.0.0 g.0.1 h.0.1) ∙ sym h.0.2, g.1 ∙ sym h.1)
+one same old ShowsMessages reply other new another g h =
+    (g.0.2 ∙ ap messages_reply (same old.documents g.0.0 h.0.0 g.0.1 h.0.1) ∙ sym h.0.2, g.1 ∙ sym h.1)
 one same old (ShowsDocument tree) reply other new another g h = (g.0 ∙ sym h.0, g.1 ∙ sym h.1)
 
 pub steps_agree_lem : OneOutcome → (old : State) (command : Command) (reply other : Reply) (new another : State)
@@ -111,4 +116,5 @@ finite_after old finite (Refuses number) h reply new g = same_state old new fini
 finite_after old finite (Changes next) h reply new g = same_state next new h g.1
 finite_after old finite ShowsResult h reply new g = same_state old new finite g.1
 finite_after old finite WritesResult h reply new g = same_state old new finite g.1
+finite_after old finite ShowsMessages h reply new g = same_state old new finite g.1
 finite_after old finite (ShowsDocument tree) h reply new g = same_state old new finite g.1

@@ -3,16 +3,18 @@ use Rattle.std.specs.Prelude.{ℕ, ◌≡◌, refl, false, List, [], ◌∷◌, 
 use Rattle.std.specs.Str.{chars, is_utf8}
 use Rattle.std.specs.Fmt.{digits}
 use lib.Utf8.{encode}
+use Rattle.spec_document.specs.Character.{is_char, is_name_start, is_name_part}
 use Rattle.spec_document.specs.Forest.{Plain, Empty, Node, Element, Text, Comment, lines_of}
 use Rattle.spec_session.specs.declared.kinds.Ending.TheVariants.{Finished, Quit, Unfinished}
 use Rattle.spec_session.specs.Command.{session_of, status_of}
-use Rattle.spec_session.specs.Request.{Request, SetSource, SetModule, SetText, SetAttribute, Rename, SetParameter, Write, Dump, SourceName, ModuleName, words_of, asked_by, request_of, path_of}
-use Rattle.spec_run.specs.Documents.{Documents, no_documents}
+use Rattle.spec_session.specs.Request.{Request, SetSource, SetModule, SetText, SetAttribute, Rename, SetParameter, Write, Messages, Dump, SourceName, ModuleName, words_of, asked_by, request_of, path_of}
+use Rattle.spec_run.specs.Documents.{Documents, no_documents, with_parameter}
 use Rattle.spec_structure.specs.Modules.{no_fault}
 use Rattle.spec_run.specs.Outcome.{Failed, IsOutcome, faulty, no_main, no_source}
 use Rattle.spec_expression.specs.declared.code.Code.TheVariants.{Static, Dynamic}
 use Rattle.spec_expression.specs.declared.code.StaticCode.TheVariants.{NoStylesheet}
 use Rattle.spec_expression.specs.declared.code.DynCode.TheVariants.{TooDeep}
+use Rattle.spec_session.specs.Machine.{initial, answer_to, Refuses, Changes, messages_reply}
 use Rattle.spec_session.specs.Reply.{OkRefused, Refused, Shown, Written, No, reply_bytes}
 
 -- a body goes up to a line `.`; empty lines between commands are skipped; `quit` ends the session
@@ -54,6 +56,14 @@ no_text = refl
 pub write_asks : asks (codes "write") ≡ Ok Write
 unfolding chars is_utf8 encode
 write_asks = refl
+
+pub messages_asked : asks (codes "messages") ≡ Ok Messages
+unfolding chars is_utf8 encode
+messages_asked = refl
+
+pub parameter_without_a_name : asks (codes "param") ≡ Err 4
+unfolding chars is_utf8 encode
+parameter_without_a_name = refl
 
 pub unknown_word : asks (codes " show") ≡ Err 3
 unfolding chars is_utf8 encode
@@ -111,7 +121,8 @@ abbrev leaf : List ℕ → List ℕ → Plain
 leaf name text = Node tt (Element name []) (Node tt (Text text) Empty Empty) Empty
 
 abbrev holding : Option Plain → Option Plain → Documents
-holding main source = record { source = source; modules = λ name. if bytes_eq name (codes "main") then main else None }
+holding main source =
+    record { source = source; modules = λ name. if bytes_eq name (codes "main") then main else None; parameters = λ name. None }
 
 pub without_main : IsOutcome no_documents (Failed no_main [])
 without_main = refl
@@ -124,11 +135,30 @@ pub other_main : IsOutcome (holding (Some (Node tt (Comment []) Empty Empty)) (S
     (Failed (record { code = Static NoStylesheet; place = record { module_name = Some (codes "main"); path = 2 ∷ [] } }) [])
 other_main = (_, faulty (record { tree = _; is = refl; says = Ok []; reading = refl; link = None; links = no_fault; whole = refl }) refl, refl)
 
+-- ---- What a parameter comes to
+
+-- it is held, and no node is made
+pub parameter_given : answer_to initial (SetParameter (codes "p") (codes "a b"))
+    ≡ Changes (record { documents = with_parameter (codes "p") (codes "a b") no_documents; made = 0 })
+unfolding is_char is_name_start
+parameter_given = refl
+
+-- the value's characters come before the name
+pub parameter_refused : answer_to initial (SetParameter (codes "x:p") (1 ∷ [])) ∷ answer_to initial (SetParameter (codes "x:p") []) ∷ []
+    ≡ Refuses 8 ∷ Refuses 10 ∷ []
+unfolding is_char is_name_start is_name_part
+parameter_refused = refl
+
 -- ---- Replies
 
 pub shown : reply_bytes (Shown (lines_of (leaf (codes "out") (codes "h\ti")))) ≡ codes "(out\n-h\\ti\n)out\n.\n"
 unfolding encode
 shown = refl
+
+-- the messages of a transformation that is refused
+pub messages_shown : reply_bytes (messages_reply (Failed no_main (codes "one\ntwo" ∷ [] ∷ []))) ≡ codes "-one\\ntwo\n-\n.\n"
+unfolding encode
+messages_shown = refl
 
 -- the number is that of the bytes, and the text is as it is
 pub written : reply_bytes (Written (codes "a\nb" ++ 0xE9 ∷ [])) ≡ codes "text 5\na\nb" ++ 0xC3 ∷ 0xA9 ∷ 0xA ∷ []

@@ -1,6 +1,8 @@
--- The session machine. Its state is plain documents; a step relates state, command, reply and new state.
-use Rattle.std.specs.Prelude.{ℕ, ◌≡◌, ◌+◌, ◌⊎◌, List, [], ◌∷◌, Option, None, Some, Result, Ok, Err}
+-- The session machine. Its state is plain documents and the parameters; a step relates state, command, reply and new state.
+use Rattle.std.specs.Prelude.{ℕ, ◌≡◌, ◌+◌, ◌⊎◌, List, [], ◌∷◌, map, Option, None, Some, Result, Ok, Err}
 use Rattle.spec_document.specs.Scope.{root_scope}
+use Rattle.spec_document.specs.declared.event.Event.TheVariants.{Data}
+use Rattle.spec_document.specs.Pyx.{line_of}
 use Rattle.spec_document.specs.Forest.{Plain, Document, plain, size, lines_of, texts_in}
 use Rattle.spec_document.specs.Fault.{Fault}
 use Rattle.spec_document.specs.Document.{document_of}
@@ -9,11 +11,11 @@ use Rattle.spec_stylesheet.specs.declared.method.Method.{Method}
 use Rattle.spec_stylesheet.specs.declared.method.Method.TheVariants as method
 use Rattle.spec_session.specs.Command.{Command}
 use Rattle.spec_session.specs.Request.{DocumentName, SourceName, ModuleName, Request, SetSource, SetModule, DropModule, Insert, Delete, SetText, SetAttribute, RemoveAttribute, Rename, SetParameter, Show, Write, Messages, Dump, Statistics, request_of}
-use Rattle.spec_run.specs.Documents.{Documents, no_documents, with_source, with_module}
+use Rattle.spec_run.specs.Documents.{Documents, no_documents, with_source, with_module, with_parameter, parameter_fault}
 use Rattle.spec_run.specs.Outcome.{Outcome, Done, Failed, IsOutcome}
 use Rattle.spec_session.specs.Reply.{Reply, OkDone, OkRefused, Refused, Shown, Written, No}
 
--- what is held: the documents, and how many nodes the commands accepted so far have made, so that the next one has this number
+-- what is held: the documents with the parameters, and how many nodes the commands accepted so far have made, so that the next one has this number
 pub record State : Type 0 where
   pub documents : Documents
   pub made : ℕ
@@ -37,6 +39,8 @@ pub data Answer : Type 0 where
   ShowsResult : Answer
   -- it is written by its output method
   WritesResult : Answer
+  -- its messages are shown
+  ShowsMessages : Answer
   -- a document is shown
   ShowsDocument : (tree : Plain) → Answer
 
@@ -50,6 +54,11 @@ abbrev pub kept_by : (Plain → Documents → Documents) → State → Result (D
 kept_by with_document old (Err fault) = Refuses fault.number
 kept_by with_document old (Ok document) = Changes (kept_in with_document old document)
 
+-- a parameter is given, or it may not be
+abbrev pub given_by : (name value : List ℕ) → State → Option ℕ → Answer
+given_by name value old (Some number) = Refuses number
+given_by name value old None = Changes (record { documents = with_parameter name value old.documents; made = old.made })
+
 abbrev pub shows : Option Plain → Answer
 shows None = Refuses 5
 shows (Some tree) = ShowsDocument tree
@@ -57,8 +66,10 @@ shows (Some tree) = ShowsDocument tree
 abbrev pub answer_to : State → Request → Answer
 answer_to old (SetSource body) = kept_by with_source old (document_of root_scope old.made body)
 answer_to old (SetModule name body) = kept_by (with_module name) old (document_of root_scope old.made body)
+answer_to old (SetParameter name value) = given_by name value old (parameter_fault name value)
 answer_to old Show = ShowsResult
 answer_to old Write = WritesResult
+answer_to old Messages = ShowsMessages
 answer_to old (Dump document) = shows (document_named old document)
 -- whatever else a command may ask is not taken: its word is no command
 answer_to old (DropModule name) = Refuses 3
@@ -68,8 +79,6 @@ answer_to old (SetText document path value) = Refuses 3
 answer_to old (SetAttribute document path name value) = Refuses 3
 answer_to old (RemoveAttribute document path name) = Refuses 3
 answer_to old (Rename document path name) = Refuses 3
-answer_to old (SetParameter name value) = Refuses 3
-answer_to old Messages = Refuses 3
 answer_to old Statistics = Refuses 3
 
 abbrev pub answer_by : State → Result Request ℕ → Answer
@@ -99,12 +108,21 @@ abbrev pub written_reply : Outcome → Reply
 written_reply (Done result method messages) = written_by method result
 written_reply (Failed why messages) = Refused why
 
+-- the messages, each as the line of a text, also where the transformation is refused
+abbrev pub messages_in : Outcome → List (List ℕ)
+messages_in (Done result method messages) = messages
+messages_in (Failed why messages) = messages
+
+abbrev pub messages_reply : Outcome → Reply
+messages_reply outcome = Shown (map (λ text. line_of (Data text)) (messages_in outcome))
+
 -- from old, with this answer, the machine gives this reply and goes on to new
 abbrev pub Gives : State → Answer → Reply → State → Type 0
 Gives old (Refuses number) reply new = (reply ≡ No number) × (new ≡ old)
 Gives old (Changes next) reply new = ((outcome : Outcome) × IsOutcome next.documents outcome × (reply ≡ change_reply outcome)) × (new ≡ next)
 Gives old ShowsResult reply new = ((outcome : Outcome) × IsOutcome old.documents outcome × (reply ≡ result_reply outcome)) × (new ≡ old)
 Gives old WritesResult reply new = ((outcome : Outcome) × IsOutcome old.documents outcome × (reply ≡ written_reply outcome)) × (new ≡ old)
+Gives old ShowsMessages reply new = ((outcome : Outcome) × IsOutcome old.documents outcome × (reply ≡ messages_reply outcome)) × (new ≡ old)
 Gives old (ShowsDocument tree) reply new = (reply ≡ Shown (lines_of tree)) × (new ≡ old)
 
 -- Each command gets its answer. Want of memory, which changes nothing, may come in its place at any command

@@ -9,7 +9,7 @@ use Rattle.spec_stylesheet.specs.declared.method.Method.{Method}
 use Rattle.spec_structure.specs.Modules.{Modules}
 use Rattle.spec_compile.specs.Sheet as compile
 use Rattle.spec_meaning.specs.Naming.{unlabelled}
-use Rattle.spec_run.specs.Documents.{main_name}
+use Rattle.spec_run.specs.Documents.{Parameters, main_name}
 use Rattle.spec_run.specs.Meaning as means
 use Rattle.spec_run.specs.Meaning.{Setting, run_of}
 use Rattle.spec_run.specs.Outcome as spec
@@ -20,8 +20,9 @@ use Rattle.xt_tree.specs.declared.node_ref.NodeRef.{NodeRef}
 use Rattle.xt_text.specs.declared.memory.Memory.{Memory}
 use Rattle.xt_compile.specs.View.{refusal_in}
 use Rattle.xt_compile.specs.declared.fault.StaticRefusal.{StaticRefusal}
-use Rattle.xt_drive.specs.View.{named_of, setting_in, whole_of}
-use Rattle.xt_drive.specs.declared.globals.NamedGlobal.{NamedGlobal}
+use Rattle.xt_run.specs.View.{named_of}
+use Rattle.xt_run.specs.declared.global.NamedGlobal.{NamedGlobal}
+use Rattle.xt_drive.specs.View.{setting_in, whole_of}
 use Rattle.xt_drive.specs.declared.whole.Whole.{Whole}
 use Rattle.xt_world.specs.Numbered.{ref_to, setting_by_numbers}
 use Rattle.xt_world.specs.View.{truth_in}
@@ -44,65 +45,71 @@ one_there modules main compiled e h = record { so = subst (λ (main : Option Pla
 
 -- ---- Without a module `main`, and without a source
 
-pub without_main : (modules : Modules) (main source : Option Plain) → AreCompiledBy modules main None → Comes modules main source (spec.Failed no_main [])
-without_main modules None source h = refl
-without_main modules (Some main) source h = absurd h
+pub without_main : (modules : Modules) (parameters : Parameters) (main source : Option Plain) → AreCompiledBy modules main None
+    → Comes modules parameters main source (spec.Failed no_main [])
+without_main modules parameters None source h = refl
+without_main modules parameters (Some main) source h = absurd h
 
-pub without_source : (modules : Modules) (main : Option Plain) (compiled : Compiled) → AreCompiledBy modules main (Some compiled)
-    → Comes modules main None (spec.Failed no_source [])
-without_source modules None compiled h = absurd h
-without_source modules (Some main) compiled h = refl
+pub without_source : (modules : Modules) (parameters : Parameters) (main : Option Plain) (compiled : Compiled)
+    → AreCompiledBy modules main (Some compiled) → Comes modules parameters main None (spec.Failed no_source [])
+without_source modules parameters None compiled h = absurd h
+without_source modules parameters (Some main) compiled h = refl
 
-pub with_both : (modules : Modules) (main : Option Plain) (source : Plain) (compiled : Compiled) (r : Result Outcome Memory)
+pub with_both : (modules : Modules) (parameters : Parameters) (main : Option Plain) (source : Plain) (compiled : Compiled) (r : Result Outcome Memory)
     → AreCompiledBy modules main (Some compiled)
-    → ((tree : Plain) → IsCompiledFrom modules tree compiled → IfOk r (λ o. Comes modules (Some tree) (Some source) (outcome_of o)))
-    → IfOk r (λ o. Comes modules main (Some source) (outcome_of o))
-with_both modules None source compiled r h f = absurd h
-with_both modules (Some main) source compiled r h f = f main h
+    → ((tree : Plain) → IsCompiledFrom modules tree compiled → IfOk r (λ o. Comes modules parameters (Some tree) (Some source) (outcome_of o)))
+    → IfOk r (λ o. Comes modules parameters main (Some source) (outcome_of o))
+with_both modules parameters None source compiled r h f = absurd h
+with_both modules parameters (Some main) source compiled r h f = f main h
 
 -- ---- With both
 
-pub refused_so : (modules : Modules) (main source : Plain) (compiled : Compiled) (why : StaticRefusal) (r : Result Outcome Memory) → compiled ≡ Refused why
+pub refused_so : (modules : Modules) (parameters : Parameters) (main source : Plain) (compiled : Compiled) (why : StaticRefusal) (r : Result Outcome Memory) → compiled ≡ Refused why
     → IfOk r (λ o. outcome_of o ≡ spec.Failed (refused_static (refusal_in why)) []) → IsCompiledFrom modules main compiled
-    → IfOk r (λ o. Comes modules (Some main) (Some source) (outcome_of o))
-refused_so modules main source compiled why r e told h =
+    → IfOk r (λ o. Comes modules parameters (Some main) (Some source) (outcome_of o))
+refused_so modules parameters main source compiled why r e told h =
     let holds : h.result ≡ Err (refusal_in why) = subst (λ (c : Compiled). Holds c h.result) e h.holds in
-    IfOk-weaker r _ _ (λ o is. (h.result, h.is, is ∙ sym (ap (spec.outcome_of source) holds))) told
+    IfOk-weaker r _ _ (λ o is. (h.result, h.is, is ∙ sym (ap (spec.outcome_of parameters source) holds))) told
 
-pub runs_so : (modules : Modules) (main source : Plain) (compiled : Compiled) (held : world.Stylesheet) (method copy : Option (Method Expanded))
+pub runs_so : (modules : Modules) (parameters : Parameters) (main source : Plain) (compiled : Compiled) (held : world.Stylesheet) (method copy : Option (Method Expanded))
     (whole : means.Whole) (r : Result Outcome Memory) → compiled ≡ Stylesheet held method → copy ≡ method
-    → ((sheet : plain_sheet.Sheet) → AnswersAs held sheet → whole ≡ run_of (setting_of sheet (document_of source)))
+    → ((sheet : plain_sheet.Sheet) → AnswersAs held sheet → whole ≡ run_of (setting_of sheet parameters (document_of source)))
     → IfOk r (λ o. outcome_of o ≡ outcome_by copy whole) → IsCompiledFrom modules main compiled
-    → IfOk r (λ o. Comes modules (Some main) (Some source) (outcome_of o))
-runs_so modules main source compiled held method copy whole r e same ran told h =
+    → IfOk r (λ o. Comes modules parameters (Some main) (Some source) (outcome_of o))
+runs_so modules parameters main source compiled held method copy whole r e same ran told h =
     let holds : Holds (Stylesheet held method) h.result = subst (λ (c : Compiled). Holds c h.result) e h.holds in
     let is_whole = ran holds.0 holds.2 in
     IfOk-weaker r _ _ (λ o is.
-    (h.result, h.is, is ∙ (λ i. outcome_by ((same ∙ holds.3) i) (is_whole i)) ∙ sym (ap (spec.outcome_of source) holds.1))) told
+    (h.result, h.is, is ∙ (λ i. outcome_by ((same ∙ holds.3) i) (is_whole i)) ∙ sym (ap (spec.outcome_of parameters source) holds.1))) told
 
 -- ---- The run, by numbers and by places
 
 abbrev pub SameRun : Type 0
-SameRun = (sheet : plain_sheet.Sheet) (document : Document ℕ) → IsNumbered document → run_of (setting_by_numbers sheet document) ≡ run_of (setting_of sheet (unlabelled document))
+SameRun = (sheet : plain_sheet.Sheet) (parameters : Parameters) (document : Document ℕ) → IsNumbered document
+    → run_of (setting_by_numbers sheet parameters document) ≡ run_of (setting_of sheet parameters (unlabelled document))
 
-pub same_whole : SameRun → (document : Document ℕ) → IsNumbered document → (held : world.Stylesheet) (sheet : plain_sheet.Sheet) → AnswersAs held sheet
-    → (root : NodeRef) → root ≡ ref_to document.root → (globals : List NamedGlobal) → globals ≡ []
-    → run_of (setting_in (truth_in held document) root globals) ≡ run_of (setting_of sheet (document_of (plain document.nodes)))
-same_whole same document numbered held sheet answers root is globals none =
-    let setting : setting_in (truth_in held document) root globals ≡ setting_by_numbers sheet document
-    = λ i. record { ask = λ q. answers document q i; root = is i; globals = map named_of (none i) } in
-    ap run_of setting ∙ same sheet document numbered
+pub same_whole : SameRun → (parameters : Parameters) (document : Document ℕ) → IsNumbered document
+    → (held : world.Stylesheet) (sheet : plain_sheet.Sheet) → AnswersAs held sheet → (root : NodeRef) → root ≡ ref_to document.root
+    → (globals : List NamedGlobal) → globals ≡ held.globals.items
+    → run_of (setting_in (truth_in held parameters document) root globals) ≡ run_of (setting_of sheet parameters (document_of (plain document.nodes)))
+same_whole same parameters document numbered held sheet answers root is globals are =
+    let named = ap (map named_of) are ∙ answers.globals in
+    let setting : setting_in (truth_in held parameters document) root globals ≡ setting_by_numbers sheet parameters document
+    = λ i. record { ask = λ q. answers.truth parameters document q i; root = is i; globals = named i } in
+    ap run_of setting ∙ same sheet parameters document numbered
 
 weaker : (r : Result Whole Memory) (a b : means.Whole) → a ≡ b → IfOk r (λ w. whole_of w ≡ a) → IfOk r (λ w. whole_of w ≡ b)
 weaker r a b e h = IfOk-weaker r (λ w. whole_of w ≡ a) (λ w. whole_of w ≡ b) (λ w is. is ∙ e) h
 
-pub run_so : SameRun → (document : Document ℕ) → IsNumbered document → (held : world.Stylesheet) (sheet : plain_sheet.Sheet) → AnswersAs held sheet
-    → (root : NodeRef) → root ≡ ref_to document.root → (globals : List NamedGlobal) → globals ≡ [] → (r : Result Whole Memory)
-    → IfOk r (λ w. whole_of w ≡ run_of (setting_in (truth_in held document) root globals))
-    → IfOk r (λ w. whole_of w ≡ run_of (setting_of sheet (document_of (plain document.nodes))))
-run_so same document numbered held sheet answers root is globals none r h =
-    weaker r (run_of (setting_in (truth_in held document) root globals)) (run_of (setting_of sheet (document_of (plain document.nodes))))
-    (same_whole same document numbered held sheet answers root is globals none) h
+pub run_so : SameRun → (parameters : Parameters) (document : Document ℕ) → IsNumbered document
+    → (held : world.Stylesheet) (sheet : plain_sheet.Sheet) → AnswersAs held sheet → (root : NodeRef) → root ≡ ref_to document.root
+    → (globals : List NamedGlobal) → globals ≡ held.globals.items → (r : Result Whole Memory)
+    → IfOk r (λ w. whole_of w ≡ run_of (setting_in (truth_in held parameters document) root globals))
+    → IfOk r (λ w. whole_of w ≡ run_of (setting_of sheet parameters (document_of (plain document.nodes))))
+run_so same parameters document numbered held sheet answers root is globals are r h =
+    weaker r (run_of (setting_in (truth_in held parameters document) root globals))
+    (run_of (setting_of sheet parameters (document_of (plain document.nodes))))
+    (same_whole same parameters document numbered held sheet answers root is globals are) h
 
 -- ---- Modules with another among them
 

@@ -1,3 +1,5 @@
 pub mod Keys
 pub mod Stylesheets
 pub mod Coming
+pub mod Giving
+pub mod Keeping

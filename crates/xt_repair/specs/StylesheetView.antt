@@ -1,19 +1,21 @@
 -- What modules are compiled to.
-use Rattle.std.specs.Prelude.{ℕ, ◌≡◌, List, Option, None, Some, Result, Ok, Err, bytes_eq, if◌then◌else◌}
+use Rattle.std.specs.Prelude.{ℕ, ◌≡◌, List, map, Option, None, Some, Result, Ok, Err, bytes_eq, if◌then◌else◌}
 use Rattle.spec_document.specs.Forest.{Plain, Document}
 use Rattle.spec_stylesheet.specs.Sheet as plain
 use Rattle.spec_structure.specs.Modules.{Modules}
 use Rattle.spec_compile.specs.Sheet as compile
 use Rattle.spec_meaning.specs.Question.{Question}
-use Rattle.spec_run.specs.Documents.{main_name}
+use Rattle.spec_run.specs.Documents.{Parameters, main_name}
 use Rattle.spec_run.specs.Outcome.{IsStylesheet}
+use Rattle.spec_run.specs.World.{globals_of}
 use Rattle.xt_tree.specs.declared.node_ref.NodeRef.{NodeRef}
 use Rattle.xp_syntax.specs.SheetView.{sheet_of}
 use Rattle.xp_syntax.specs.declared.sheet.Sheet.{Sheet}
 use Rattle.xt_compile.specs.View.{refusal_in}
 use Rattle.xt_compile.specs.declared.fault.SheetFault.{SheetFault}
 use Rattle.xt_compile.specs.declared.fault.SheetFault.TheVariants as faults
-use Rattle.xt_world.specs.Numbered.{truth_by_numbers}
+use Rattle.xt_run.specs.View.{named_of}
+use Rattle.xt_world.specs.Numbered.{element_called, truth_by_numbers}
 use Rattle.xt_world.specs.View.{truth_in}
 use Rattle.xt_world.specs.declared.stylesheet.Stylesheet as world
 use Rattle.xt_repair.specs.declared.stylesheet.Compiled.{Compiled}
@@ -33,9 +35,11 @@ IsSheetSo modules main (Err faults.Memory) = Unit {0}
 pub record IsSheetOf (modules : Modules) (main : Plain) (result : Result Sheet SheetFault) : Type 0 where
   pub so : IsSheetSo modules main result
 
--- in the world of any source it answers as this stylesheet does
-abbrev pub AnswersAs : world.Stylesheet → plain.Sheet → Type 0
-AnswersAs held sheet = (document : Document ℕ) (q : Question NodeRef) → truth_in held document q ≡ truth_by_numbers sheet document q
+-- in the world of any source, with any parameters, it answers as this stylesheet does, and it has the globals of that
+pub record AnswersAs (held : world.Stylesheet) (sheet : plain.Sheet) : Type 0 where
+  pub truth : (parameters : Parameters) (document : Document ℕ) (q : Question NodeRef)
+      → truth_in held parameters document q ≡ truth_by_numbers sheet parameters document q
+  pub globals : map named_of held.globals.items ≡ globals_of (element_called sheet.units) sheet.units
 
 abbrev pub Holds : Compiled → Result plain.Sheet compile.Refusal → Type 0
 Holds (Stylesheet held method) result = (sheet : plain.Sheet) × (result ≡ Ok sheet) × AnswersAs held sheet × (method ≡ sheet.method)

@@ -1,17 +1,18 @@
 -- What is held, what is ready to be adopted, and when it may be.
-use Rattle.std.specs.Prelude.{ℕ, ◌≡◌, ◌+◌, ◌<◌, Option, Result, Ok, Err, string_bytes}
+use Rattle.std.specs.Prelude.{ℕ, ◌≡◌, ◌+◌, ◌<◌, List, Option, None, Some, Result, Ok, Err, string_bytes}
 use Rattle.std.specs.Option.{option_map}
 use Rattle.std.specs.Str.{chars}
 use Rattle.std.specs.HashMap.{spare}
 use Rattle.spec_document.specs.Fault.{Fault}
 use Rattle.spec_document.specs.Forest.{Plain, Document, size}
-use Rattle.spec_run.specs.Documents.{Documents, with_source, with_module}
+use Rattle.spec_run.specs.Documents.{Documents, with_source, with_module, with_parameter, parameter_fault}
 use Rattle.spec_run.specs.Outcome as spec
 use Rattle.spec_run.specs.Outcome.{IsOutcome}
 use Rattle.xt_base.specs.Code.{edit_number}
 use Rattle.xt_build.specs.declared.fault.BuildFault.{BuildFault}
 use Rattle.xt_build.specs.declared.fault.BuildFault.TheVariants as builds
 use Rattle.xt_import.specs.View.{modules_in, plain_of}
+use Rattle.xt_world.specs.ParameterView.{HasRoomForOne, parameters_of}
 use Rattle.xt_repair.specs.OutcomeView.{outcome_of}
 use Rattle.xt_repair.specs.StylesheetView.{AreCompiled}
 use Rattle.xt_repair.specs.declared.fault.EditFault.{EditFault}
@@ -29,6 +30,7 @@ abbrev pub documents_of : Held → Documents
 documents_of held = record {
   source = option_map plain_of held.source;
   modules = modules_in held.modules.entries;
+  parameters = parameters_of held.parameters;
 }
 
 abbrev pub made_of : Held → ℕ
@@ -63,11 +65,13 @@ edit_fault_of (builds.Refused fault) = faults.Refused fault.code fault.line
 abbrev pub changed_by : Change → Documents → Documents
 changed_by (changes.Source document) old = with_source (plain_of document) old
 changed_by (changes.Module name document compiled) old = with_module (chars (string_bytes name)) (plain_of document) old
+changed_by (changes.Parameter name value) old = with_parameter (chars (string_bytes name)) value old
 
 -- what is held of what the modules are, once it is adopted
 abbrev pub next_compiled : Change → Held → Option Compiled
 next_compiled (changes.Source document) held = held.compiled
 next_compiled (changes.Module name document compiled) held = compiled
+next_compiled (changes.Parameter name value) held = held.compiled
 
 -- what is held once it is adopted
 abbrev pub next_documents : Ready → Held → Documents
@@ -83,6 +87,7 @@ next_outcome ready = outcome_of ready.outcome
 abbrev pub HasRoom : Change → Held → Type 0
 HasRoom (changes.Source document) held = Unit {0}
 HasRoom (changes.Module name document compiled) held = 0 < spare held.modules
+HasRoom (changes.Parameter name value) held = HasRoomForOne held.parameters
 
 -- it was made from what is held: its outcome is that of the documents that will be held, and the modules are what will be held of that
 pub record IsMadeFrom (held : Held) (ready : Ready) : Type 0 where
@@ -101,3 +106,15 @@ abbrev pub Prepares : (Plain → Documents → Documents) → Held → Result (D
 Prepares with_document held answer (Ok ready) = (document : Document ℕ) × (answer ≡ Ok document) × IsReady with_document held document ready
 Prepares with_document held answer (Err (faults.Refused code line)) = answer ≡ Err (record { number = edit_number code; line = line })
 Prepares with_document held answer (Err faults.Memory) = Unit {0}
+
+-- it changes what is held so, and makes no node
+pub record IsReadyWith (change : Documents → Documents) (held : Held) (ready : Ready) : Type 0 where
+  pub documents : next_documents ready held ≡ change (documents_of held)
+  pub made : next_made ready ≡ made_of held
+  pub from : IsMadeFrom held ready
+
+-- what is answered where a parameter of this name is to be given this value. Want of memory is free
+abbrev pub PreparesParameter : (name value : List ℕ) → Held → Result Ready EditFault → Type 0
+PreparesParameter name value held (Ok ready) = (parameter_fault name value ≡ None) × IsReadyWith (with_parameter name value) held ready
+PreparesParameter name value held (Err (faults.Refused code line)) = (parameter_fault name value ≡ Some (edit_number code)) × (line ≡ 0)
+PreparesParameter name value held (Err faults.Memory) = Unit {0}

@@ -5,15 +5,17 @@ ghost use Rattle.std.specs.Str.{chars};
 ghost use Rattle.spec_document.specs.Document.{document_of};
 ghost use Rattle.spec_document.specs.Forest.{size};
 ghost use Rattle.spec_document.specs.Scope.{root_scope};
-ghost use Rattle.spec_run.specs.Documents.{no_documents, with_module, with_source};
+ghost use Rattle.spec_run.specs.Documents.{no_documents, with_module, with_parameter, with_source};
 ghost use Rattle.xt_build.specs.View.{Builds, document_in};
 ghost use Rattle.xt_import.specs.View.{plain_of};
+ghost use Rattle.xt_world.specs.ParameterView.{HasRoomForOne};
 ghost use Rattle.xt_repair.specs.OutcomeView.{outcome_of, plain_in};
-ghost use Rattle.xt_repair.specs.View.{HasRoom, IsCurrent, IsKept, IsMadeFrom, IsReady, Prepares, changed_by, document_named, documents_of, edit_fault_of, made_of, next_compiled, next_documents, next_made, next_outcome, outcome_in};
+ghost use Rattle.xt_repair.specs.View.{HasRoom, IsCurrent, IsKept, IsMadeFrom, IsReady, IsReadyWith, Prepares, PreparesParameter, changed_by, document_named, documents_of, edit_fault_of, made_of, next_compiled, next_documents, next_made, next_outcome, outcome_in};
 
 use crate::fault::EditFault;
 use crate::name::DocName;
 use crate::outcome::{Outcome, at_no_element, outcome_of};
+use crate::parameter::{TriedParameter, outcome_with, parameter_fault};
 use crate::ready::{Change, Ready};
 use crate::stylesheet::Compiled;
 use crate::tried::{Tried, compiled_with};
@@ -25,14 +27,16 @@ use xt_io::Line;
 use xt_names::Scope;
 use xt_text::{Memory, Text};
 use xt_tree::{Doc, NodeId};
+use xt_world::Parameters;
 
-/// The documents that are held, what the modules are, the number of the next node, and the outcome of the
-/// transformation, which is that of these documents.
+/// The documents that are held, what the modules are, the values that parameters are given, the number of the next
+/// node, and the outcome of the transformation, which is that of all these.
 #[derive(Drop)]
 pub struct Held {
     source: Option<Doc>,
     modules: IndexMap<String, Doc>,
     compiled: Option<Compiled>,
+    parameters: Parameters,
     next: NodeId,
     outcome: Outcome,
 }
@@ -48,6 +52,7 @@ impl Held {
             source: None,
             modules: IndexMap::new(alloc),
             compiled: None,
+            parameters: Parameters::new(alloc),
             next: NodeId { number: 0 },
             outcome: at_no_element(alloc, StaticCode::NoMain),
         }
@@ -79,6 +84,24 @@ impl Held {
         match self.built(alloc, body) {
             Ok(built) => Ok(self.module_ready(alloc, name, built)?),
             Err(fault) => Err(edit_fault(fault)),
+        }
+    }
+
+    /// Makes ready that the parameter of this name is given this value (XSLT 1.0, section 11.4): 8 where the value has
+    /// a character that is none of XML, else 10 where the name is no NCName. Nothing is changed but that room is made.
+    pub fn set_param(
+        &mut self,
+        alloc: Global,
+        name: &Text,
+        value: &Text,
+    ) -> Result<Ready, EditFault>
+        requires { IsCurrent self.old }
+        ensures answer { PreparesParameter name.now value.now self.new result }
+        ensures kept { IsKept self.old self.new }
+    {
+        match parameter_fault(name, value) {
+            Some(code) => Err(EditFault::Refused { code, line: 0 }),
+            None => Ok(self.parameter_ready(alloc, name, value)?),
         }
     }
 
@@ -139,7 +162,8 @@ impl Held {
         requires current { IsCurrent self.now }
         ensures { IfOk result (λ ready. IsReady with_source self.now built.document ready) }
     {
-        let outcome = outcome_of(alloc, self.compiled.as_ref(), Some(&built.document))?;
+        let compiled = self.compiled.as_ref();
+        let outcome = outcome_of(alloc, compiled, &self.parameters, Some(&built.document))?;
         Ok(Ready {
             change: Change::Source(built.document),
             next: built.next,
@@ -155,12 +179,34 @@ impl Held {
     {
         let Built { document, next } = built;
         let Tried { compiled, document } = compiled_with(alloc, &mut self.modules, name, document)?;
-        let outcome = outcome_of(alloc, compiled.as_ref(), self.source.as_ref())?;
+        let source = self.source.as_ref();
+        let outcome = outcome_of(alloc, compiled.as_ref(), &self.parameters, source)?;
         let key = String::from_str(alloc, name.as_str())?;
         self.modules.reserve(1)?;
         Ok(Ready {
             change: Change::Module(key, document, compiled),
             next,
+            outcome,
+        })
+    }
+
+    // There is room for one parameter more afterwards, so that `adopt` takes no memory.
+    fn parameter_ready(&mut self, alloc: Global, name: &Text, value: &Text) -> Result<Ready, Memory>
+        requires { IsCurrent self.old }
+        ensures ok { IfOk result (λ ready. IsReadyWith (with_parameter name.now value.now) self.new ready) }
+        ensures kept { IsKept self.old self.new }
+    {
+        let compiled = self.compiled.as_ref();
+        let source = self.source.as_ref();
+        let tried = outcome_with(alloc, compiled, &mut self.parameters, name, value, source)?;
+        let TriedParameter {
+            name,
+            value,
+            outcome,
+        } = tried;
+        Ok(Ready {
+            change: Change::Parameter(name, value),
+            next: self.next,
             outcome,
         })
     }
@@ -173,6 +219,7 @@ impl Held {
         match change {
             Change::Source(document) => self.put_source(document),
             Change::Module(name, document, compiled) => self.put_module(name, document, compiled),
+            Change::Parameter(name, value) => self.put_parameter(name, value),
         }
     }
 
@@ -191,6 +238,15 @@ impl Held {
     {
         let _ = self.modules.insert(name, document);
         self.compiled = compiled;
+    }
+
+    // There is room, so that no memory is taken.
+    fn put_parameter(&mut self, name: String, value: Text)
+        requires { HasRoomForOne self.old.parameters }
+        ensures documents { documents_of self.new ≡ with_parameter (chars (string_bytes name)) value (documents_of self.old) }
+        ensures compiled { self.new.compiled ≡ self.old.compiled }
+    {
+        self.parameters.keep(name, value);
     }
 }
 

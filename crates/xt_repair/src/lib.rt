@@ -1,6 +1,6 @@
-//! What a session holds: the source, the modules by name, and the outcome of the transformation, which is that of
-//! these documents. A change is made ready first, with the outcome that it will have, and then adopted, so that a
-//! refused or failing one leaves all as it was.
+//! What a session holds: the source, the modules by name, the values that parameters are given, and the outcome of the
+//! transformation, which is that of all these. A change is made ready first, with the outcome that it will have, and
+//! then adopted, so that a refused or failing one leaves all as it was.
 //!
 //! So far the outcome of a change is that of a run from nothing. The modules are compiled again where one changes.
 //!
@@ -9,6 +9,7 @@
 //! let ready = held.set_source(alloc, body)?;         // nothing is changed yet
 //! let outcome = ready.outcome();                     // what it will come to
 //! held.adopt(ready);                                 // takes no memory
+//! let ready = held.set_param(alloc, name, value)?;   // the same for a parameter
 //! ```
 #![tactic(auto)]
 
@@ -16,6 +17,7 @@ mod fault;
 mod held;
 mod name;
 mod outcome;
+mod parameter;
 mod ready;
 mod stylesheet;
 mod tried;

@@ -14,6 +14,7 @@ ghost use Rattle.spec_run.specs.World.{setting_of};
 ghost use Rattle.xt_compile.specs.View.{refusal_in};
 ghost use Rattle.xt_drive.specs.View.{whole_of};
 ghost use Rattle.xt_import.specs.View.{plain_of};
+ghost use Rattle.xt_world.specs.ParameterView.{parameters_of};
 ghost use Rattle.xt_repair.specs.OutcomeView.{outcome_of, plain_in};
 ghost use Rattle.xt_repair.specs.StylesheetView.{AnswersAs, AreCompiled, IsCompiledFrom};
 
@@ -24,12 +25,12 @@ use xp_syntax::Method;
 use xt_ask::copy_place;
 use xt_base::{Code, Place};
 use xt_compile::StaticRefusal;
-use xt_drive::{NamedGlobal, Whole, run};
+use xt_drive::{Whole, run};
 use xt_engine::Runner;
 use xt_result::{ResultTree, shape};
 use xt_text::{Memory, Path, Text};
 use xt_tree::{Doc, NodeRef};
-use xt_world::{SheetWorld, Stylesheet, same_run};
+use xt_world::{Parameters, SheetWorld, Stylesheet, same_run};
 
 /// What the transformation of documents comes to (XSLT 1.0, section 2.1).
 #[derive(Drop)]
@@ -53,21 +54,22 @@ pub enum Outcome {
     },
 }
 
-/// The outcome of modules that are this on this source: `S01` without a module `main`, else `S02` without a source,
+/// The outcome of modules that are this on this source with these parameters: `S01` without a module `main`, else `S02` without a source,
 /// else the first static refusal of the modules, else the first dynamic refusal of the run, else the result.
 pub(crate) fn outcome_of(
     alloc: Global,
     compiled: Option<&Compiled>,
+    parameters: &Parameters,
     source: Option<&Doc>,
 ) -> Result<Outcome, Memory>
     ensures { (modules : Modules) → AreCompiled modules (option_copied compiled.entry)
-        → IfOk result (λ outcome. Comes modules (modules main_name) (plain_in source.entry) (outcome_of outcome)) }
+        → IfOk result (λ outcome. Comes modules (parameters_of parameters.now) (modules main_name) (plain_in source.entry) (outcome_of outcome)) }
 {
     match compiled {
         None => Ok(at_no_element(alloc, StaticCode::NoMain)),
         Some(compiled) => match source {
             None => Ok(at_no_element(alloc, StaticCode::NoSource)),
-            Some(source) => transformed(alloc, compiled, source),
+            Some(source) => transformed(alloc, compiled, parameters, source),
         },
     }
 }
@@ -87,13 +89,18 @@ pub(crate) fn at_no_element(alloc: Global, code: StaticCode) -> Outcome
 }
 
 // What the modules make of the source.
-fn transformed(alloc: Global, compiled: &Compiled, source: &Doc) -> Result<Outcome, Memory>
+fn transformed(
+    alloc: Global,
+    compiled: &Compiled,
+    parameters: &Parameters,
+    source: &Doc,
+) -> Result<Outcome, Memory>
     ensures { (modules : Modules) (main : Plain) → IsCompiledFrom modules main compiled.now
-        → IfOk result (λ outcome. Comes modules (Some main) (Some (plain_of source.now)) (outcome_of outcome)) }
+        → IfOk result (λ outcome. Comes modules (parameters_of parameters.now) (Some main) (Some (plain_of source.now)) (outcome_of outcome)) }
 {
     match compiled {
         Compiled::Stylesheet(stylesheet, method) => {
-            let whole = whole(alloc, stylesheet, source)?;
+            let whole = whole(alloc, stylesheet, parameters, source)?;
             let method = copy_method(alloc, method)?;
             ended(method, whole)
         }
@@ -114,9 +121,14 @@ fn refused(alloc: Global, refusal: &StaticRefusal) -> Result<Outcome, Memory>
 }
 
 // The run of the stylesheet on the source, in a world that looks everything up.
-fn whole(alloc: Global, stylesheet: &Stylesheet, source: &Doc) -> Result<Whole, Memory>
+fn whole(
+    alloc: Global,
+    stylesheet: &Stylesheet,
+    parameters: &Parameters,
+    source: &Doc,
+) -> Result<Whole, Memory>
     ensures { (sheet : plain.Sheet) → AnswersAs stylesheet.now sheet
-        → IfOk result (λ whole. whole_of whole ≡ run_of (setting_of sheet (document_of (plain_of source.now)))) }
+        → IfOk result (λ whole. whole_of whole ≡ run_of (setting_of sheet (parameters_of parameters.now) (document_of (plain_of source.now)))) }
 {
     same_run();
     source.distinct_numbers();
@@ -125,10 +137,16 @@ fn whole(alloc: Global, stylesheet: &Stylesheet, source: &Doc) -> Result<Whole, 
         alloc,
         document: source,
         stylesheet,
+        parameters,
     };
     let mut engine = Runner::new();
-    let globals: Vec<NamedGlobal> = Vec::new(alloc);
-    run(alloc, &mut engine, &mut world, root, globals.as_slice())
+    run(
+        alloc,
+        &mut engine,
+        &mut world,
+        root,
+        stylesheet.globals.as_slice(),
+    )
 }
 
 // The outcome of a run of a stylesheet with this output method.

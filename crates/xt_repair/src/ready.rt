@@ -1,6 +1,7 @@
 // Changes that are ready to be adopted.
 use crate::outcome::Outcome;
 use crate::stylesheet::Compiled;
+use xt_text::Text;
 use xt_tree::{Doc, NodeId};
 
 /// A change with the outcome that it will have. Nothing is changed until it is adopted, and it may as well be let go.
@@ -18,6 +19,8 @@ pub(crate) enum Change {
     Source(Doc),
     /// This document becomes the module of this name, with which the modules are this.
     Module(String, Doc, Option<Compiled>),
+    /// The parameter of this name has this value.
+    Parameter(String, Text),
 }
 
 impl Ready {

@@ -7,11 +7,11 @@ use Rattle.spec_document.specs.Forest.{Plain, Document, lines_of, texts_in}
 use Rattle.spec_document.specs.Name.{Expanded}
 use Rattle.spec_stylesheet.specs.declared.method.Method.{Method}
 use Rattle.spec_stylesheet.specs.declared.method.Method.TheVariants as method
-use Rattle.spec_run.specs.Documents.{Documents}
+use Rattle.spec_run.specs.Documents.{Documents, with_parameter}
 use Rattle.spec_run.specs.Outcome.{Outcome, IsOutcome}
 use Rattle.spec_session.specs.Command.{Command}
-use Rattle.spec_session.specs.Machine.{State, Changes, ShowsResult, WritesResult, ShowsDocument, Refuses, kept_in, kept_by, change_reply}
-use Rattle.spec_session.specs.Machine.{shows, result_reply, written_by, written_reply, answer_by, answer_to, Gives, Step}
+use Rattle.spec_session.specs.Machine.{State, Changes, ShowsResult, WritesResult, ShowsMessages, ShowsDocument, Refuses, kept_in, kept_by}
+use Rattle.spec_session.specs.Machine.{shows, given_by, change_reply, result_reply, written_by, written_reply, messages_reply, answer_by, answer_to, Gives, Step}
 use Rattle.spec_session.specs.Request.{Request, request_of}
 use Rattle.spec_session.specs.Reply.{Reply, No, Shown, Written, reply_text}
 use Rattle.xt_base.specs.Code.{edit_number}
@@ -22,6 +22,10 @@ use Rattle.xt_repair.specs.View.{IsKept}
 use Rattle.xt_repair.specs.declared.held.Held.{Held}
 use Rattle.xt_session.specs.State.{is_text, state_of}
 use Rattle.xt_session.specs.Turn.{GivesReply, GivesText}
+
+-- what is held once the parameter has this value
+abbrev pub given : (name value : List ℕ) → State → State
+given name value old = record { documents = with_parameter name value old.documents; made = old.made }
 
 -- what holds of the value of an `Ok`
 pub if_ok_map : {T E : Type 0} (P Q : T → Type 0) (r : Result T E) → ((x : T) → P x → Q x) → IfOk r P → IfOk r Q
@@ -49,6 +53,10 @@ gives_result old outcome reply text stands is e = record { reply = reply; gives 
 pub gives_written : (old : State) (outcome : Outcome) (reply : Reply) (text : List ℕ) → IsOutcome old.documents outcome
     → reply ≡ written_reply outcome → text ≡ reply_text reply → GivesText old WritesResult text old
 gives_written old outcome reply text stands is e = record { reply = reply; gives = ((outcome, stands, is), refl); text_is = e }
+
+pub gives_messages : (old : State) (outcome : Outcome) (reply : Reply) (text : List ℕ) → IsOutcome old.documents outcome
+    → reply ≡ messages_reply outcome → text ≡ reply_text reply → GivesText old ShowsMessages text old
+gives_messages old outcome reply text stands is e = record { reply = reply; gives = ((outcome, stands, is), refl); text_is = e }
 
 -- by the output method
 pub as_text : (m : Option (Method Expanded)) (tree : Plain) → is_text m ≡ true → written_by m tree ≡ Written (texts_in tree)
@@ -95,6 +103,19 @@ pub gives_fault : (old : State) (make : Plain → Documents → Documents) (buil
     → built ≡ Err fault → text ≡ reply_text (No fault.number) → GivesText old (kept_by make old built) text old
 gives_fault old make built fault text e is =
     subst (λ (r : Result (Document ℕ) Fault). GivesText old (kept_by make old r) text old) (sym e) (gives_refusal old fault.number text is)
+
+-- of a parameter: it has the value, after what changed nothing, or it may not have it
+pub gives_given : (name value : List ℕ) (fault : Option ℕ) (first : State) {old next new : State} {text : List ℕ} → old ≡ first → fault ≡ None
+    → GivesText old (Changes next) text new → next ≡ given name value old → GivesText first (given_by name value first fault) text new
+gives_given name value fault first {old = old} {next = next} {new = new} {text = text} same none gives is =
+    let held : GivesText old (Changes (given name value old)) text new = subst (λ (s : State). GivesText old (Changes s) text new) is gives in
+    subst (λ (s : State). GivesText s (given_by name value s fault) text new) same
+    (subst (λ (o : Option ℕ). GivesText old (given_by name value old o) text new) (sym none) held)
+
+pub gives_not_given : (name value : List ℕ) (old : State) (fault : Option ℕ) (number : ℕ) (text : List ℕ)
+    → fault ≡ Some number → text ≡ reply_text (No number) → GivesText old (given_by name value old fault) text old
+gives_not_given name value old fault number text some is =
+    subst (λ (o : Option ℕ). GivesText old (given_by name value old o) text old) (sym some) (gives_refusal old number text is)
 
 -- a command, by its line and the lines of its body
 pub command_is : (command : Command) (line : List ℕ) (body : List (List ℕ)) → line ≡ command.line → body ≡ command.body

@@ -4,9 +4,9 @@ ghost use Rattle.std.specs.Str.{encode_utf8_all};
 ghost use Rattle.spec_document.specs.Document.{document_of};
 ghost use Rattle.spec_document.specs.Forest.{lines_of};
 ghost use Rattle.spec_document.specs.Scope.{root_scope};
-ghost use Rattle.spec_run.specs.Documents.{with_module, with_source};
+ghost use Rattle.spec_run.specs.Documents.{parameter_fault, with_module, with_source};
 ghost use Rattle.spec_session.specs.Machine as machine;
-ghost use Rattle.spec_session.specs.Machine.{answer_to, kept_by, shows, document_named, Changes, ShowsResult, WritesResult};
+ghost use Rattle.spec_session.specs.Machine.{answer_to, given_by, kept_by, shows, document_named, Changes, ShowsMessages, ShowsResult, WritesResult};
 ghost use Rattle.spec_session.specs.Reply as written;
 ghost use Rattle.spec_session.specs.Reply.{reply_text};
 ghost use Rattle.xt_import.specs.View.{plain_of};
@@ -17,6 +17,7 @@ ghost use Rattle.xt_session.specs.State.{is_text, state_of};
 ghost use Rattle.xt_session.specs.Turn.{GivesReply, GivesText};
 
 use crate::command::Command;
+use crate::messages::messages_reply;
 use std::alloc::Global;
 use xp_syntax::Method;
 use xt_base::{Code, EditCode, Place};
@@ -55,6 +56,8 @@ fn carry_out(alloc: Global, held: &mut Held, asked: xt_wire::Command) -> Result<
         xt_wire::Command::Show => show(alloc, held),
         xt_wire::Command::Dump(name) => dump(alloc, held, &name),
         xt_wire::Command::Write => write(alloc, held),
+        xt_wire::Command::SetParameter(name, value) => set_parameter(alloc, held, &name, &value),
+        xt_wire::Command::Messages => messages(alloc, held),
     }
 }
 
@@ -80,6 +83,20 @@ fn set_module(alloc: Global, held: &mut Held, name: &Text, body: &[Line]) -> Res
     ensures current { IsCurrent held.new }
 {
     match held.set_module(alloc, name, body) {
+        Ok(ready) => adopt(alloc, held, ready),
+        Err(EditFault::Refused { code, .. }) => text_of(alloc, Reply::No(code)),
+        Err(EditFault::Memory) => Err(Memory),
+    }
+}
+
+// Gives the parameter of this name this value, unless it may not have it.
+fn set_parameter(alloc: Global, held: &mut Held, name: &Text, value: &Text) -> Result<Text, Memory>
+    requires { IsCurrent held.old }
+    ensures ok { IfOk result (λ text. GivesText (state_of held.old) (given_by name.now value.now (state_of held.old) (parameter_fault name.now value.now)) text (state_of held.new)) }
+    ensures err { OnErr result (state_of held.new ≡ state_of held.old) }
+    ensures current { IsCurrent held.new }
+{
+    match held.set_param(alloc, name, value) {
         Ok(ready) => adopt(alloc, held, ready),
         Err(EditFault::Refused { code, .. }) => text_of(alloc, Reply::No(code)),
         Err(EditFault::Memory) => Err(Memory),
@@ -115,6 +132,15 @@ fn write(alloc: Global, held: &Held) -> Result<Text, Memory>
     ensures { IfOk result (λ text. GivesText (state_of held.now) WritesResult text (state_of held.now)) }
 {
     let reply = written_reply(alloc, held.outcome())?;
+    text_of(alloc, reply)
+}
+
+// Shows the messages, also where there is no result.
+fn messages(alloc: Global, held: &Held) -> Result<Text, Memory>
+    requires { IsCurrent held.now }
+    ensures { IfOk result (λ text. GivesText (state_of held.now) ShowsMessages text (state_of held.now)) }
+{
+    let reply = messages_reply(alloc, held.outcome())?;
     text_of(alloc, reply)
 }
 

@@ -14,6 +14,7 @@
 mod answer;
 mod command;
 mod meet;
+mod messages;
 mod program;
 mod session;
 mod take;

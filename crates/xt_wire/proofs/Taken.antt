@@ -24,8 +24,9 @@ reads_as words body word r h reads =
 pub not_asked : (words : Words) (body : List (List ℕ)) → bytes_eq words.first (codes "source") ≡ false
     → bytes_eq words.first (codes "module") ≡ false
     → bytes_eq words.first (codes "show") ≡ false → bytes_eq words.first (codes "dump") ≡ false → bytes_eq words.first (codes "write") ≡ false
+    → bytes_eq words.first (codes "param") ≡ false → bytes_eq words.first (codes "messages") ≡ false
     → bytes_eq words.first (codes "quit") ≡ false → request_by words body ≡ Err 3
-not_asked words body a b c d e f = rw (a, b, c, d, e, f) refl
+not_asked words body a b c d e f g h = rw (a, b, c, d, e, f, g, h) refl
 
 pub line_no_text : (line : List ℕ) (body : List (List ℕ)) → is_utf8 line ≡ false → request_of (record { line = line; body = body }) ≡ Err 2
 line_no_text line body h = rw h refl

@@ -12,7 +12,7 @@ use Rattle.xt_base.specs.declared.codes.EditCode.{EditCode}
 use Rattle.xt_base.specs.declared.codes.EditCode.TheVariants as edit
 use Rattle.xt_base.specs.declared.place.Place.{Place}
 use Rattle.xt_wire.specs.declared.command.Command.{Command}
-use Rattle.xt_wire.specs.declared.command.Command.TheVariants.{SetSource, SetModule, Show, Dump, Write}
+use Rattle.xt_wire.specs.declared.command.Command.TheVariants.{SetSource, SetModule, Show, Dump, Write, SetParameter, Messages}
 use Rattle.xt_wire.specs.declared.document.DocumentName.{DocumentName}
 use Rattle.xt_wire.specs.declared.document.DocumentName.TheVariants.{Source, Module}
 use Rattle.xt_wire.specs.declared.fault.WireFault.{WireFault}
@@ -48,6 +48,8 @@ asked_of (SetModule name body) = spec.SetModule name body.items
 asked_of Show = spec.Show
 asked_of (Dump document) = spec.Dump (name_of document)
 asked_of Write = spec.Write
+asked_of (SetParameter name value) = spec.SetParameter name value
+asked_of Messages = spec.Messages
 
 -- the call gives the defined answer, a command or the number of a refusal. Want of memory is free
 abbrev pub Reads : Result Command WireFault → Result Request ℕ → Type 0

@@ -2,12 +2,12 @@
 ghost use Rattle.std.specs.Prelude.{◌≡◌, []};
 ghost use Rattle.std.specs.List.{list_all};
 ghost use Rattle.std.specs.Str.{is_utf8};
-ghost use Rattle.spec_session.specs.Request.{dump_form, module_form, request_by, request_of, source_form, word_form};
+ghost use Rattle.spec_session.specs.Request.{dump_form, module_form, parameter_form, request_by, request_of, source_form, word_form};
 ghost use Rattle.xt_wire.specs.View.{HasForm, Reads, asked_of, rest_of, words_in};
 
 use crate::WireFault;
 use crate::document::{DocumentName, module_name, read_document};
-use crate::word::{Words, first_word, is_word, only_word};
+use crate::word::{Words, first_word, is_word, next_word, only_word, read_value};
 use std::alloc::Global;
 use xt_io::Line;
 use xt_text::Text;
@@ -26,6 +26,11 @@ pub enum Command {
     Dump(DocumentName),
     /// `write`: the result by its output method.
     Write,
+    /// `param NAME VALUE`: the value of the parameter of this name. The name is one or more characters without
+    /// a space.
+    SetParameter(Text, Text),
+    /// `messages`: the messages of the transformation.
+    Messages,
 }
 
 impl Command {
@@ -70,6 +75,10 @@ fn read_words(alloc: Global, words: Words, body: Vec<Line>) -> Result<Command, W
         read_dump(alloc, words.rest)
     } else if is_word(words.first, "write") {
         read_alone(words.rest, Command::Write)
+    } else if is_word(words.first, "param") {
+        read_parameter(alloc, words.rest)
+    } else if is_word(words.first, "messages") {
+        read_alone(words.rest, Command::Messages)
     } else if is_word(words.first, "quit") {
         // Alone it ends the session and is no command.
         Err(WireFault::BadArguments)
@@ -113,4 +122,15 @@ fn read_dump(alloc: Global, rest: Option<&str>) -> Result<Command, WireFault>
         return Err(WireFault::BadArguments);
     };
     Ok(Command::Dump(read_document(alloc, word)?))
+}
+
+fn read_parameter(alloc: Global, rest: Option<&str>) -> Result<Command, WireFault>
+    ensures { HasForm result (parameter_form (rest_of rest.entry) []) }
+{
+    let Some(words) = next_word(rest) else {
+        return Err(WireFault::BadArguments);
+    };
+    let name = Text::from_str(alloc, words.first)?;
+    let value = read_value(alloc, words.rest)?;
+    Ok(Command::SetParameter(name, value))
 }

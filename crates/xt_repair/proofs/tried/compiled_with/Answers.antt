@@ -8,7 +8,8 @@ use Rattle.indexmap.specs.IndexMap.{insert_entry}
 use Rattle.xt_import.specs.View.{modules_in, plain_of}
 use Rattle.xt_repair.specs.StylesheetView.{with_one}
 use Rattle.xt_repair.proofs.Coming.{compiled_so, document_so}
-use Rattle.xt_repair.proofs.Keys.{found_again, modules-insert, of_key, of_text, put_back, taken_out}
+use Rattle.xt_world.proofs.Keys.{found_again, of_key, of_text, put_back, taken_out}
+use Rattle.xt_repair.proofs.Keys.{modules-insert}
 use Rattle.xt_repair.proofs.tried.compiled_with.Goals as goal
 
 pub returns-in-None-clause-compiled : goal.returns-in-None-clause-compiled

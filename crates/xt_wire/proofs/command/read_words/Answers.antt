@@ -36,8 +36,20 @@ returns-then-is_word-5 c =
 
 pub returns-then-is_word-6 : goal.returns-then-is_word-6
 returns-then-is_word-6 c =
+    reads_as (words_in c.args.words) c.args.body.items (codes "param") c.read_parameter.result
+    (compared c.args.words.first.now (codes "param") c.is_word-else-is_word-5.result _ refl c.is_word-else-is_word-5.ensures c.if-is_word-6.true)
+    c.read_parameter.ensures
+
+pub returns-then-is_word-7 : goal.returns-then-is_word-7
+returns-then-is_word-7 c =
+    reads_as (words_in c.args.words) c.args.body.items (codes "messages") c.read_alone-then-is_word-7.result
+    (compared c.args.words.first.now (codes "messages") c.is_word-else-is_word-6.result _ refl c.is_word-else-is_word-6.ensures c.if-is_word-7.true)
+    c.read_alone-then-is_word-7.ensures
+
+pub returns-then-is_word-8 : goal.returns-then-is_word-8
+returns-then-is_word-8 c =
     asked_with (words_in c.args.words) c.args.body.items (codes "quit") _
-    (compared c.args.words.first.now (codes "quit") c.is_word-else-is_word-5.result _ refl c.is_word-else-is_word-5.ensures c.if-is_word-6.true) refl
+    (compared c.args.words.first.now (codes "quit") c.is_word-else-is_word-7.result _ refl c.is_word-else-is_word-7.ensures c.if-is_word-8.true) refl
 
 pub returns : goal.returns
 returns c =
@@ -47,4 +59,6 @@ returns c =
     (compared c.args.words.first.now (codes "show") c.is_word-else-is_word-2.result _ refl c.is_word-else-is_word-2.ensures c.if-is_word-3.false)
     (compared c.args.words.first.now (codes "dump") c.is_word-else-is_word-3.result _ refl c.is_word-else-is_word-3.ensures c.if-is_word-4.false)
     (compared c.args.words.first.now (codes "write") c.is_word-else-is_word-4.result _ refl c.is_word-else-is_word-4.ensures c.if-is_word-5.false)
-    (compared c.args.words.first.now (codes "quit") c.is_word-else-is_word-5.result _ refl c.is_word-else-is_word-5.ensures c.if-is_word-6.false)
+    (compared c.args.words.first.now (codes "param") c.is_word-else-is_word-5.result _ refl c.is_word-else-is_word-5.ensures c.if-is_word-6.false)
+    (compared c.args.words.first.now (codes "messages") c.is_word-else-is_word-6.result _ refl c.is_word-else-is_word-6.ensures c.if-is_word-7.false)
+    (compared c.args.words.first.now (codes "quit") c.is_word-else-is_word-7.result _ refl c.is_word-else-is_word-7.ensures c.if-is_word-8.false)

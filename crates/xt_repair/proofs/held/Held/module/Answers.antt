@@ -1,7 +1,8 @@
 use Rattle.std.proofs.Common.{◌∙◌, ap}
 use Rattle.std.specs.Option.{option_map}
 use Rattle.xt_import.specs.View.{plain_of}
-use Rattle.xt_repair.proofs.Keys.{by_characters, map-copied}
+use Rattle.xt_world.proofs.Keys.{by_characters}
+use Rattle.xt_repair.proofs.Keys.{map-copied}
 use Rattle.xt_repair.proofs.held.Held.module.Goals as goal
 
 pub returns : goal.returns

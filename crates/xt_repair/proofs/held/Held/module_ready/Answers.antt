@@ -6,10 +6,12 @@ use Rattle.spec_run.specs.Documents.{Documents, main_name, with_module}
 use Rattle.spec_run.specs.Outcome.{Comes}
 use Rattle.spec_structure.specs.Modules.{Modules}
 use Rattle.xt_import.specs.View.{modules_in, plain_of}
+use Rattle.xt_world.specs.ParameterView.{parameters_of}
 use Rattle.xt_repair.specs.OutcomeView.{outcome_of}
 use Rattle.xt_repair.specs.StylesheetView.{AreCompiled, with_one}
 use Rattle.xt_repair.specs.View.{documents_of}
 use Rattle.xt_repair.specs.declared.stylesheet.Compiled.{Compiled}
+use Rattle.xt_repair.proofs.Keeping.{kept_by}
 use Rattle.xt_repair.proofs.Keys.{map-copied}
 use Rattle.xt_repair.proofs.held.Held.module_ready.Goals as goal
 
@@ -27,14 +29,27 @@ returns-clause-ok c =
     = sym (λ i. with_one (name i) (plain_of (same i)) (modules_in (entries i))) in
     let are : AreCompiled modules compiled = subst (λ (ms : Modules). AreCompiled ms compiled) is c.in_ok-compiled.ensures.compiled in
     let outcome = outcome_of c.in_ok-outcome.outcome in
-    let source = map-copied plain_of c.as_ref-2.result ∙ ap (option_map plain_of) c.as_ref-2.ensures.value in
+    let source = map-copied plain_of c.as_ref-source.result ∙ ap (option_map plain_of) c.as_ref-source.ensures.value in
     record {
-      documents = λ i. with_module (name i) (plain_of (same i)) (record { source = option_map plain_of held.source; modules = modules_in c.reserve.new.self.entries });
+      documents = λ i. with_module (name i) (plain_of (same i))
+          (record { source = option_map plain_of held.source; modules = modules_in c.reserve.new.self.entries; parameters = parameters_of held.parameters });
       made = c.requires;
       from = record {
-        outcome = subst (λ (s : Option Plain). Comes modules (modules main_name) s outcome) source
+        outcome = subst (λ (s : Option Plain). Comes modules (parameters_of held.parameters) (modules main_name) s outcome) source
             (c.in_ok-outcome.ensures modules (subst (λ (o : Option Compiled). AreCompiled modules o) (sym c.as_ref.ensures.value) are));
         compiled = are;
         room = c.in_ok-reserve.ensures.ok;
       };
     }
+
+pub returns-in_err-key-clause-kept : goal.returns-in_err-key-clause-kept
+returns-in_err-key-clause-kept c =
+    let held = c.args.self.now in
+    let entries : c.compiled_with.new.modules.entries ≡ held.modules.entries = c.in_ok-compiled.ensures.kept in
+    kept_by held _ (λ i. record { source = option_map plain_of held.source; modules = modules_in (entries i); parameters = parameters_of held.parameters }) refl refl refl
+
+pub returns-in_err-reserve-clause-kept : goal.returns-in_err-reserve-clause-kept
+returns-in_err-reserve-clause-kept c =
+    let held = c.args.self.now in
+    let entries : c.reserve.new.self.entries ≡ held.modules.entries = c.reserve.ensures.entries ∙ c.in_ok-compiled.ensures.kept in
+    kept_by held _ (λ i. record { source = option_map plain_of held.source; modules = modules_in (entries i); parameters = parameters_of held.parameters }) refl refl refl
