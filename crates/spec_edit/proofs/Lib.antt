@@ -1,0 +1,11 @@
+pub mod Labels
+pub mod Around
+pub mod Shapes
+pub mod Numbers
+pub mod Normal
+pub mod Depths
+pub mod Faultless
+pub mod Judging
+pub mod Keeping
+pub mod Beginning
+pub mod Inserting
