@@ -80,7 +80,7 @@ few limit ns h k =
     (λ n e. in_range n 0 limit (omega arith) (let less = below limit n ns k e in omega arith)) in
     omega (arith, most, length-range_with_len 0 limit)
 
-length-labels : (f : Forest ℕ) → length (labels f) ≡ size f
+pub length-labels : (f : Forest ℕ) → length (labels f) ≡ size f
 length-labels spec.Empty = refl
 length-labels (spec.Node l c f g) = omega (arith, length-append (labels f) (labels g), length-labels f, length-labels g)
 

@@ -36,7 +36,7 @@ apart true h k = cc
 apart false h k = cc
 
 -- one that is not there is not found
-not_found : (n : ℕ) (f : spec.Forest ℕ) (above : List spec.Content) → is_among n (spec.labels f) ≡ false → first_in (λ l. l == n) above f ≡ None
+pub not_found : (n : ℕ) (f : spec.Forest ℕ) (above : List spec.Content) → is_among n (spec.labels f) ≡ false → first_in (λ l. l == n) above f ≡ None
 not_found n spec.Empty above h = refl
 not_found n (spec.Node l c f g) above h =
     let own = or_neither (l == n) (is_among n (spec.labels f ++ spec.labels g)) h in

@@ -4,6 +4,7 @@ use Rattle.spec_document.specs.Forest as spec
 use Rattle.spec_document.specs.Forest.{Forest, Content, size, numbered, height}
 use Rattle.spec_document.specs.Numbering.{number_limit}
 use Rattle.spec_document.specs.NodeFaults.{greatest_depth}
+use Rattle.spec_edit.specs.Depth.{ElementsFit}
 use Rattle.xt_tree.specs.Keys.{last_key, Rises, own_key, key_limit}
 use Rattle.spec_document.specs.Name.{Expanded}
 use Rattle.xt_tree.specs.Kept.{AreNames}
@@ -38,13 +39,14 @@ fresh key n low (spec.Node l c f g) same e h =
 -- a document as it is read
 pub fresh_document : (key : ℕ → ℕ) (kept : ℕ → Option (Option Expanded)) (root : ℕ) (f : Forest ℕ) → ((m : ℕ) → key m ≡ own_key m)
     → numbered (root + 1) f ≡ f → root + size f < number_limit → height f ≤ greatest_depth + 1
-    → AreNames kept (record { root = root; nodes = f }) → IsDocument key kept (record { root = root; nodes = f })
-fresh_document key kept root f same order limit depth names =
+    → ElementsFit 1 f → AreNames kept (record { root = root; nodes = f }) → IsDocument key kept (record { root = root; nodes = f })
+fresh_document key kept root f same order limit depth fits names =
     let r = fresh key (root + 1) 0 f same order (omega arith) in
     let most : own_key (root + 1 + size f) < key_limit = omega arith in
     record {
       numbers = ordered_numbers root f order limit;
       depth = depth;
+      fits = fits;
       rises = r.0;
       limit = omega (arith, r.1);
       names = names;

@@ -1,6 +1,15 @@
+pub mod Alike
 pub mod Bools
+pub mod Changed
+pub mod Joined
+pub mod Paths
+pub mod Renumbered
 pub mod Apart
+pub mod Entries
 pub mod Given
+pub mod Indices
+pub mod Parted
+pub mod Rising
 pub mod Views
 pub mod Ways
 pub mod Distinct

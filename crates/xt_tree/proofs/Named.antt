@@ -23,18 +23,18 @@ use Rattle.xt_tree.proofs.Views.{view-Node}
 
 -- the name of a sibling, those below it, and those behind it
 pub name_first : (scope : Scope) (n : Node) (more : List Tree) → names_in scope (forest (tree_of n ∷ more))
-    ≡ name_by (Some (content_of (out-Node n).content)) (within (content_of (out-Node n).content) scope)
-    ∷ names_in (within (content_of (out-Node n).content) scope) (forest_of (out-Node n).children.items) ++ names_in scope (forest more)
+    ≡ name_by (Some (content_of (out-Node n).content.value)) (within (content_of (out-Node n).content.value) scope)
+    ∷ names_in (within (content_of (out-Node n).content.value) scope) (forest_of (out-Node n).children.items) ++ names_in scope (forest more)
 name_first scope n more = rw (view-Node n) refl
 
 -- one sibling more
 pub next_names : (scope inner : Scope) (n : Node) (more : List Tree) (list pushed after : List (Option Expanded)) (name : Option Expanded)
     (children : List (Rc Node Global))
-    → inner ≡ within (content_of (out-Node n).content) scope → name ≡ name_by (Some (content_of (out-Node n).content)) inner
+    → inner ≡ within (content_of (out-Node n).content.value) scope → name ≡ name_by (Some (content_of (out-Node n).content.value)) inner
     → children ≡ (out-Node n).children.items → pushed ≡ list ++ name ∷ [] → after ≡ pushed ++ names_in inner (forest_of children)
     → after ++ names_in scope (forest more) ≡ list ++ names_in scope (forest (tree_of n ∷ more))
 next_names scope inner n more list pushed after name children inner_is name_is children_is pushed_is after_is =
-    let c = content_of (out-Node n).content in
+    let c = content_of (out-Node n).content.value in
     let rest = names_in scope (forest more) in
     let below = names_in inner (forest_of children) in
     ap (λ xs. xs ++ rest) after_is ∙ ap (λ xs. (xs ++ below) ++ rest) pushed_is ∙ append_assoc (list ++ name ∷ []) below rest
@@ -67,7 +67,7 @@ pub record IsAmong (first number : ℕ) (names : List (Option Expanded)) (node :
   pub within : index < length names
   pub name : slice_get names index ≡ Some (name_by node.content (scope_at node))
 
-split : (a b : Option (Found ℕ)) (x : Found ℕ) {P : Type 0} → option_or a b ≡ Some x → (a ≡ Some x → P) → (b ≡ Some x → P) → P
+pub split : (a b : Option (Found ℕ)) (x : Found ℕ) {P : Type 0} → option_or a b ≡ Some x → (a ≡ Some x → P) → (b ≡ Some x → P) → P
 split None b x e h k = k e
 split (Some y) b x e h k = h e
 

@@ -150,7 +150,7 @@ children-smaller (x ∷ xs) zero d lt = omega arith
 children-smaller (x ∷ xs) (suc i) d lt = let less = children-smaller xs i d (omega arith) in omega arith
 
 -- some sibling stands at a position
-some_sibling : (xs : Siblings) (i : ℕ) → i < length xs → Rc Node Global
+pub some_sibling : (xs : Siblings) (i : ℕ) → i < length xs → Rc Node Global
 some_sibling [] i lt = absurd (omega arith)
 some_sibling (x ∷ xs) i lt = x
 

@@ -11,7 +11,7 @@ use Rattle.xt_tree.specs.Keys.{keys_of}
 use Rattle.xt_tree.specs.View.{Tree, tree_of, content_of, forest_of, tree_at, node_step}
 
 pub view-Node : (n : Node)
-    → tree_of n ≡ record { number = (out-Node n).id.number; content = content_of (out-Node n).content; children = forest_of (out-Node n).children.items }
+    → tree_of n ≡ record { number = (out-Node n).id.number; content = content_of (out-Node n).content.value; children = forest_of (out-Node n).children.items }
 view-Node n = fold_out-Node Tree node_step n ∙ rw map-map refl
 
 -- the key of a sibling
@@ -21,7 +21,7 @@ key-at key [] k d h = absurd (omega arith)
 key-at key (x ∷ xs) zero d h = refl
 key-at key (x ∷ xs) (suc k) d h = key-at key xs k d (omega arith)
 
-true_false : true ≡ false → ⊥
+pub true_false : true ≡ false → ⊥
 true_false e = cc
 
 -- siblings by their positions, from 1

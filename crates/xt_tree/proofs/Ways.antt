@@ -13,7 +13,7 @@ use Rattle.xt_tree.specs.View.{scope_from, content_of, Tree, tree_of, forest_of,
 use Rattle.xt_tree.specs.View.{numbered_node, IsWayTo}
 use Rattle.xt_tree.proofs.Views.{view-Node}
 
-abbrev found_tree : List spec.Content → Tree → Found ℕ
+abbrev pub found_tree : List spec.Content → Tree → Found ℕ
 found_tree above t = found_in above t.number t.content t.children
 
 pub child_at-tree_at : (above : List spec.Content) (f : spec.Forest ℕ) (p : ℕ) → child_at above f p ≡ option_map (found_tree above) (tree_at f p)
@@ -252,7 +252,7 @@ scope_at-node_from (p ∷ ps) node =
     ∙ scope_below ps node.above (tree_at node.children p) (λ n. scope_at-node_from ps n)
 
 pub scope_down : (p : ℕ) (ps : List ℕ) (scope : Scope) (f : spec.Forest ℕ) (n : Node) → tree_at f p ≡ Some (tree_of n)
-    → scope_from (p ∷ ps) scope f ≡ scope_from ps (within (content_of (out-Node n).content) scope) (forest_of (out-Node n).children.items)
+    → scope_from (p ∷ ps) scope f ≡ scope_from ps (within (content_of (out-Node n).content.value) scope) (forest_of (out-Node n).children.items)
 scope_down p ps scope f n at = ap (option_and_then (λ tree. scope_from ps (within tree.content scope) tree.children)) at ∙ rw (view-Node n) refl
 
 -- the scope at the node that is there

@@ -1,8 +1,11 @@
 pub mod Code
+pub mod Edit
 pub mod Kept
 pub mod Keys
 pub mod Lookup
 pub mod Numbers
+pub mod Remade
+pub mod Room
 pub mod Step
 pub mod StreamView
 pub mod StreamCode

@@ -6,6 +6,7 @@ use Rattle.spec_document.specs.Forest.{Document, labels, height}
 use Rattle.spec_document.specs.NodeFaults.{greatest_depth}
 use Rattle.spec_document.specs.Numbering.{number_limit}
 use Rattle.spec_document.specs.Name.{Expanded}
+use Rattle.spec_edit.specs.Depth.{ElementsFit}
 use Rattle.xt_tree.specs.Kept.{AreNames}
 use Rattle.xt_tree.specs.Keys.{Rises, last_key, key_limit}
 
@@ -26,6 +27,7 @@ IsNumbered document = IsTrue (are_numbers (document.root ∷ labels document.nod
 pub record IsDocument (key : ℕ → ℕ) (kept : ℕ → Option (Option Expanded)) (document : Document ℕ) : Type 0 where
   pub numbers : IsNumbered document
   pub depth : height document.nodes ≤ greatest_depth + 1
+  pub fits : ElementsFit 1 document.nodes
   pub rises : Rises key 0 document.nodes
   pub limit : last_key key 0 document.nodes < key_limit
   pub names : AreNames kept document

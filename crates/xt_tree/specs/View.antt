@@ -36,7 +36,7 @@ forest [] = spec.Empty
 forest (tree ∷ trees) = spec.Node tree.number tree.content tree.children (forest trees)
 
 abbrev pub node_step : Node-F Tree → Tree
-node_step n = record { number = n.id.number; content = content_of n.content; children = forest (map (λ c. c.value) n.children.items) }
+node_step n = record { number = n.id.number; content = content_of n.content.value; children = forest (map (λ c. c.value) n.children.items) }
 
 abbrev pub tree_of : Node → Tree
 tree_of = fold-Node Tree node_step
@@ -102,3 +102,8 @@ abbrev pub scope_from : List ℕ → Scope → spec.Forest ℕ → Option Scope
 scope_from [] scope siblings = Some scope
 scope_from (position ∷ positions) scope siblings =
     option_and_then (λ tree. scope_from positions (within tree.content scope) tree.children) (tree_at siblings position)
+
+-- the children of the node that positions lead to, from siblings
+abbrev pub children_from : List ℕ → spec.Forest ℕ → Option (spec.Forest ℕ)
+children_from [] siblings = Some siblings
+children_from (position ∷ positions) siblings = option_and_then (λ tree. children_from positions tree.children) (tree_at siblings position)

@@ -5,12 +5,13 @@ ghost use Rattle.spec_document.specs.Numbering.{number_limit};
 ghost use Rattle.spec_document.specs.Forest.{followed, height, numbered, size};
 ghost use Rattle.spec_document.specs.NodeFaults.{greatest_depth};
 ghost use Rattle.spec_document.specs.Place.{TreeNode, node_at};
+ghost use Rattle.spec_edit.specs.Depth.{ElementsFit};
 ghost use Rattle.xt_tree.specs.View.{itself, item_of, numbered_node, content_of, forest_of, tree_of, first_tree};
 ghost use Rattle.xt_tree.specs.Numbers.{IsNumbered};
 ghost use Rattle.spec_document.specs.Forest as spec;
 
 use crate::find::{find, sibling_at};
-use crate::keys::{GAP, give_keys};
+use crate::keys::new_keys;
 use crate::names::Names;
 use crate::table::Table;
 use crate::{Content, Node, NodeId, NodeRef};
@@ -52,7 +53,7 @@ impl Model for Doc {
 /// Siblings in their order, with what is below them. Contracts see the forest with the numbers as labels.
 #[derive(Drop)]
 pub struct Nodes {
-    list: Vec<Rc<Node>>,
+    pub(crate) list: Vec<Rc<Node>>,
 }
 
 impl Model for Nodes {
@@ -90,7 +91,22 @@ impl Nodes {
         ensures ok { OnOk result (self.new ≡ followed self.old (spec.Node id.number (content_of content) children spec.Empty)) }
         ensures err { OnErr result (self.new ≡ self.old) }
     {
-        let shared = Rc::new(alloc, node(id, content, children))?;
+        let content = Rc::new(alloc, content)?;
+        self.push_sharing(alloc, id, content, children)
+    }
+
+    // The same with a content that may be shared.
+    pub(crate) fn push_sharing(
+        &mut self,
+        alloc: Global,
+        id: NodeId,
+        content: Rc<Content>,
+        children: Nodes,
+    ) -> Result<(), Memory>
+        ensures ok { OnOk result (self.new ≡ followed self.old (spec.Node id.number (content_of content.value) children spec.Empty)) }
+        ensures err { OnErr result (self.new ≡ self.old) }
+    {
+        let shared = Rc::new(alloc, node(id, content, children.into_list()))?;
         self.list.push(shared)?;
         Ok(())
     }
@@ -111,13 +127,13 @@ impl Nodes {
 }
 
 // The node of these parts.
-fn node(id: NodeId, content: Content, children: Nodes) -> Node
-    ensures { tree_of result ≡ record { number = id.number; content = content_of content; children = children } }
+pub(crate) fn node(id: NodeId, content: Rc<Content>, children: Vec<Rc<Node>>) -> Node
+    ensures { tree_of result ≡ record { number = id.number; content = content_of content.value; children = forest_of children.items } }
 {
     Node {
         id,
         content,
-        children: children.into_list(),
+        children,
     }
 }
 
@@ -126,11 +142,10 @@ impl Doc {
     pub fn new(alloc: Global, root: NodeId, nodes: Nodes) -> Result<Doc, Memory>
         requires numbers { IsNumbered (record { root = root.number; nodes = nodes }) }
         requires depth { height nodes ≤ greatest_depth + 1 }
+        requires fits { ElementsFit 1 nodes }
         ensures { IfOk result (λ doc. doc ≡ record { root = root.number; nodes = nodes }) }
     {
-        let mut keys = Table::new();
-        let mut last = 0;
-        give_keys(alloc, &mut keys, nodes.list(), &mut last, GAP)?;
+        let keys = new_keys(alloc, nodes.list())?;
         let names = Rc::new(alloc, Names::none(alloc))?;
         Ok(Doc {
             root,
@@ -146,6 +161,7 @@ impl Doc {
         requires order { numbered (root.number + 1) nodes ≡ nodes }
         requires limit { root.number + size nodes < number_limit }
         requires depth { height nodes ≤ greatest_depth + 1 }
+        requires fits { ElementsFit 1 nodes }
         ensures { IfOk result (λ doc. doc ≡ record { root = root.number; nodes = nodes }) }
     {
         let keys = Table::new();
@@ -171,6 +187,15 @@ impl Doc {
     /// Does nothing: it tells proofs that the numbers of the nodes are distinct and below 2^62.
     pub fn distinct_numbers(&self)
         ensures { IsNumbered self.now }
+    {
+        let _ = &self.root;
+    }
+
+    /// Does nothing: it tells proofs that no element stands deeper than 256, and other nodes at most one level below
+    /// the deepest.
+    pub fn bounded_depth(&self)
+        ensures height { height self.now.nodes ≤ greatest_depth + 1 }
+        ensures fits { ElementsFit 1 self.now.nodes }
     {
         let _ = &self.root;
     }
@@ -213,7 +238,7 @@ impl Doc {
         }
         match self.find(id) {
             None => None,
-            Some(node) => Some(&node.content),
+            Some(node) => Some(node.content()),
         }
     }
 }

@@ -35,8 +35,8 @@ fn reached(keys: &Table, siblings: &[Rc<Node>], key: u128) -> usize
     low
 }
 
-// The sibling at this index, from 0.
-fn sibling<'a>(siblings: &'a [Rc<Node>], index: usize) -> &'a Node
+/// The sibling at this index, from 0.
+pub fn sibling<'a>(siblings: &'a [Rc<Node>], index: usize) -> &'a Node
     requires { index < length siblings.now }
     ensures { (other : Rc Node Global) → result.now ≡ (slice_index_or siblings.now index other).value }
 {
@@ -120,7 +120,7 @@ pub fn push_texts(text: &mut Text, siblings: &[Rc<Node>]) -> Result<(), Memory>
     ensures { OnOk result (text.new ≡ text.old ++ texts_in (forest_of siblings.now)) }
 {
     for sibling in siblings {
-        push_own_text(text, &sibling.content)?;
+        push_own_text(text, sibling.content())?;
         push_texts(text, sibling.children.as_slice())?;
     }
     Ok(())
@@ -139,7 +139,7 @@ fn push_own_text(text: &mut Text, content: &Content) -> Result<(), Memory>
 pub fn push_value(text: &mut Text, node: &Node) -> Result<(), Memory>
     ensures { OnOk result (text.new ≡ text.old ++ string_value_by (Some (tree_of node.now).content) (tree_of node.now).children) }
 {
-    match &node.content {
+    match node.content() {
         Content::Element { .. } => push_texts(text, node.children.as_slice()),
         Content::Text { text: own }
         | Content::Comment { text: own }

@@ -1,7 +1,9 @@
 // Keys of nodes, which rise in document order.
-ghost use Rattle.std.specs.Prelude.{ℕ, ◌≡◌, ◌+◌, ◌*◌, ◌<◌, false, OnOk};
+ghost use Rattle.std.specs.Prelude.{ℕ, ◌≡◌, ◌+◌, ◌*◌, ◌<◌, false, IfOk, OnOk};
 ghost use Rattle.spec_document.specs.Forest.{size};
 ghost use Rattle.xt_tree.specs.Keys.{AreApart, Rises, has_number, key_by, key_limit, last_key};
+ghost use Rattle.spec_document.specs.Numbering.{number_limit};
+ghost use Rattle.xt_tree.specs.Room.{AreKeyed};
 ghost use Rattle.xt_tree.specs.View.{forest_of};
 
 use crate::table::Table;
@@ -48,4 +50,16 @@ pub fn give_keys(
         give_keys(alloc, keys, sibling.children.as_slice(), last, step)?;
     }
     Ok(())
+}
+
+/// New keys for the siblings below a root and all below them.
+pub fn new_keys(alloc: Global, siblings: &[Rc<Node>]) -> Result<Table, Memory>
+    requires apart { AreApart (forest_of siblings.now) }
+    requires few { size (forest_of siblings.now) < number_limit }
+    ensures { IfOk result (λ keys. AreKeyed (key_by keys) (forest_of siblings.now)) }
+{
+    let mut keys = Table::new();
+    let mut last = 0;
+    give_keys(alloc, &mut keys, siblings, &mut last, GAP)?;
+    Ok(keys)
 }

@@ -9,6 +9,7 @@
 #![tactic(auto)]
 
 mod doc;
+mod edit;
 mod filling;
 mod find;
 mod items;
@@ -19,6 +20,9 @@ mod node_ref;
 mod part;
 mod place;
 mod properties;
+mod remade;
+mod room;
+mod splice;
 mod table;
 mod value;
 

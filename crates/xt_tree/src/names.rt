@@ -4,10 +4,11 @@ ghost use Rattle.std.specs.List.{slice_get};
 ghost use Rattle.std.specs.Option.{option_map};
 ghost use Rattle.spec_document.specs.Scope.{root_scope};
 ghost use Rattle.xt_tree.specs.Kept.{kept_at, names_in};
-ghost use Rattle.xt_tree.specs.View.{forest_of};
+ghost use Rattle.xt_tree.specs.Room.{all_suit, suits};
+ghost use Rattle.xt_tree.specs.View.{content_of, forest_of};
 
 use crate::part::{content_name, enter};
-use crate::{Node, NodeId};
+use crate::{Content, Node, NodeId};
 use std::alloc::Global;
 use std::rc::Rc;
 use xt_names::{Expanded, Scope};
@@ -53,6 +54,35 @@ impl Names {
         }
         name_at(self.list.as_slice(), id.number - self.first)
     }
+
+    /// Whether what is kept for the numbers of these siblings and of all below them is right wherever they stand.
+    pub fn all_suit(&self, siblings: &[Rc<Node>]) -> bool
+        ensures { result ≡ all_suit (kept_at self.now) (forest_of siblings.now) }
+    {
+        for sibling in siblings {
+            if !suits(sibling.content(), self.get(sibling.id())) {
+                return false;
+            }
+            if !self.all_suit(sibling.children()) {
+                return false;
+            }
+        }
+        true
+    }
+}
+
+// Whether a node with this content may have any place where this is kept for its number.
+fn suits(content: &Content, name: Option<&Option<Expanded>>) -> bool
+    ensures { result ≡ suits (content_of content.now) (option_map (λ name. name.now) name.entry) }
+{
+    match name {
+        None => true,
+        Some(Some(_)) => false,
+        Some(None) => match content {
+            Content::Text { .. } | Content::Comment { .. } => true,
+            Content::Element { .. } | Content::Instruction { .. } => false,
+        },
+    }
 }
 
 // The name at this index, from 0.
@@ -76,8 +106,8 @@ fn push_names(
 {
     for sibling in siblings {
         let mut inner = scope.copy()?;
-        enter(alloc, &mut inner, &sibling.content)?;
-        let name = content_name(alloc, &sibling.content, &inner)?;
+        enter(alloc, &mut inner, sibling.content())?;
+        let name = content_name(alloc, sibling.content(), &inner)?;
         list.push(name)?;
         push_names(alloc, list, sibling.children.as_slice(), &inner)?;
     }

@@ -57,7 +57,7 @@ impl Content {
 #[derive(Drop)]
 pub struct Node {
     pub(crate) id: NodeId,
-    pub(crate) content: Content,
+    pub(crate) content: Rc<Content>,
     pub(crate) children: Vec<Rc<Node>>,
 }
 

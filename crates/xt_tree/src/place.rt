@@ -4,8 +4,8 @@ ghost use Rattle.std.specs.Option.{option_map, ForSome};
 ghost use Rattle.spec_document.specs.Place.{node_at, scope_at, attributes_of, namespaces_of, at_number};
 ghost use Rattle.xt_tree.specs.View.{IsPlaceOf, IsWayTo, item_of, numbered_node};
 
-use crate::find::{lead, sibling_at};
-use crate::part::{enter, namespace_at};
+use crate::find::lead;
+use crate::part::namespace_at;
 use crate::{Doc, NodeId, NodeRef, Part};
 use spec_document::Kind;
 use std::alloc::Global;
@@ -82,31 +82,13 @@ impl Doc {
         }
     }
 
-    // The scope inside the node that the path leads to, where it leads to one.
-    fn scope_along(&self, alloc: Global, path: &Path) -> Result<Scope, Memory>
-        ensures { IfOk result (λ scope. ForSome (node_at self.now path.now) (λ node. scope ≡ scope_at node)) }
-    {
-        let mut scope = Scope::root(alloc)?;
-        let mut siblings = self.children.as_slice();
-        for position in path.positions() {
-            match sibling_at(siblings, *position) {
-                None => return Ok(scope),
-                Some(node) => {
-                    enter(alloc, &mut scope, &node.content)?;
-                    siblings = node.children.as_slice();
-                }
-            }
-        }
-        Ok(scope)
-    }
-
     // The scope at the node of this number, where there is one.
     pub(crate) fn scope_of(&self, alloc: Global, node: &NodeRef) -> Result<Scope, Memory>
         ensures { IfOk result (λ scope. ForSome (numbered_node self.now node.now.node.number) (λ node. scope ≡ scope_at node)) }
     {
         match self.way(alloc, node.node)? {
             None => Scope::root(alloc),
-            Some(path) => self.scope_along(alloc, &path),
+            Some(path) => self.scope_at(alloc, path.positions()),
         }
     }
 }

@@ -49,6 +49,14 @@ impl Table {
         None
     }
 
+    /// The same map, shared.
+    pub fn copy(&self) -> Result<Table, Memory>
+        ensures { IfOk result (λ table. (number : ℕ) → lookup table number ≡ lookup self.now number) }
+    {
+        let root = copy(&self.root)?;
+        Ok(Table { root })
+    }
+
     /// The same map with this key at this number.
     pub fn with(&self, alloc: Global, number: u64, key: u128) -> Result<Table, Memory>
         ensures { IfOk result (λ table. (other : ℕ) → lookup table other ≡ (if other == number then Some key else lookup self.now other)) }

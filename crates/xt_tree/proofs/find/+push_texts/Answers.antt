@@ -14,8 +14,10 @@ loop-sibling-preserved t c =
       c.in_ok-push_texts.ensures,
       c.in_ok-push_own_text.ensures,
       c.as_slice.ensures.value,
+      c.content.ensures,
       c.deref.ensures,
       c.deref-in-loop-sibling.ensures,
+      view-Node c.sibling-item.result.value,
       append_assoc,
       append_assoc,
     ) (rw (view-Node c.sibling-item.result.value, append_assoc) at here)

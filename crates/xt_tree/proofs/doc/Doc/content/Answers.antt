@@ -1,6 +1,5 @@
 use Rattle.std.proofs.Common.{◌≡◌, ◌==◌, true, false, ◌∙◌, sym, ap, Some}
 use Rattle.xt_tree.specs.View.{tree_of}
-use Rattle.xt_tree.proofs.Views.{view-Node}
 use Rattle.xt_tree.proofs.Ways.{root_is, no_tree, is_tree}
 use Rattle.xt_tree.proofs.doc.Doc.content.Goals as goal
 
@@ -21,4 +20,4 @@ returns-in-Some c x e =
     let d = c.args.self.now in
     let apart : (d.root == c.args.id.number) ≡ false = ap (λ e. e.root == c.args.id.number) (sym c.self.view_is) ∙ sym c.eq.ensures ∙ c.if-eq.false in
     let is = is_tree d c.args.id.number x (tree_of c.in-Some.node.now) apart e (sym c.in-Some.ensures) in
-    ap (λ t. Some t.content) (sym (view-Node c.in-Some.node.now)) ∙ sym is.content
+    ap Some c.content.ensures ∙ sym is.content

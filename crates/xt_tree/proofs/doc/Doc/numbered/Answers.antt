@@ -17,4 +17,4 @@ invariant_of-result c =
     let names = subst (λ n. AreNames (kept_at n) (record { root = root; nodes = c.args.nodes })) (sym c.in_ok-names.ensures.ok) named in
     subst (λ f. IsDocument key kept (record { root = root; nodes = f })) (sym c.into_list-children.ensures)
     (fresh_document key kept root c.args.nodes (λ n. ap (λ o. entry_or o n) (c.new-keys.ensures n)) c.requires.order c.requires.limit
-    c.requires.depth names)
+    c.requires.depth c.requires.fits names)
