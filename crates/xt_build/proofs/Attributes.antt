@@ -24,10 +24,9 @@ pub kept_two : (found next now : Option Fault) (xs ys rest : List Fault) → nex
     → merged now (least rest) ≡ merged found (least ((xs ++ ys) ++ rest))
 kept_two found next now xs ys rest e h = kept_one found now (xs ++ ys) rest (h ∙ kept_one found next xs ys e)
 
-pub kept_three : (found first second now : Option Fault) (xs ys zs rest : List Fault) → first ≡ merged found (least xs)
-    → second ≡ merged first (least ys)
-    → now ≡ merged second (least zs) → merged now (least rest) ≡ merged found (least (((xs ++ ys) ++ zs) ++ rest))
-kept_three found first second now xs ys zs rest e h k = kept_one found now ((xs ++ ys) ++ zs) rest (k ∙ kept_two found first second xs ys zs e h)
+pub kept_three : (found first second now : Option Fault) (xs ys zs : List Fault) → first ≡ merged found (least xs) → second ≡ merged first (least ys)
+    → now ≡ merged second (least zs) → now ≡ merged found (least ((xs ++ ys) ++ zs))
+kept_three found first second now xs ys zs e h k = k ∙ kept_two found first second xs ys zs e h
 
 or_false : (a : Bool) → (a || false) ≡ a
 or_false true = refl

@@ -9,6 +9,7 @@ use Rattle.spec_document.specs.Fault.{Fault, fault_if, least}
 use Rattle.spec_document.specs.Balance.{LineNumbers}
 use Rattle.spec_document.specs.Top.{without_texts}
 use Rattle.spec_document.specs.NodeFaults.{is_wrong_element, greatest_depth, attribute_faults, content_faults, node_faults}
+use Rattle.spec_edit.specs.Depth.{ElementsFit}
 use Rattle.xt_build.specs.Least.{merged}
 use Rattle.xt_build.specs.Piece.{Piece, Begins, Ends, first_of, piece_before, pieces_before, open_in, forest_in}
 use Rattle.xt_build.proofs.Building.{merged_none, least_none}
@@ -92,7 +93,44 @@ height-fits (Node l (Instruction n t) f g) scope depth h d e =
     (height-fits g scope depth h.1 d
     (both_empty (content_faults scope depth l (Instruction n t) ++ node_faults scope (depth + 1) f) (node_faults scope depth g) e).1)
 
+pub elements-fit : (f : Forest LineNumbers) (scope : Scope) (depth : ℕ) → node_faults scope depth f ≡ [] → ElementsFit depth f
+elements-fit Empty scope depth e = tt
+elements-fit (Node l (Element name a) f g) scope depth e =
+    let inside = within (Element name a) scope in
+    let parts = both_empty (content_faults inside depth l (Element name a) ++ node_faults inside (depth + 1) f) (node_faults scope depth g) e in
+    let front = both_empty (content_faults inside depth l (Element name a)) (node_faults inside (depth + 1) f) parts.0 in
+    (λ is. within-depth inside depth l name a front.0, elements-fit f inside (depth + 1) front.1, elements-fit g scope depth parts.1)
+elements-fit (Node l (Text t) f g) scope depth e =
+    let parts = both_empty (content_faults scope depth l (Text t) ++ node_faults scope (depth + 1) f) (node_faults scope depth g) e in (
+      λ is. absurd (cc),
+      elements-fit f scope (depth + 1) (both_empty (content_faults scope depth l (Text t)) (node_faults scope (depth + 1) f) parts.0).1,
+      elements-fit g scope depth parts.1,
+    )
+elements-fit (Node l (Comment t) f g) scope depth e =
+    let parts = both_empty (content_faults scope depth l (Comment t) ++ node_faults scope (depth + 1) f) (node_faults scope depth g) e in (
+      λ is. absurd (cc),
+      elements-fit f scope (depth + 1) (both_empty (content_faults scope depth l (Comment t)) (node_faults scope (depth + 1) f) parts.0).1,
+      elements-fit g scope depth parts.1,
+    )
+elements-fit (Node l (Instruction n t) f g) scope depth e =
+    let parts = both_empty (content_faults scope depth l (Instruction n t) ++ node_faults scope (depth + 1) f) (node_faults scope depth g) e in (
+      λ is. absurd (cc),
+      elements-fit f scope (depth + 1) (both_empty (content_faults scope depth l (Instruction n t)) (node_faults scope (depth + 1) f) parts.0).1,
+      elements-fit g scope depth parts.1,
+    )
+
 -- ---- The same nodes with numbers, and without the texts at the top
+
+fit-numbered : {L : Type 0} (depth n : ℕ) (f : Forest L) → ElementsFit depth f → ElementsFit depth (numbered n f)
+fit-numbered depth n Empty h = tt
+fit-numbered depth n (Node l c f g) h = (h.0, fit-numbered (depth + 1) (n + 1) f h.1, fit-numbered depth (n + 1 + size f) g h.2)
+
+fit-kept : {L : Type 0} (depth : ℕ) (f : Forest L) → ElementsFit depth f → ElementsFit depth (without_texts f)
+fit-kept depth Empty h = tt
+fit-kept depth (Node l (Text t) f g) h = fit-kept depth g h.2
+fit-kept depth (Node l (Element n a) f g) h = (h.0, h.1, fit-kept depth g h.2)
+fit-kept depth (Node l (Comment t) f g) h = (h.0, h.1, fit-kept depth g h.2)
+fit-kept depth (Node l (Instruction n t) f g) h = (h.0, h.1, fit-kept depth g h.2)
 
 height-numbered : {L : Type 0} (n : ℕ) (f : Forest L) → height (numbered n f) ≡ height f
 height-numbered n Empty = refl
@@ -127,3 +165,12 @@ document-height scope first ps top names number numbers more most n m o none =
     let same = height-numbered first (without_texts f) in
     let less = height-kept f in
     omega (arith, fits, same, less)
+
+pub document-fits : (scope : Scope) (first : ℕ) (ps : List Piece) (top names number numbers more most : Option Fault)
+    → names ≡ merged top (least (node_faults scope 1 (forest_in ps))) → number ≡ merged names more → numbers ≡ merged number most
+    → numbers ≡ None
+    → ElementsFit 1 (numbered first (without_texts (forest_in ps)))
+document-fits scope first ps top names number numbers more most n m o none =
+    let f = forest_in ps in
+    let fits = elements-fit f scope 1 (none-found top names number numbers more most (node_faults scope 1 f) n m o none) in
+    fit-numbered 1 first (without_texts f) (fit-kept 1 f fits)

@@ -5,13 +5,13 @@ use Rattle.std.specs.Prelude.{nat_lt}
 use Rattle.std.specs.Option.{option_map}
 use Rattle.std.proofs.lemmas.List.{get_or-reverse}
 use Rattle.spec_document.specs.Scope.{Scope}
-use Rattle.spec_document.specs.Forest.{Written, Forest, Element, Instruction}
+use Rattle.spec_document.specs.Forest.{Written, Content, Element, Text, Comment, Instruction, Forest}
 use Rattle.spec_document.specs.Declaration.{declared_all}
 use Rattle.spec_document.specs.Fault.{Fault, least, fault_if}
 use Rattle.spec_document.specs.Balance.{LineNumbers}
 use Rattle.spec_document.specs.NodeFaults.{greatest_depth, is_wrong_element, is_wrong_target, attribute_faults, content_faults, node_faults}
 use Rattle.xt_build.specs.Least.{merged}
-use Rattle.xt_build.proofs.Attributes.{kept_one, kept_three}
+use Rattle.xt_build.proofs.Attributes.{kept_one}
 use Rattle.xt_build.specs.Left.{innermost, open_faults}
 use Rattle.xt_build.specs.Piece.{first_of, element_before, leaf_before}
 
@@ -62,18 +62,26 @@ element_faults outside depth scopes lines name attributes (f ∷ g ∷ fs) =
     (open_faults outside depth (drop 1 scopes) fs)
     ∙ ap (λ d. own ++ (node_faults inside d f ++ rest)) (deeper depth (length scopes))
 
+-- a node that stands too deep has the same faults at each depth that is too great
+pub same_depth : (scope : Scope) (depth other : ℕ) (lines : LineNumbers) (content : Content)
+    → nat_lt greatest_depth depth ≡ nat_lt greatest_depth other
+    → content_faults scope depth lines content ≡ content_faults scope other lines content
+same_depth scope depth other lines (Element name attributes) e =
+    ap (λ b. fault_if (is_wrong_element scope name) 10 lines.first ++ fault_if b 11 lines.first
+    ++ attribute_faults scope [] lines.attributes attributes) e
+same_depth scope depth other lines (Text text) e = refl
+same_depth scope depth other lines (Comment text) e = refl
+same_depth scope depth other lines (Instruction target text) e = refl
+
 -- what was found at an element, with the faults inside it and behind it, is what was found with the faults from the element on
 pub entered : (outside : Scope) (depth : ℕ) (scopes : List Scope) (lines : LineNumbers) (name : List ℕ) (attributes : List Written)
-    (behind : List (Forest LineNumbers))
-    (found first second now : Option Fault)
-    → first ≡ merged found (least (fault_if (is_wrong_element (declared_all attributes (innermost outside scopes)) name) 10 lines.first))
-    → second ≡ merged first (least (fault_if (nat_lt greatest_depth (depth + length scopes)) 11 lines.first))
-    → now ≡ merged second (least (attribute_faults (declared_all attributes (innermost outside scopes)) [] lines.attributes attributes))
+    (behind : List (Forest LineNumbers)) (found now : Option Fault)
+    → now ≡ merged found (least (content_faults (declared_all attributes (innermost outside scopes)) (depth + length scopes) lines
+    (Element name attributes)))
     → merged now (least (open_faults outside depth (declared_all attributes (innermost outside scopes) ∷ scopes) behind))
     ≡ merged found (least (open_faults outside depth scopes (element_before lines (Element name attributes) behind)))
-entered outside depth scopes lines name attributes behind found first second now e h k =
-    kept_three found first second now _ _ _ _ e h k
-    ∙ ap (λ fs. merged found (least fs)) (sym (element_faults outside depth scopes lines name attributes behind))
+entered outside depth scopes lines name attributes behind found now e =
+    kept_one found now _ _ e ∙ ap (λ fs. merged found (least fs)) (sym (element_faults outside depth scopes lines name attributes behind))
 
 pub instructed : (outside : Scope) (depth : ℕ) (scopes : List Scope) (lines : LineNumbers) (target text : List ℕ) (behind : List (Forest LineNumbers))
     (found now : Option Fault)

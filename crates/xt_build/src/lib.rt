@@ -23,6 +23,7 @@ mod write;
 
 pub use document::{Built, BuiltNodes, build, build_nodes};
 pub use fault::{BuildFault, Fault};
+pub use names::{check_content, scope_inside};
 pub use spec_document::Parent;
 pub use write::lines;
 pub use xt_io::Line;

@@ -4,12 +4,13 @@ ghost use Rattle.std.specs.Prelude.{◌≡◌, ◌+◌, [], List, map, reverse, 
 ghost use Rattle.std.specs.Option.{option_copied};
 ghost use Rattle.spec_document.specs.Scope as spec;
 ghost use Rattle.spec_document.specs.Forest.{Forest};
-ghost use Rattle.spec_document.specs.Declaration.{declared_all};
+ghost use Rattle.spec_document.specs.Declaration.{declared_all, within};
 ghost use Rattle.spec_document.specs.Fault.{least};
 ghost use Rattle.spec_document.specs.Balance.{LineNumbers};
-ghost use Rattle.spec_document.specs.NodeFaults.{greatest_depth, is_wrong_element, is_wrong_target, is_wrong_use, expanded_by, attribute_faults, node_faults};
+ghost use Rattle.spec_document.specs.NodeFaults.{greatest_depth, is_wrong_element, is_wrong_target, is_wrong_use, expanded_by};
+ghost use Rattle.spec_document.specs.NodeFaults.{attribute_faults, content_faults, node_faults};
 ghost use Rattle.xt_names.specs.View.{use_in};
-ghost use Rattle.xt_tree.specs.View.{written_of};
+ghost use Rattle.xt_tree.specs.View.{content_of, written_of};
 ghost use Rattle.xt_build.specs.Least.{merged};
 ghost use Rattle.xt_build.specs.Left.{open_faults};
 ghost use Rattle.xt_build.specs.Piece.{forest_in, IsWhole, piece_before};
@@ -72,41 +73,76 @@ fn check_piece(
             attribute_lines,
             content,
         } => match content {
-            Content::Element { name, attributes } => {
+            Content::Element { .. } => {
                 let around = scopes.last().unwrap_or(outside);
-                let inside = scope_inside(alloc, around, attributes.as_slice())?;
-                let is_wrong = is_wrong_element(&inside, name);
-                keep_if(found, is_wrong, EditCode::BadName, *line);
-                let is_deep = is_too_deep(depth, scopes.len());
-                keep_if(found, is_deep, EditCode::TooDeep, *line);
-                check_attributes(
-                    alloc,
-                    &inside,
-                    attributes.as_slice(),
-                    attribute_lines.as_slice(),
-                    found,
-                )?;
+                let inside = scope_inside(alloc, around, content)?;
+                let depth = depth_below(depth, scopes.len());
+                let lines = attribute_lines.as_slice();
+                check_content(alloc, &inside, depth, content, *line, lines, found)?;
                 scopes.push(inside)?;
                 Ok(())
             }
-            Content::Instruction { target, .. } => {
-                keep_if(found, is_wrong_target(target), EditCode::BadName, *line);
-                Ok(())
+            Content::Instruction { .. } => {
+                let lines = attribute_lines.as_slice();
+                check_content(alloc, outside, depth, content, *line, lines, found)
             }
             Content::Text { .. } | Content::Comment { .. } => Ok(()),
         },
     }
 }
 
-// Whether an element stands too deep where so many are open, the outermost below a parent of this depth.
-fn is_too_deep(depth: u64, elements: usize) -> bool
-    ensures { result ≡ nat_lt greatest_depth (depth + 1 + elements) }
+// How deep an element stands where so many are open, the outermost below a parent of this depth; past the greatest
+// depth, some depth that is past it too.
+fn depth_below(depth: u64, elements: usize) -> u64
+    ensures { nat_lt greatest_depth result ≡ nat_lt greatest_depth (depth + 1 + elements) }
 {
-    depth.saturating_add(elements as u64) >= GREATEST_DEPTH
+    depth.saturating_add(1).saturating_add(elements as u64)
+}
+
+/// Finds the faults of a node itself, not of what is below it: a bad name, prefix or declaration, an element that
+/// stands too deep, and two attributes of one name. `inside` is the scope inside the node, for an element with its own
+/// declarations, and `depth` is how deep it stands, from 1 for the document element. The node stands at this line, and
+/// its attributes at theirs, in their order; one without a line has 0. `found` is the least fault so far, and becomes
+/// that of both.
+pub fn check_content(
+    alloc: Global,
+    inside: &Scope,
+    depth: u64,
+    content: &Content,
+    line: u64,
+    attribute_lines: &[u64],
+    found: &mut Option<Fault>,
+) -> Result<(), Memory>
+    ensures { OnOk result (found_of found.new ≡ merged (found_of found.old) (least (content_faults inside.now depth
+        (record { first = line; attributes = attribute_lines.now }) (content_of content.now)))) }
+{
+    match content {
+        Content::Element { name, attributes } => {
+            let is_wrong = is_wrong_element(inside, name);
+            keep_if(found, is_wrong, EditCode::BadName, line);
+            keep_if(found, depth > GREATEST_DEPTH, EditCode::TooDeep, line);
+            check_attributes(alloc, inside, attributes.as_slice(), attribute_lines, found)
+        }
+        Content::Instruction { target, .. } => {
+            keep_if(found, is_wrong_target(target), EditCode::BadName, line);
+            Ok(())
+        }
+        Content::Text { .. } | Content::Comment { .. } => Ok(()),
+    }
+}
+
+/// The scope inside a node with this content that stands in the scope `around`: an element's declarations count in it.
+pub fn scope_inside(alloc: Global, around: &Scope, content: &Content) -> Result<Scope, Memory>
+    ensures { IfOk result (λ inside. inside ≡ within (content_of content.now) around.now) }
+{
+    match content {
+        Content::Element { attributes, .. } => declared(alloc, around, attributes.as_slice()),
+        _ => around.copy(),
+    }
 }
 
 // The scope inside an element of these attributes.
-fn scope_inside(alloc: Global, around: &Scope, attributes: &[Written]) -> Result<Scope, Memory>
+fn declared(alloc: Global, around: &Scope, attributes: &[Written]) -> Result<Scope, Memory>
     ensures { IfOk result (λ inside. inside ≡ declared_all (map written_of attributes.now) around.now) }
 {
     let mut scope = around.copy()?;

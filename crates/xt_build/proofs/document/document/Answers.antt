@@ -6,7 +6,8 @@ use Rattle.spec_document.specs.Document.{document_by}
 use Rattle.xt_build.specs.View.{found_of, pieces_of, fault_of}
 use Rattle.xt_build.specs.Piece.{forest_in}
 use Rattle.xt_build.proofs.Building.{document_made, document_has_room, answered, second_is_next, second_number, AreMade, are_made, size_numbered}
-use Rattle.xt_build.proofs.Heights.{document-height}
+use Rattle.spec_edit.specs.Depth.{ElementsFit}
+use Rattle.xt_build.proofs.Heights.{document-height, document-fits}
 use Rattle.xt_build.proofs.document.document.Goals as goal
 use Rattle.xt_build.proofs.document.document.Goals.{In_ok-built, In_default}
 
@@ -54,6 +55,15 @@ numbered-requires-clause-depth c =
     let same = ap (λ ps. height (numbered (c.args.first.number + 1) (without_texts (forest_in (pieces_of ps))))) c.as_slice-whole.ensures.value in
     let here = ap height are in
     omega (arith, fits, same, here)
+
+pub numbered-requires-clause-fits : goal.numbered-requires-clause-fits
+numbered-requires-clause-fits c =
+    let fits = document-fits c.args.scope.now (c.args.first.number + 1) (pieces_of c.as_slice-whole.result.now) (found_of c.check_top.new.found)
+    (found_of c.check_nodes.new.found)
+    (found_of c.check_number.new.found) (found_of c.check_numbers.new.found) _ _ c.in_ok-check_nodes.ensures c.check_number.ensures c.check_numbers.ensures
+    (ap found_of c.in_default.is) in
+    subst (λ f. ElementsFit 1 f) (sym (made c.before).are)
+    (subst (λ ps. ElementsFit 1 (numbered (c.args.first.number + 1) (without_texts (forest_in (pieces_of ps))))) c.as_slice-whole.ensures.value fits)
 
 pub returns : goal.returns
 returns c =
