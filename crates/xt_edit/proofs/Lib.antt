@@ -1,0 +1,16 @@
+pub mod Between
+pub mod Deleted
+pub mod Edges
+pub mod Elements
+pub mod Faults
+pub mod Inserting
+pub mod Keeping
+pub mod Named
+pub mod Plainly
+pub mod Renewed
+pub mod Seams
+pub mod Sites
+pub mod Stays
+pub mod Told
+pub mod Valued
+pub mod Ways

@@ -1,0 +1,10 @@
+pub mod Changed
+pub mod Finding
+pub mod Inserted
+pub mod Kept
+pub mod Seam
+pub mod Site
+pub mod Standing
+pub mod Telling
+pub mod Valued
+pub mod View
