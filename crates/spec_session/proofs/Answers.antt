@@ -8,16 +8,21 @@ use Rattle.spec_document.specs.Name.{is_ncname}
 use Rattle.spec_document.specs.Scope.{root_scope}
 use Rattle.spec_document.specs.Forest.{Plain, Document, plain}
 use Rattle.spec_document.specs.Fault.{Fault}
+use Rattle.spec_edit.specs.Edit as edits
+use Rattle.spec_edit.specs.Edit.{Edit, Edited}
 use Rattle.spec_session.specs.Command.{Command}
-use Rattle.spec_session.specs.Request.{Request, SetSource, SetModule, DropModule, Insert, Delete, SetText, SetAttribute, RemoveAttribute, Rename}
+use Rattle.spec_session.specs.Request.{DocumentName, SourceName, ModuleName, Request, SetSource, SetModule}
+use Rattle.spec_session.specs.Request.{DropModule, Insert, Delete, SetText, SetAttribute, RemoveAttribute, Rename}
 use Rattle.spec_session.specs.Request.{SetParameter, Show, Write, Messages, Dump, Statistics, request_by, Words, is_text, is_taken, or_number, asked_by}
 use Rattle.spec_session.specs.Request.{words_of}
 use Rattle.spec_structure.specs.Modules.{is_among}
 use Rattle.spec_run.specs.Documents.{Documents, with_source, with_module, parameter_fault}
 use Rattle.spec_session.specs.Reply.{Reply}
-use Rattle.spec_session.specs.Machine.{State, initial, Step, Run, answer_of, answer_by, answer_to, kept_by, given_by, shows, document_named}
+use Rattle.spec_session.specs.Machine.{State, initial, Step, Run, answer_of, answer_by, answer_to}
+use Rattle.spec_session.specs.Machine.{kept_by, given_by, with_document, edited_by, edited_in, shows, document_named}
 use Rattle.spec_session.proofs.Steps.{AreFinite, IsOther, finite_after}
 use Rattle.spec_session.proofs.FaultNumbers.{FaultIsAbove, fault-above}
+use Rattle.spec_session.proofs.EditFaults.{edit-above}
 
 -- ---- The modules
 
@@ -53,6 +58,17 @@ given name value old finite = go (list_all is_char value) (is_ncname name)
     go true false = lit< tt
     go false is_name = lit< tt
 
+finite_at : (document : DocumentName) (nodes : Plain) (old : Documents) → AreFinite old → AreFinite (with_document document nodes old)
+finite_at SourceName nodes old finite = finite_source nodes old finite
+finite_at (ModuleName name) nodes old finite = finite_with name nodes old finite
+
+edited : (old : State) → AreFinite old.documents → (document : DocumentName) (edit : Edit) → IsOther (edited_in old document edit)
+edited old finite document edit = go _ (edit-above old.made edit (document_named old document))
+  where
+    go : (result : Result (Edited (Unit {0})) Fault) → FaultIsAbove result → IsOther (edited_by old document result)
+    go (Err fault) h = h
+    go (Ok edited) h = finite_at document edited.nodes old.documents finite
+
 shown : (o : Option Plain) → IsOther (shows o)
 shown None = lit< tt
 shown (Some tree) = tt
@@ -65,12 +81,12 @@ to old finite (SetModule name body) =
 to old finite Show = tt
 to old finite (Dump document) = shown (document_named old document)
 to old finite (DropModule name) = lit< tt
-to old finite (Insert document path body) = lit< tt
-to old finite (Delete document path) = lit< tt
-to old finite (SetText document path value) = lit< tt
-to old finite (SetAttribute document path name value) = lit< tt
-to old finite (RemoveAttribute document path name) = lit< tt
-to old finite (Rename document path name) = lit< tt
+to old finite (Insert document path body) = edited old finite document (edits.Insert path body)
+to old finite (Delete document path) = edited old finite document (edits.Delete path)
+to old finite (SetText document path value) = edited old finite document (edits.SetText path value)
+to old finite (SetAttribute document path name value) = edited old finite document (edits.SetAttribute path name value)
+to old finite (RemoveAttribute document path name) = edited old finite document (edits.RemoveAttribute path name)
+to old finite (Rename document path name) = edited old finite document (edits.Rename path name)
 to old finite (SetParameter name value) = given name value old finite
 to old finite Write = tt
 to old finite Messages = tt

@@ -6,18 +6,19 @@ use Rattle.std.specs.Str.{is_utf8}
 use Rattle.spec_document.specs.Character.{is_space}
 use Rattle.spec_document.specs.Scope.{Scope}
 use Rattle.spec_document.specs.Pyx.{Line}
-use Rattle.spec_document.specs.Forest.{Written, Content, Element, Text, Comment, Instruction, Forest, Empty, Node, Document, labels}
+use Rattle.spec_document.specs.Forest.{Written, Content, Element, Text, Comment, Instruction, Forest, Empty, Node, labels}
 use Rattle.spec_document.specs.Declaration.{use_of, within}
 use Rattle.spec_document.specs.Fault.{Fault, lesser, comes_first, least, answer_of, fault_if}
-use Rattle.spec_document.specs.Body.{not_utf8, no_event, is_bad, texts_of, events_at}
+use Rattle.spec_document.specs.Body.{not_utf8, no_event, is_bad, texts_of, events_at, line_faults}
 use Rattle.spec_document.specs.Balance.{LineNumbers, forest_of, unbalanced_line}
-use Rattle.spec_document.specs.Top.{elements_at_top, element_faults, text_faults, without_texts}
+use Rattle.spec_document.specs.Top.{elements_at_top, element_faults, text_faults, top_faults, without_texts, kept}
 use Rattle.spec_document.specs.NodeFaults.{is_wrong_use, is_wrong_element, is_wrong_target, is_same_attribute, attribute_faults, content_faults, node_faults}
 use Rattle.spec_document.specs.Numbering.{number_limit}
-use Rattle.spec_document.specs.Document.{document_by, document_of}
+use Rattle.spec_document.specs.Document.{document_by, document_of, nodes_by, nodes_of, made_of, elements_beside, depth_of}
+use Rattle.spec_document.specs.declared.parent.Parent.{Parent}
 
 -- the numbers of all of them, the number of the one, where there is one, are above 1
-abbrev Above : List Fault → Type 0
+abbrev pub Above : List Fault → Type 0
 Above [] = Unit {0}
 Above (fault ∷ faults) = (1 < fault.number) × Above faults
 
@@ -29,7 +30,7 @@ abbrev pub FaultIsAbove : {A : Type 0} → Result A Fault → Type 0
 FaultIsAbove (Ok x) = Unit {0}
 FaultIsAbove (Err fault) = 1 < fault.number
 
-both : (xs ys : List Fault) → Above xs → Above ys → Above (xs ++ ys)
+pub both : (xs ys : List Fault) → Above xs → Above ys → Above (xs ++ ys)
 both [] ys a b = b
 both (x ∷ xs) ys a b = (a.0, both xs ys a.1 b)
 
@@ -49,7 +50,7 @@ least-above : (faults : List Fault) → Above faults → IsAbove (least faults)
 least-above [] a = tt
 least-above (x ∷ xs) a = lesser-above x (least xs) a.0 (least-above xs a.1)
 
-answer-above : {A : Type 0} (faults : List Fault) (otherwise : Result A Fault) → Above faults → FaultIsAbove otherwise
+pub answer-above : {A : Type 0} (faults : List Fault) (otherwise : Result A Fault) → Above faults → FaultIsAbove otherwise
     → FaultIsAbove (answer_of faults otherwise)
 answer-above {A} faults otherwise a h = go (least faults) (least-above faults a)
   where
@@ -57,7 +58,7 @@ answer-above {A} faults otherwise a h = go (least faults) (least-above faults a)
     go None k = h
     go (Some fault) k = k
 
-not_utf8-above : (lines : List (ℕ × List ℕ)) → Above (not_utf8 lines)
+pub not_utf8-above : (lines : List (ℕ × List ℕ)) → Above (not_utf8 lines)
 not_utf8-above [] = tt
 not_utf8-above (l ∷ ls) = both _ _ (one_if (not (is_utf8 l.1)) 2 l.0 (lit< tt)) (not_utf8-above ls)
 
@@ -82,7 +83,7 @@ attribute-above scope before lines (a ∷ more) =
     (one_if (list_any (λ b. is_same_attribute scope b a) before) 14 (slice_index lines 0) (lit< tt)))
     (attribute-above scope (before ++ a ∷ []) (drop 1 lines) more)
 
-content-above : (scope : Scope) (depth : ℕ) (lines : LineNumbers) (c : Content) → Above (content_faults scope depth lines c)
+pub content-above : (scope : Scope) (depth : ℕ) (lines : LineNumbers) (c : Content) → Above (content_faults scope depth lines c)
 content-above scope depth lines (Element name more) =
     both _ _ (both _ _ (one_if (is_wrong_element scope name) 10 lines.first (lit< tt)) (one_if _ 11 lines.first (lit< tt)))
     (attribute-above scope [] lines.attributes more)
@@ -90,12 +91,12 @@ content-above scope depth lines (Text text) = tt
 content-above scope depth lines (Comment text) = tt
 content-above scope depth lines (Instruction target text) = one_if (is_wrong_target target) 10 lines.first (lit< tt)
 
-node-above : (scope : Scope) (depth : ℕ) (f : Forest LineNumbers) → Above (node_faults scope depth f)
+pub node-above : (scope : Scope) (depth : ℕ) (f : Forest LineNumbers) → Above (node_faults scope depth f)
 node-above scope depth Empty = tt
 node-above scope depth (Node lines c below after) =
     both _ _ (both _ _ (content-above (within c scope) depth lines c) (node-above (within c scope) (depth + 1) below)) (node-above scope depth after)
 
-number-above : (lines : List ℕ) → Above (map (λ line. record { number = 12; line = line }) lines)
+pub number-above : (lines : List ℕ) → Above (map (λ line. record { number = 12; line = line }) lines)
 number-above [] = tt
 number-above (l ∷ ls) = (lit< tt, number-above ls)
 
@@ -104,12 +105,29 @@ document-above scope first f =
     answer-above _ _ (both _ _ (both _ _ (both _ _ (element-above 0 (elements_at_top f)) (text-above f)) (node-above scope 1 f))
     (number-above (drop (number_limit - first) (0 ∷ map (λ l. l.first) (labels (without_texts f)))))) tt
 
--- no fault of a body has the number of want of memory
-pub fault-above : (scope : Scope) (first : ℕ) (body : List (List ℕ)) → FaultIsAbove (document_of scope first body)
-fault-above scope first body =
+top-above : (others : Option ℕ) (f : Forest LineNumbers) → Above (top_faults others f)
+top-above None f = tt
+top-above (Some others) f = both _ _ (element-above others (elements_at_top f)) (text-above f)
+
+siblings-above : (scope : Scope) (first : ℕ) (parent : Parent) (f : Forest LineNumbers) → FaultIsAbove (nodes_by scope first parent f)
+siblings-above scope first parent f =
+    answer-above _ _ (both _ _ (both _ _ (top-above (elements_beside parent) f) (node-above scope (depth_of parent + 1) f))
+    (number-above (drop (number_limit - first) (map (λ l. l.first) (labels (kept (elements_beside parent) f)))))) tt
+
+-- what the lines of a body are made into has such faults alone, where it has of each forest
+made-above : {A : Type 0} (make : Forest LineNumbers → Result A Fault) (body : List (List ℕ)) → ((f : Forest LineNumbers) → FaultIsAbove (make f))
+    → FaultIsAbove (answer_of (line_faults body) (made_of make (events_at body)))
+made-above {A} make body each =
     answer-above _ _ (both _ _ (not_utf8-above (enumerate_from 1 body)) (no_event-above (texts_of body))) (made (forest_of (events_at body)))
   where
-    made : (o : Option (Forest LineNumbers)) → FaultIsAbove {A = Document ℕ}
-        (elim o [ None ↦ Err (record { number = 9; line = unbalanced_line None [] (events_at body) }) | Some forest ↦ document_by scope first forest ])
+    made : (o : Option (Forest LineNumbers)) → FaultIsAbove {A = A}
+        (elim o [ None ↦ Err (record { number = 9; line = unbalanced_line None [] (events_at body) }) | Some forest ↦ make forest ])
     made None = lit< tt
-    made (Some f) = document-above scope first f
+    made (Some f) = each f
+
+-- no fault of a body has the number of want of memory: of a document's, and of siblings'
+pub fault-above : (scope : Scope) (first : ℕ) (body : List (List ℕ)) → FaultIsAbove (document_of scope first body)
+fault-above scope first body = made-above (document_by scope first) body (document-above scope first)
+
+pub nodes-above : (scope : Scope) (first : ℕ) (parent : Parent) (body : List (List ℕ)) → FaultIsAbove (nodes_of scope first parent body)
+nodes-above scope first parent body = made-above (nodes_by scope first parent) body (siblings-above scope first parent)

@@ -1,5 +1,5 @@
 -- Worked examples of what a call that serves a session has done. The check computes both sides of each fact.
-use Rattle.std.specs.Prelude.{ℕ, ◌≡◌, refl, true, false, List, [], ◌∷◌, Some, codes}
+use Rattle.std.specs.Prelude.{ℕ, ◌≡◌, refl, true, List, [], ◌∷◌, Some, codes}
 use Rattle.std.proofs.Common.{sym, ◌∙◌, ap, arith, append-nil, inl}
 use Rattle.std.specs.Str.{chars, is_utf8}
 use Rattle.std.specs.Fmt.{digits}
@@ -10,7 +10,7 @@ use Rattle.spec_session.specs.Command.{session_of, status_of}
 use Rattle.spec_session.specs.Reply.{Refused}
 use Rattle.spec_run.specs.Outcome.{Failed, no_main}
 use Rattle.spec_session.specs.Machine.{initial}
-use Rattle.spec_session.specs.Served.{AreReplies, IsServed, IsCutShort, Serves, asks_session}
+use Rattle.spec_session.specs.Served.{AreReplies, IsServed, IsCutShort, Serves}
 
 -- where the source goes on after the bytes that may be taken, the status is 5, but for a session that `quit` has ended
 pub status_goes_on : status_of true Finished ≡ 5
@@ -76,10 +76,3 @@ served_call = record {
   takes = record { taken = codes "show\nquit\n"; all = refl; few = omega arith };
   no_other = omega arith;
 }
-
--- the words that ask for a session
-pub session_asked : asks_session (codes "xt" ∷ codes "session" ∷ []) ≡ true
-session_asked = refl
-
-pub session_not_asked : asks_session (codes "xt" ∷ codes "session" ∷ codes "x" ∷ []) ≡ false
-session_not_asked = refl

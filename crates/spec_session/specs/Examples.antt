@@ -7,14 +7,15 @@ use Rattle.spec_document.specs.Character.{is_char, is_name_start, is_name_part}
 use Rattle.spec_document.specs.Forest.{Plain, Empty, Node, Element, Text, Comment, lines_of}
 use Rattle.spec_session.specs.declared.kinds.Ending.TheVariants.{Finished, Quit, Unfinished}
 use Rattle.spec_session.specs.Command.{session_of, status_of}
-use Rattle.spec_session.specs.Request.{Request, SetSource, SetModule, SetText, SetAttribute, Rename, SetParameter, Write, Messages, Dump, SourceName, ModuleName, words_of, asked_by, request_of, path_of}
-use Rattle.spec_run.specs.Documents.{Documents, no_documents, with_parameter}
+use Rattle.spec_session.specs.Request.{Request, SetSource, SetModule, Insert, Delete, SetText, SetAttribute, RemoveAttribute, Rename}
+use Rattle.spec_session.specs.Request.{SetParameter, Write, Messages, Dump, SourceName, ModuleName, words_of, asked_by, request_of, path_of}
+use Rattle.spec_run.specs.Documents.{Documents, no_documents, with_source, with_parameter}
 use Rattle.spec_structure.specs.Modules.{no_fault}
 use Rattle.spec_run.specs.Outcome.{Failed, IsOutcome, faulty, no_main, no_source}
 use Rattle.spec_expression.specs.declared.code.Code.TheVariants.{Static, Dynamic}
 use Rattle.spec_expression.specs.declared.code.StaticCode.TheVariants.{NoStylesheet}
 use Rattle.spec_expression.specs.declared.code.DynCode.TheVariants.{TooDeep}
-use Rattle.spec_session.specs.Machine.{initial, answer_to, Refuses, Changes, messages_reply}
+use Rattle.spec_session.specs.Machine.{State, initial, answer_to, Refuses, Changes, messages_reply}
 use Rattle.spec_session.specs.Reply.{OkRefused, Refused, Shown, Written, No, reply_bytes}
 
 -- a body goes up to a line `.`; empty lines between commands are skipped; `quit` ends the session
@@ -61,6 +62,45 @@ pub messages_asked : asks (codes "messages") ≡ Ok Messages
 unfolding chars is_utf8 encode
 messages_asked = refl
 
+pub insert_asks : request_of (record { line = codes "insert source /1/2"; body = codes "(b" ∷ codes ")b" ∷ [] })
+    ≡ Ok (Insert SourceName (1 ∷ 2 ∷ []) (codes "(b" ∷ codes ")b" ∷ []))
+unfolding chars is_utf8 encode
+insert_asks = refl
+
+pub delete_asks : asks (codes "delete lib /3/12") ≡ Ok (Delete (ModuleName (codes "lib")) (3 ∷ 12 ∷ []))
+unfolding chars is_utf8 encode
+delete_asks = refl
+
+-- a value may be one character that is written as an escape
+pub text_asks : asks (codes "text source /1/1 \\t") ≡ Ok (SetText SourceName (1 ∷ 1 ∷ []) (codes "\t"))
+unfolding chars is_utf8 encode
+text_asks = refl
+
+pub attribute_asks : asks (codes "attr source /1 x  v ") ≡ Ok (SetAttribute SourceName (1 ∷ []) (codes "x") (codes " v "))
+unfolding chars is_utf8 encode
+attribute_asks = refl
+
+pub unattribute_asks : asks (codes "unattr main /1/2 p:x") ≡ Ok (RemoveAttribute (ModuleName (codes "main")) (1 ∷ 2 ∷ []) (codes "p:x"))
+unfolding chars is_utf8 encode
+unattribute_asks = refl
+
+pub rename_asks : asks (codes "rename source /2 p:b") ≡ Ok (Rename SourceName (2 ∷ []) (codes "p:b"))
+unfolding chars is_utf8 encode
+rename_asks = refl
+
+-- a path ends the line of `insert` and of `delete`, a name that of `unattr` and of `rename`
+pub insert_with_a_value : asks (codes "insert source /1 x") ≡ Err 4
+unfolding chars is_utf8 encode
+insert_with_a_value = refl
+
+pub delete_without_a_path : asks (codes "delete source") ≡ Err 4
+unfolding chars is_utf8 encode
+delete_without_a_path = refl
+
+pub rename_with_two_names : asks (codes "rename source /1 b c") ≡ Err 4
+unfolding chars is_utf8 encode
+rename_with_two_names = refl
+
 pub parameter_without_a_name : asks (codes "param") ≡ Err 4
 unfolding chars is_utf8 encode
 parameter_without_a_name = refl
@@ -89,7 +129,7 @@ pub quit_with_a_word : asks (codes "quit now") ≡ Err 4
 unfolding chars is_utf8 encode
 quit_with_a_word = refl
 
--- the forms of the other commands
+-- what the words ask
 abbrev asked : List ℕ → Option Request
 asked line = asked_by (words_of line) []
 
@@ -148,6 +188,86 @@ pub parameter_refused : answer_to initial (SetParameter (codes "x:p") (1 ∷ [])
     ≡ Refuses 8 ∷ Refuses 10 ∷ []
 unfolding is_char is_name_start is_name_part
 parameter_refused = refl
+
+-- ---- What an edit comes to
+
+-- the nodes of a source, of which and of others so many were made
+abbrev with_nodes : Plain → ℕ → State
+with_nodes nodes made = record { documents = with_source nodes no_documents; made = made }
+
+-- <a>, of these children
+abbrev in_a : Plain → Plain
+in_a children = Node tt (Element (codes "a") []) children Empty
+
+abbrev text_then : List ℕ → Plain → Plain
+text_then text siblings = Node tt (Text text) Empty siblings
+
+-- <a>x<b/>y</a>
+abbrev edited : State
+edited = with_nodes (in_a (text_then (codes "x") (Node tt (Element (codes "b") []) Empty (text_then (codes "y") Empty)))) 5
+
+-- the texts beside what goes are joined, and nothing is made
+pub delete_joins : answer_to edited (Delete SourceName (1 ∷ 2 ∷ [])) ≡ Changes (with_nodes (in_a (text_then (codes "xy") Empty)) 5)
+delete_joins = refl
+
+pub document_element_stays : answer_to edited (Delete SourceName (1 ∷ [])) ≡ Refuses 9
+document_element_stays = refl
+
+pub text_made_empty : answer_to edited (SetText SourceName (1 ∷ 3 ∷ []) [])
+    ≡ Changes (with_nodes (in_a (text_then (codes "x") (Node tt (Element (codes "b") []) Empty Empty))) 5)
+text_made_empty = refl
+
+-- what is inserted is joined with the text behind it, and counts as one node made
+pub insert_joins : answer_to edited (Insert SourceName (1 ∷ 3 ∷ []) (codes "-or " ∷ []))
+    ≡ Changes (with_nodes (in_a (text_then (codes "x") (Node tt (Element (codes "b") []) Empty (text_then (codes "or y") Empty)))) 6)
+unfolding chars is_utf8 encode is_char
+insert_joins = refl
+
+-- the position behind the last child is one, the next is none
+pub insert_at_the_end : answer_to edited (Insert SourceName (1 ∷ 4 ∷ []) []) ≡ Changes edited
+insert_at_the_end = refl
+
+pub insert_past_the_end : answer_to edited (Insert SourceName (1 ∷ 5 ∷ []) []) ≡ Refuses 6
+insert_past_the_end = refl
+
+-- a text has no place below it; the path on from there leaves the tree
+pub insert_below_a_text : answer_to edited (Insert SourceName (1 ∷ 1 ∷ 1 ∷ []) []) ∷ answer_to edited (Insert SourceName (1 ∷ 1 ∷ 1 ∷ 1 ∷ []) []) ∷ []
+    ≡ Refuses 7 ∷ Refuses 6 ∷ []
+insert_below_a_text = refl
+
+pub insert_beside_the_document_element : answer_to edited (Insert SourceName (2 ∷ []) (codes "(c" ∷ codes ")c" ∷ [])) ≡ Refuses 9
+unfolding chars is_utf8 encode is_char is_name_start is_name_part
+insert_beside_the_document_element = refl
+
+pub other_kinds : answer_to edited (SetText SourceName (1 ∷ []) (codes "k")) ∷ answer_to edited (SetAttribute SourceName [] (codes "x") (codes "v"))
+    ∷ answer_to edited (RemoveAttribute SourceName (1 ∷ 1 ∷ []) (codes "x")) ∷ answer_to edited (Rename SourceName (1 ∷ 1 ∷ []) (codes "x")) ∷ []
+    ≡ Refuses 7 ∷ Refuses 7 ∷ Refuses 7 ∷ Refuses 7 ∷ []
+other_kinds = refl
+
+-- an element with another name is made anew
+pub rename_makes_anew : answer_to edited (Rename SourceName (1 ∷ 2 ∷ []) (codes "c"))
+    ≡ Changes (with_nodes (in_a (text_then (codes "x") (Node tt (Element (codes "c") []) Empty (text_then (codes "y") Empty)))) 6)
+unfolding is_name_start is_name_part
+rename_makes_anew = refl
+
+pub attribute_added : answer_to edited (SetAttribute SourceName (1 ∷ 2 ∷ []) (codes "k") (codes "v"))
+    ≡ Changes (with_nodes (in_a (text_then (codes "x") (Node tt (Element (codes "b") (record { name = codes "k"; value = codes "v" } ∷ [])) Empty
+    (text_then (codes "y") Empty)))) 5)
+unfolding is_char is_name_start is_name_part
+attribute_added = refl
+
+pub wrong_names : answer_to edited (Rename SourceName (1 ∷ []) (codes ":b")) ∷ answer_to edited (SetAttribute SourceName (1 ∷ []) (codes "xmlns:p") []) ∷ []
+    ≡ Refuses 10 ∷ Refuses 10 ∷ []
+unfolding is_char is_name_start is_name_part
+wrong_names = refl
+
+pub no_such_attribute : answer_to edited (RemoveAttribute SourceName (1 ∷ []) (codes "x")) ≡ Refuses 6
+no_such_attribute = refl
+
+-- whatever else is wrong, a document that is not held comes first, and the path before the characters
+pub least_refusals : answer_to edited (SetText (ModuleName (codes "main")) [] (1 ∷ [])) ∷ answer_to edited (SetText SourceName (9 ∷ []) (1 ∷ [])) ∷ []
+    ≡ Refuses 5 ∷ Refuses 6 ∷ []
+least_refusals = refl
 
 -- ---- Replies
 

@@ -2,5 +2,8 @@ pub mod Command
 pub mod Request
 pub mod Reply
 pub mod Machine
+pub mod Generated
 pub mod Served
+pub mod Asked
 pub mod Examples
+pub mod GeneratedExamples

@@ -7,6 +7,8 @@ use Rattle.spec_document.specs.Forest.{Plain, Document, plain, size, lines_of, t
 use Rattle.spec_document.specs.Fault.{Fault}
 use Rattle.spec_document.specs.Document.{document_of}
 use Rattle.spec_document.specs.Name.{Expanded}
+use Rattle.spec_edit.specs.Edit as edits
+use Rattle.spec_edit.specs.Edit.{Edit, Edited, edited_document}
 use Rattle.spec_stylesheet.specs.declared.method.Method.{Method}
 use Rattle.spec_stylesheet.specs.declared.method.Method.TheVariants as method
 use Rattle.spec_session.specs.Command.{Command}
@@ -59,6 +61,20 @@ abbrev pub given_by : (name value : List ℕ) → State → Option ℕ → Answe
 given_by name value old (Some number) = Refuses number
 given_by name value old None = Changes (record { documents = with_parameter name value old.documents; made = old.made })
 
+-- this document is held in place of the one of this name
+abbrev pub with_document : DocumentName → Plain → Documents → Documents
+with_document SourceName = with_source
+with_document (ModuleName name) = with_module name
+
+-- the document of this name is held as it is edited, or the edit's least refusal is answered
+abbrev pub edited_by : State → DocumentName → Result (Edited (Unit {0})) Fault → Answer
+edited_by old document (Err fault) = Refuses fault.number
+edited_by old document (Ok edited) =
+    Changes (record { documents = with_document document edited.nodes old.documents; made = old.made + edited.made })
+
+abbrev pub edited_in : State → DocumentName → Edit → Answer
+edited_in old document edit = edited_by old document (edited_document old.made edit (document_named old document))
+
 abbrev pub shows : Option Plain → Answer
 shows None = Refuses 5
 shows (Some tree) = ShowsDocument tree
@@ -71,14 +87,14 @@ answer_to old Show = ShowsResult
 answer_to old Write = WritesResult
 answer_to old Messages = ShowsMessages
 answer_to old (Dump document) = shows (document_named old document)
+answer_to old (Insert document path body) = edited_in old document (edits.Insert path body)
+answer_to old (Delete document path) = edited_in old document (edits.Delete path)
+answer_to old (SetText document path value) = edited_in old document (edits.SetText path value)
+answer_to old (SetAttribute document path name value) = edited_in old document (edits.SetAttribute path name value)
+answer_to old (RemoveAttribute document path name) = edited_in old document (edits.RemoveAttribute path name)
+answer_to old (Rename document path name) = edited_in old document (edits.Rename path name)
 -- whatever else a command may ask is not taken: its word is no command
 answer_to old (DropModule name) = Refuses 3
-answer_to old (Insert document path body) = Refuses 3
-answer_to old (Delete document path) = Refuses 3
-answer_to old (SetText document path value) = Refuses 3
-answer_to old (SetAttribute document path name value) = Refuses 3
-answer_to old (RemoveAttribute document path name) = Refuses 3
-answer_to old (Rename document path name) = Refuses 3
 answer_to old Statistics = Refuses 3
 
 abbrev pub answer_by : State → Result Request ℕ → Answer

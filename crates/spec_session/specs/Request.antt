@@ -195,7 +195,8 @@ commands =
 -- the words that are taken: any other is no command
 abbrev pub taken_words : List (List ℕ)
 taken_words =
-    codes "source" ∷ codes "module" ∷ codes "show" ∷ codes "dump" ∷ codes "quit" ∷ codes "write" ∷ codes "param" ∷ codes "messages" ∷ []
+    codes "source" ∷ codes "module" ∷ codes "show" ∷ codes "dump" ∷ codes "quit" ∷ codes "write" ∷ codes "param" ∷ codes "messages"
+    ∷ codes "insert" ∷ codes "delete" ∷ codes "text" ∷ codes "attr" ∷ codes "unattr" ∷ codes "rename" ∷ []
 
 abbrev pub is_taken : List ℕ → Bool
 is_taken word = list_any (λ taken. bytes_eq word taken) taken_words

@@ -1,6 +1,6 @@
--- What a call that serves a session has done, by the status that it answers.
-use Rattle.std.specs.Prelude.{ℕ, ◌≡◌, ◌≢◌, ◌≤◌, ◌+◌, ◌⊎◌, Bool, false, List, [], ◌∷◌, ◌++◌, length, nat_lt, bytes_eq}
-use Rattle.std.specs.Prelude.{codes, Option, IfSome, IsSomeAnd}
+-- What a call that serves a session has done, by the status that it answers, and what a demonstration writes.
+use Rattle.std.specs.Prelude.{ℕ, ◌≡◌, ◌≢◌, ◌≤◌, ◌+◌, ◌⊎◌, List, ◌++◌, length, nat_lt}
+use Rattle.std.specs.Prelude.{Option, IfSome, IsSomeAnd}
 use Rattle.std.specs.List.{flat_map}
 use Rattle.spec_lines.specs.Lines.{lines_within, ended_lines}
 use Rattle.spec_session.specs.declared.kinds.Ending.TheVariants.{Quit}
@@ -8,6 +8,7 @@ use Rattle.spec_session.specs.Command.{Command, Session, session_of, status_of}
 use Rattle.spec_session.specs.Reply.{Reply, reply_bytes}
 use Rattle.spec_lines.specs.Outside.{Appends}
 use Rattle.spec_session.specs.Machine.{State, initial, Run}
+use Rattle.spec_session.specs.Generated.{generated, summary}
 
 -- the text is the bytes of the replies of a run of the machine over the commands, and nothing else
 pub record AreReplies (commands : List Command) (text : List ℕ) : Type 0 where
@@ -59,15 +60,13 @@ pub record Serves (limit : ℕ) (before left : Option (List ℕ)) (written now :
   pub takes : IfSome before (λ bytes. IsSomeAnd left (λ rest. TakesAtMost limit bytes rest))
   pub no_other : status ≤ 5
 
--- the words of a command line, as bytes, ask for a session: the program's name, and `session`
-abbrev pub asks_session : List (List ℕ) → Bool
-asks_session (name ∷ word ∷ []) = bytes_eq word (codes "session")
-asks_session _ = false
-
 -- how many bytes a session of the program may have
 abbrev pub session_limit : ℕ
 session_limit = 281474976710656
 
--- what is written where the words ask for nothing
-abbrev pub usage_line : List ℕ
-usage_line = codes "usage: xt session | demo N\n"
+-- The text is the summary of the replies of a run of the machine over the commands of the generated session of this size
+pub record Demonstrates (n : ℕ) (text : List ℕ) : Type 0 where
+  pub replies : List Reply
+  pub state : State
+  pub run : Run initial (generated n) replies state
+  pub is_summary : text ≡ summary n replies

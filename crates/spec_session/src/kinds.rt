@@ -23,3 +23,14 @@ pub enum Ending {
     /// Inside a body, whose line `.` is not there.
     Unfinished,
 }
+
+/// What the words of a command line ask.
+#[derive(Clone, Copy, Debug, PartialEq, Eq)]
+pub enum Asked {
+    /// A session.
+    Session,
+    /// A demonstration of this size, from 1 to 1000.
+    Demonstration(u16),
+    /// Nothing that the program does.
+    Nothing,
+}

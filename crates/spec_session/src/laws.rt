@@ -6,9 +6,9 @@ ghost use Rattle.spec_session.specs.Reply.{No, Reply};
 
 use spec_run::{no_want_of_outcome, one_outcome};
 
-/// No command lacks a step from a state that a run comes to, other than for want of memory. Which step a change,
-/// `show` or `write` has follows from whether texts are expressions, which is not decided here: it cannot be that
-/// there is none.
+/// No command lacks a step from a state that a run comes to, other than for want of memory. Which step a change (an
+/// edit by path is one), `show`, `write` or `messages` has follows from whether texts are expressions, which is not
+/// decided here: it cannot be that there is none.
 pub fn each_command_has_a_step()
     ensures { (commands : List Command) (replies : List Reply) (old : State) (command : Command) → Run initial commands replies old → ¬ (¬ ((reply : Reply) × (new : State) × Step old command reply new × (reply ≢ No 1))) }
 {

@@ -10,5 +10,5 @@
 mod kinds;
 mod laws;
 
-pub use kinds::{Ending, LineKind};
+pub use kinds::{Asked, Ending, LineKind};
 pub use laws::{each_command_has_a_step, steps_agree};
