@@ -1,32 +1,56 @@
 -- What a command's word asks.
-use Rattle.std.proofs.Common.{◌≡◌, ℕ, true, false, List, Result, Err, refl, sym, subst, bytes_eq}
+use Rattle.std.proofs.Common.{◌≡◌, ℕ, true, false, List, Option, Result, Err, refl, sym, ap, ◌∙◌, subst}
 use Rattle.std.specs.Prelude.{codes}
+use Rattle.std.specs.Char.{is_ascii}
 use Rattle.std.specs.List.{list_all}
-use Rattle.std.specs.Str.{is_utf8, chars}
-use Rattle.spec_session.specs.Request.{Request, Words, words_of, request_by, request_of}
+use Rattle.std.specs.Str.{IsUtf8, is_utf8, chars}
+use Rattle.spec_session.specs.Request.{words_of, request_by, request_of}
 use Rattle.xt_wire.specs.declared.command.Command.{Command}
 use Rattle.xt_wire.specs.declared.fault.WireFault.{WireFault}
 use Rattle.xt_wire.specs.View.{Reads}
-use Rattle.xt_wire.proofs.Texts.{is_it}
+use Rattle.xt_wire.proofs.Texts.{ascii_chars, is_other}
 
--- where the first word is this one
-pub asked_with : (words : Words) (body : List (List ℕ)) (word : List ℕ) (answer : Result Request ℕ) → bytes_eq words.first word ≡ true
-    → request_by (record { first = word; rest = words.rest }) body ≡ answer → request_by words body ≡ answer
-asked_with words body word answer h e =
-    subst (λ (first : List ℕ). request_by (record { first = first; rest = words.rest }) body ≡ answer) (sym (is_it words.first word h)) e
+-- where the first word is this one, the rest is read as it says
+pub reads_as : (word taken : List ℕ) (rest : Option (List ℕ)) (body : List (List ℕ)) (r : Result Command WireFault) → list_all is_ascii taken ≡ true
+    → word ≡ taken → Reads r (request_by (record { first = taken; rest = rest }) body) → Reads r (request_by (record { first = chars word; rest = rest }) body)
+reads_as word taken rest body r small e reads =
+    subst (λ (first : List ℕ). Reads r (request_by (record { first = first; rest = rest }) body)) (sym (ap chars e ∙ ascii_chars taken small)) reads
 
-pub reads_as : (words : Words) (body : List (List ℕ)) (word : List ℕ) (r : Result Command WireFault) → bytes_eq words.first word ≡ true
-    → Reads r (request_by (record { first = word; rest = words.rest }) body) → Reads r (request_by words body)
-reads_as words body word r h reads =
-    subst (λ (first : List ℕ). Reads r (request_by (record { first = first; rest = words.rest }) body)) (sym (is_it words.first word h)) reads
+-- the word is none of those that are taken
+pub record IsNoCommand (word : List ℕ) : Type 0 where
+  pub not_source : word ≡ codes "source" → ⊥
+  pub not_module : word ≡ codes "module" → ⊥
+  pub not_show : word ≡ codes "show" → ⊥
+  pub not_dump : word ≡ codes "dump" → ⊥
+  pub not_write : word ≡ codes "write" → ⊥
+  pub not_param : word ≡ codes "param" → ⊥
+  pub not_messages : word ≡ codes "messages" → ⊥
+  pub not_insert : word ≡ codes "insert" → ⊥
+  pub not_delete : word ≡ codes "delete" → ⊥
+  pub not_text : word ≡ codes "text" → ⊥
+  pub not_attr : word ≡ codes "attr" → ⊥
+  pub not_unattr : word ≡ codes "unattr" → ⊥
+  pub not_rename : word ≡ codes "rename" → ⊥
+  pub not_quit : word ≡ codes "quit" → ⊥
 
--- where it is none of those that are taken
-pub not_asked : (words : Words) (body : List (List ℕ)) → bytes_eq words.first (codes "source") ≡ false
-    → bytes_eq words.first (codes "module") ≡ false
-    → bytes_eq words.first (codes "show") ≡ false → bytes_eq words.first (codes "dump") ≡ false → bytes_eq words.first (codes "write") ≡ false
-    → bytes_eq words.first (codes "param") ≡ false → bytes_eq words.first (codes "messages") ≡ false
-    → bytes_eq words.first (codes "quit") ≡ false → request_by words body ≡ Err 3
-not_asked words body a b c d e f g h = rw (a, b, c, d, e, f, g, h) refl
+pub not_asked : (word : List ℕ) (rest : Option (List ℕ)) (body : List (List ℕ)) → IsUtf8 word → IsNoCommand word
+    → request_by (record { first = chars word; rest = rest }) body ≡ Err 3
+not_asked word rest body u n = rw (
+  is_other word (codes "source") u refl n.not_source,
+  is_other word (codes "module") u refl n.not_module,
+  is_other word (codes "show") u refl n.not_show,
+  is_other word (codes "dump") u refl n.not_dump,
+  is_other word (codes "write") u refl n.not_write,
+  is_other word (codes "param") u refl n.not_param,
+  is_other word (codes "messages") u refl n.not_messages,
+  is_other word (codes "insert") u refl n.not_insert,
+  is_other word (codes "delete") u refl n.not_delete,
+  is_other word (codes "text") u refl n.not_text,
+  is_other word (codes "attr") u refl n.not_attr,
+  is_other word (codes "unattr") u refl n.not_unattr,
+  is_other word (codes "rename") u refl n.not_rename,
+  is_other word (codes "quit") u refl n.not_quit,
+) refl
 
 pub line_no_text : (line : List ℕ) (body : List (List ℕ)) → is_utf8 line ≡ false → request_of (record { line = line; body = body }) ≡ Err 2
 line_no_text line body h = rw h refl

@@ -9,7 +9,8 @@ use Rattle.std.specs.Str.{IsUtf8, IsAscii, is_utf8, chars}
 use Rattle.std.proofs.lemmas.Bool.{and_parts}
 use Rattle.std.proofs.lemmas.Bool.Decides.{nat_tests}
 use Rattle.std.proofs.lemmas.Slice.Eq.{bytes_eq-Decides}
-use Rattle.std.proofs.lemmas.Str.{IsUtf8-from_is_utf8, is_utf8-from_IsUtf8, chars-IsAscii}
+use Rattle.std.proofs.lemmas.Str.{IsUtf8-from_is_utf8, is_utf8-from_IsUtf8, chars-IsAscii, IsUtf8-from_ascii}
+use Rattle.xt_text.proofs.Chars.{same_chars}
 use denote.Ref.{Bor}
 
 not_true : (b : Bool) → (b ≡ true → ⊥) → b ≡ false
@@ -52,3 +53,9 @@ compared word other r b small e t = ap (bytes_eq (chars word)) (sym (ascii_chars
 
 pub is_it : (word other : List ℕ) → bytes_eq word other ≡ true → word ≡ other
 is_it word other h = let d = bytes_eq-Decides word other in d.0 h
+
+-- a text that is not an ASCII word does not have its characters
+pub is_other : (word other : List ℕ) → IsUtf8 word → list_all is_ascii other ≡ true → (word ≡ other → ⊥) → bytes_eq (chars word) other ≡ false
+is_other word other u small n =
+    compared word other (bytes_eq word other) false small (same_chars word other u (IsUtf8-from_ascii other (all_ascii other small)))
+    (not_true (bytes_eq word other) (λ e. n (is_it word other e)))

@@ -13,6 +13,7 @@ use Rattle.xt_base.specs.declared.codes.EditCode.TheVariants as edit
 use Rattle.xt_base.specs.declared.place.Place.{Place}
 use Rattle.xt_wire.specs.declared.command.Command.{Command}
 use Rattle.xt_wire.specs.declared.command.Command.TheVariants.{SetSource, SetModule, Show, Dump, Write, SetParameter, Messages}
+use Rattle.xt_wire.specs.declared.command.Command.TheVariants.{Insert, Delete, SetText, SetAttribute, RemoveAttribute, Rename}
 use Rattle.xt_wire.specs.declared.document.DocumentName.{DocumentName}
 use Rattle.xt_wire.specs.declared.document.DocumentName.TheVariants.{Source, Module}
 use Rattle.xt_wire.specs.declared.fault.WireFault.{WireFault}
@@ -20,6 +21,7 @@ use Rattle.xt_wire.specs.declared.fault.WireFault.TheVariants as variant
 use Rattle.xt_wire.specs.declared.replies.Refusal.{Refusal}
 use Rattle.xt_wire.specs.declared.replies.Reply.{Reply}
 use Rattle.xt_wire.specs.declared.replies.Reply.TheVariants.{OkDone, OkRefused, Refused, Shown, Written, No}
+use Rattle.xt_wire.specs.declared.target.Target.{Target}
 use Rattle.xt_wire.specs.declared.word.Words.{Words}
 use denote.Ref.{Bor}
 
@@ -41,6 +43,10 @@ abbrev pub name_of : DocumentName → spec.DocumentName
 name_of Source = spec.SourceName
 name_of (Module name) = spec.ModuleName name
 
+-- a document and a path, and what stands behind them
+abbrev pub target_in : Target → spec.Target
+target_in target = record { document = name_of target.document; path = target.path; rest = rest_of target.rest }
+
 -- what a command asks
 abbrev pub asked_of : Command → Request
 asked_of (SetSource body) = spec.SetSource body.items
@@ -50,6 +56,12 @@ asked_of (Dump document) = spec.Dump (name_of document)
 asked_of Write = spec.Write
 asked_of (SetParameter name value) = spec.SetParameter name value
 asked_of Messages = spec.Messages
+asked_of (Insert document path body) = spec.Insert (name_of document) path body.items
+asked_of (Delete document path) = spec.Delete (name_of document) path
+asked_of (SetText document path value) = spec.SetText (name_of document) path value
+asked_of (SetAttribute document path name value) = spec.SetAttribute (name_of document) path name value
+asked_of (RemoveAttribute document path name) = spec.RemoveAttribute (name_of document) path name
+asked_of (Rename document path name) = spec.Rename (name_of document) path name
 
 -- the call gives the defined answer, a command or the number of a refusal. Want of memory is free
 abbrev pub Reads : Result Command WireFault → Result Request ℕ → Type 0

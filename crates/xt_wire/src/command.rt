@@ -1,16 +1,19 @@
 // From lines to commands.
 ghost use Rattle.std.specs.Prelude.{◌≡◌, []};
 ghost use Rattle.std.specs.List.{list_all};
-ghost use Rattle.std.specs.Str.{is_utf8};
+ghost use Rattle.std.specs.Str.{chars, is_utf8};
 ghost use Rattle.spec_session.specs.Request.{dump_form, module_form, parameter_form, request_by, request_of, source_form, word_form};
-ghost use Rattle.xt_wire.specs.View.{HasForm, Reads, asked_of, rest_of, words_in};
+ghost use Rattle.xt_wire.specs.View.{HasForm, Reads, asked_of, rest_of};
 
 use crate::WireFault;
 use crate::document::{DocumentName, module_name, read_document};
-use crate::word::{Words, first_word, is_word, next_word, only_word, read_value};
+use crate::edits::{
+    read_delete, read_insert, read_remove_attribute, read_rename, read_set_attribute, read_set_text,
+};
+use crate::word::{first_word, next_word, only_word, read_value};
 use std::alloc::Global;
 use xt_io::Line;
-use xt_text::Text;
+use xt_text::{Path, Text};
 
 /// What a command asks.
 #[derive(Drop)]
@@ -31,6 +34,21 @@ pub enum Command {
     SetParameter(Text, Text),
     /// `messages`: the messages of the transformation.
     Messages,
+    /// `insert DOC PATH` and a body: the nodes of these lines, before what is at the path.
+    Insert(DocumentName, Path, Vec<Line>),
+    /// `delete DOC PATH`: the node goes, with all below it.
+    Delete(DocumentName, Path),
+    /// `text DOC PATH VALUE`: the content of a text, comment or processing instruction.
+    SetText(DocumentName, Path, Text),
+    /// `attr DOC PATH NAME VALUE`: an attribute or a declaration by its written name, and its value. The name is
+    /// one or more characters without a space.
+    SetAttribute(DocumentName, Path, Text, Text),
+    /// `unattr DOC PATH NAME`: the attribute or declaration of this written name goes. The name is one or more
+    /// characters without a space.
+    RemoveAttribute(DocumentName, Path, Text),
+    /// `rename DOC PATH NAME`: the name of an element, or the target of a processing instruction. It is one or
+    /// more characters without a space.
+    Rename(DocumentName, Path, Text),
 }
 
 impl Command {
@@ -42,7 +60,10 @@ impl Command {
         ensures { Reads result (request_of (record { line = line.now; body = body.items })) }
     {
         match str::from_utf8(line) {
-            Ok(text) if are_texts(body.as_slice()) => read_words(alloc, first_word(text), body),
+            Ok(text) if are_texts(body.as_slice()) => {
+                let words = first_word(text);
+                read_words(alloc, words.first, words.rest, body)
+            }
             _ => Err(WireFault::NotUtf8),
         }
     }
@@ -62,28 +83,31 @@ fn is_text(bytes: &[u8]) -> bool
 }
 
 // The command of these words and this body, all of them UTF-8.
-fn read_words(alloc: Global, words: Words, body: Vec<Line>) -> Result<Command, WireFault>
-    ensures { Reads result (request_by (words_in words.entry) body.items) }
+fn read_words(
+    alloc: Global,
+    word: &str,
+    rest: Option<&str>,
+    body: Vec<Line>,
+) -> Result<Command, WireFault>
+    ensures { Reads result (request_by (record { first = chars word.now; rest = rest_of rest.entry }) body.items) }
 {
-    if is_word(words.first, "source") {
-        read_source(words.rest, body)
-    } else if is_word(words.first, "module") {
-        read_module(alloc, words.rest, body)
-    } else if is_word(words.first, "show") {
-        read_alone(words.rest, Command::Show)
-    } else if is_word(words.first, "dump") {
-        read_dump(alloc, words.rest)
-    } else if is_word(words.first, "write") {
-        read_alone(words.rest, Command::Write)
-    } else if is_word(words.first, "param") {
-        read_parameter(alloc, words.rest)
-    } else if is_word(words.first, "messages") {
-        read_alone(words.rest, Command::Messages)
-    } else if is_word(words.first, "quit") {
+    match word {
+        "source" => read_source(rest, body),
+        "module" => read_module(alloc, rest, body),
+        "show" => read_alone(rest, Command::Show),
+        "dump" => read_dump(alloc, rest),
+        "write" => read_alone(rest, Command::Write),
+        "param" => read_parameter(alloc, rest),
+        "messages" => read_alone(rest, Command::Messages),
+        "insert" => read_insert(alloc, rest, body),
+        "delete" => read_delete(alloc, rest),
+        "text" => read_set_text(alloc, rest),
+        "attr" => read_set_attribute(alloc, rest),
+        "unattr" => read_remove_attribute(alloc, rest),
+        "rename" => read_rename(alloc, rest),
         // Alone it ends the session and is no command.
-        Err(WireFault::BadArguments)
-    } else {
-        Err(WireFault::UnknownCommand)
+        "quit" => Err(WireFault::BadArguments),
+        _ => Err(WireFault::UnknownCommand),
     }
 }
 

@@ -12,9 +12,11 @@
 
 mod command;
 mod document;
+mod edits;
 mod fault;
 mod path;
 mod replies;
+mod target;
 mod word;
 mod write;
 

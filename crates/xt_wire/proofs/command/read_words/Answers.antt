@@ -1,64 +1,80 @@
-use Rattle.std.proofs.Common.{refl}
+use Rattle.std.proofs.Common.{Err, refl}
 use Rattle.std.specs.Prelude.{codes}
-use Rattle.xt_wire.specs.View.{words_in}
-use Rattle.xt_wire.proofs.Taken.{asked_with, not_asked, reads_as}
-use Rattle.xt_wire.proofs.Texts.{compared}
+use Rattle.xt_wire.specs.View.{rest_of}
+use Rattle.xt_wire.specs.declared.fault.WireFault.TheVariants.{BadArguments}
+use Rattle.xt_wire.proofs.Taken.{reads_as, not_asked}
 use Rattle.xt_wire.proofs.command.read_words.Goals as goal
 
-pub returns-then-is_word : goal.returns-then-is_word
-returns-then-is_word c =
-    reads_as (words_in c.args.words) c.args.body.items (codes "source") c.read_source.result
-    (compared c.args.words.first.now (codes "source") c.is_word.result _ refl c.is_word.ensures c.if-is_word.true) c.read_source.ensures
+pub returns-in-source : goal.returns-in-source
+returns-in-source c =
+    reads_as c.args.word.now (codes "source") (rest_of c.args.rest) c.args.body.items c.read_source.result refl c.in-source.is c.read_source.ensures
 
-pub returns-then-is_word-2 : goal.returns-then-is_word-2
-returns-then-is_word-2 c =
-    reads_as (words_in c.args.words) c.args.body.items (codes "module") c.read_module.result
-    (compared c.args.words.first.now (codes "module") c.is_word-else-is_word.result _ refl c.is_word-else-is_word.ensures c.if-is_word-2.true)
-    c.read_module.ensures
+pub returns-in-module : goal.returns-in-module
+returns-in-module c =
+    reads_as c.args.word.now (codes "module") (rest_of c.args.rest) c.args.body.items c.read_module.result refl c.in-module.is c.read_module.ensures
 
-pub returns-then-is_word-3 : goal.returns-then-is_word-3
-returns-then-is_word-3 c =
-    reads_as (words_in c.args.words) c.args.body.items (codes "show") c.read_alone.result
-    (compared c.args.words.first.now (codes "show") c.is_word-else-is_word-2.result _ refl c.is_word-else-is_word-2.ensures c.if-is_word-3.true)
-    c.read_alone.ensures
+pub returns-in-show : goal.returns-in-show
+returns-in-show c =
+    reads_as c.args.word.now (codes "show") (rest_of c.args.rest) c.args.body.items c.read_alone.result refl c.in-show.is c.read_alone.ensures
 
-pub returns-then-is_word-4 : goal.returns-then-is_word-4
-returns-then-is_word-4 c =
-    reads_as (words_in c.args.words) c.args.body.items (codes "dump") c.read_dump.result
-    (compared c.args.words.first.now (codes "dump") c.is_word-else-is_word-3.result _ refl c.is_word-else-is_word-3.ensures c.if-is_word-4.true)
-    c.read_dump.ensures
+pub returns-in-dump : goal.returns-in-dump
+returns-in-dump c =
+    reads_as c.args.word.now (codes "dump") (rest_of c.args.rest) c.args.body.items c.read_dump.result refl c.in-dump.is c.read_dump.ensures
 
-pub returns-then-is_word-5 : goal.returns-then-is_word-5
-returns-then-is_word-5 c =
-    reads_as (words_in c.args.words) c.args.body.items (codes "write") c.read_alone-then-is_word-5.result
-    (compared c.args.words.first.now (codes "write") c.is_word-else-is_word-4.result _ refl c.is_word-else-is_word-4.ensures c.if-is_word-5.true)
-    c.read_alone-then-is_word-5.ensures
+pub returns-in-write : goal.returns-in-write
+returns-in-write c =
+    reads_as c.args.word.now (codes "write") (rest_of c.args.rest) c.args.body.items c.read_alone-in-write.result refl c.in-write.is c.read_alone-in-write.ensures
 
-pub returns-then-is_word-6 : goal.returns-then-is_word-6
-returns-then-is_word-6 c =
-    reads_as (words_in c.args.words) c.args.body.items (codes "param") c.read_parameter.result
-    (compared c.args.words.first.now (codes "param") c.is_word-else-is_word-5.result _ refl c.is_word-else-is_word-5.ensures c.if-is_word-6.true)
-    c.read_parameter.ensures
+pub returns-in-param : goal.returns-in-param
+returns-in-param c =
+    reads_as c.args.word.now (codes "param") (rest_of c.args.rest) c.args.body.items c.read_parameter.result refl c.in-param.is c.read_parameter.ensures
 
-pub returns-then-is_word-7 : goal.returns-then-is_word-7
-returns-then-is_word-7 c =
-    reads_as (words_in c.args.words) c.args.body.items (codes "messages") c.read_alone-then-is_word-7.result
-    (compared c.args.words.first.now (codes "messages") c.is_word-else-is_word-6.result _ refl c.is_word-else-is_word-6.ensures c.if-is_word-7.true)
-    c.read_alone-then-is_word-7.ensures
+pub returns-in-messages : goal.returns-in-messages
+returns-in-messages c =
+    reads_as c.args.word.now (codes "messages") (rest_of c.args.rest) c.args.body.items c.read_alone-in-messages.result refl c.in-messages.is c.read_alone-in-messages.ensures
 
-pub returns-then-is_word-8 : goal.returns-then-is_word-8
-returns-then-is_word-8 c =
-    asked_with (words_in c.args.words) c.args.body.items (codes "quit") _
-    (compared c.args.words.first.now (codes "quit") c.is_word-else-is_word-7.result _ refl c.is_word-else-is_word-7.ensures c.if-is_word-8.true) refl
+pub returns-in-insert : goal.returns-in-insert
+returns-in-insert c =
+    reads_as c.args.word.now (codes "insert") (rest_of c.args.rest) c.args.body.items c.read_insert.result refl c.in-insert.is c.read_insert.ensures
 
-pub returns : goal.returns
-returns c =
-    not_asked (words_in c.args.words) c.args.body.items
-    (compared c.args.words.first.now (codes "source") c.is_word.result _ refl c.is_word.ensures c.if-is_word.false)
-    (compared c.args.words.first.now (codes "module") c.is_word-else-is_word.result _ refl c.is_word-else-is_word.ensures c.if-is_word-2.false)
-    (compared c.args.words.first.now (codes "show") c.is_word-else-is_word-2.result _ refl c.is_word-else-is_word-2.ensures c.if-is_word-3.false)
-    (compared c.args.words.first.now (codes "dump") c.is_word-else-is_word-3.result _ refl c.is_word-else-is_word-3.ensures c.if-is_word-4.false)
-    (compared c.args.words.first.now (codes "write") c.is_word-else-is_word-4.result _ refl c.is_word-else-is_word-4.ensures c.if-is_word-5.false)
-    (compared c.args.words.first.now (codes "param") c.is_word-else-is_word-5.result _ refl c.is_word-else-is_word-5.ensures c.if-is_word-6.false)
-    (compared c.args.words.first.now (codes "messages") c.is_word-else-is_word-6.result _ refl c.is_word-else-is_word-6.ensures c.if-is_word-7.false)
-    (compared c.args.words.first.now (codes "quit") c.is_word-else-is_word-7.result _ refl c.is_word-else-is_word-7.ensures c.if-is_word-8.false)
+pub returns-in-delete : goal.returns-in-delete
+returns-in-delete c =
+    reads_as c.args.word.now (codes "delete") (rest_of c.args.rest) c.args.body.items c.read_delete.result refl c.in-delete.is c.read_delete.ensures
+
+pub returns-in-text : goal.returns-in-text
+returns-in-text c =
+    reads_as c.args.word.now (codes "text") (rest_of c.args.rest) c.args.body.items c.read_set_text.result refl c.in-text.is c.read_set_text.ensures
+
+pub returns-in-attr : goal.returns-in-attr
+returns-in-attr c =
+    reads_as c.args.word.now (codes "attr") (rest_of c.args.rest) c.args.body.items c.read_set_attribute.result refl c.in-attr.is c.read_set_attribute.ensures
+
+pub returns-in-unattr : goal.returns-in-unattr
+returns-in-unattr c =
+    reads_as c.args.word.now (codes "unattr") (rest_of c.args.rest) c.args.body.items c.read_remove_attribute.result refl c.in-unattr.is c.read_remove_attribute.ensures
+
+pub returns-in-rename : goal.returns-in-rename
+returns-in-rename c =
+    reads_as c.args.word.now (codes "rename") (rest_of c.args.rest) c.args.body.items c.read_rename.result refl c.in-rename.is c.read_rename.ensures
+
+pub returns-in-quit : goal.returns-in-quit
+returns-in-quit c = reads_as c.args.word.now (codes "quit") (rest_of c.args.rest) c.args.body.items (Err BadArguments) refl c.in-quit.is refl
+
+pub returns-in_default : goal.returns-in_default
+returns-in_default c =
+    not_asked c.args.word.now (rest_of c.args.rest) c.args.body.items c.utf8.word (record {
+      not_source = c.in_default.not-source;
+      not_module = c.in_default.not-module;
+      not_show = c.in_default.not-show;
+      not_dump = c.in_default.not-dump;
+      not_write = c.in_default.not-write;
+      not_param = c.in_default.not-param;
+      not_messages = c.in_default.not-messages;
+      not_insert = c.in_default.not-insert;
+      not_delete = c.in_default.not-delete;
+      not_text = c.in_default.not-text;
+      not_attr = c.in_default.not-attr;
+      not_unattr = c.in_default.not-unattr;
+      not_rename = c.in_default.not-rename;
+      not_quit = c.in_default.not-quit;
+    })

@@ -16,7 +16,7 @@ returns-in-Ok c =
     let whole = all_text c.args.line.now c.args.body.items (is_utf8-from_IsUtf8 c.args.line.now text.1)
     (ap (list_all is_utf8) (sym c.as_slice.ensures.value) ∙ sym c.are_texts.ensures ∙ c.if-are_texts.true) in
     subst (λ (a : Result Request ℕ). Reads c.read_words.result a)
-    (ap (λ (w : Words). request_by w c.args.body.items) (c.first_word.ensures ∙ ap (λ (t : List ℕ). words_of (chars t)) text.0) ∙ sym whole)
+    (ap (λ (w : Words). request_by w c.args.body.items) (c.first_word-words.ensures ∙ ap (λ (t : List ℕ). words_of (chars t)) text.0) ∙ sym whole)
     c.read_words.ensures
 
 pub returns-in_default : goal.returns-in_default

@@ -1,0 +1,41 @@
+// Documents and places in them, as edits name them.
+ghost use Rattle.std.specs.Prelude.{◌≡◌, IfOk};
+ghost use Rattle.std.specs.Option.{option_map};
+ghost use Rattle.spec_session.specs.Request as spec;
+ghost use Rattle.xt_wire.specs.View.{rest_of, target_in};
+
+use crate::document::{DocumentName, read_document};
+use crate::path::read_path;
+use crate::word::next_word;
+use std::alloc::Global;
+use xt_text::{Memory, Path};
+
+/// A document and a path in it, and what stands behind them.
+#[derive(Drop)]
+pub(crate) struct Target<'a> {
+    pub(crate) document: DocumentName,
+    pub(crate) path: Path,
+    /// What stands behind the path, where there is a space.
+    pub(crate) rest: Option<&'a str>,
+}
+
+/// The document and the path that the next two words write. None where one of the words is missing, or the
+/// second writes no path.
+pub(crate) fn read_target(alloc: Global, rest: Option<&str>) -> Result<Option<Target<'_>>, Memory>
+    ensures { IfOk result (λ target. option_map target_in target ≡ spec.target_of (rest_of rest.entry)) }
+{
+    let Some(document) = next_word(rest) else {
+        return Ok(None);
+    };
+    let Some(place) = next_word(document.rest) else {
+        return Ok(None);
+    };
+    let Some(path) = read_path(alloc, place.first)? else {
+        return Ok(None);
+    };
+    Ok(Some(Target {
+        document: read_document(alloc, document.first)?,
+        path,
+        rest: place.rest,
+    }))
+}
