@@ -1,3 +1,5 @@
+pub mod Below
+pub mod FirstUnread
 pub mod Keys
 pub mod Stylesheets
 pub mod Coming

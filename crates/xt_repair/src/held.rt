@@ -1,28 +1,34 @@
 // What a session holds.
-ghost use Rattle.std.specs.Prelude.{◌≡◌, ◌+◌, ◌<◌, IfOk, string_bytes};
+ghost use Rattle.std.specs.Prelude.{◌≡◌, ◌+◌, ◌<◌, ◌≤◌, ℕ, IfOk, string_bytes};
 ghost use Rattle.std.specs.HashMap.{spare};
+ghost use Rattle.std.specs.Map.{lookup};
+ghost use Rattle.std.specs.Option.{option_copied};
 ghost use Rattle.std.specs.Str.{chars};
 ghost use Rattle.spec_document.specs.Document.{document_of};
 ghost use Rattle.spec_document.specs.Forest.{size};
 ghost use Rattle.spec_document.specs.Scope.{root_scope};
+ghost use Rattle.spec_edit.specs.Edit.{edited_or_missing};
 ghost use Rattle.spec_run.specs.Documents.{no_documents, with_module, with_parameter, with_source};
 ghost use Rattle.xt_build.specs.View.{Builds, document_in};
-ghost use Rattle.xt_import.specs.View.{plain_of};
+ghost use Rattle.xt_edit.specs.View.{AreBelow, EditsPlain, edit_of};
+ghost use Rattle.xt_import.specs.View.{is_name, plain_of};
 ghost use Rattle.xt_world.specs.ParameterView.{HasRoomForOne};
 ghost use Rattle.xt_repair.specs.OutcomeView.{outcome_of, plain_in};
-ghost use Rattle.xt_repair.specs.View.{HasRoom, IsCurrent, IsKept, IsMadeFrom, IsReady, IsReadyWith, Prepares, PreparesParameter, changed_by, document_named, documents_of, edit_fault_of, made_of, next_compiled, next_documents, next_made, next_outcome, outcome_in};
+ghost use Rattle.xt_repair.specs.View.{HasBelow, HasRoom, IsBelow, IsCurrent, IsKept, IsMadeFrom, IsReady, Prepares, PreparesEdit, PreparesParameter, changed_by, document_named, documents_of, edit_fault_of, made_of, next_compiled, next_documents, next_made, next_outcome, numbered_document, outcome_in, with_document};
 
-use crate::fault::EditFault;
 use crate::name::DocName;
 use crate::outcome::{Outcome, at_no_element, outcome_of};
 use crate::parameter::{TriedParameter, outcome_with, parameter_fault};
 use crate::ready::{Change, Ready};
 use crate::stylesheet::Compiled;
 use crate::tried::{Tried, compiled_with};
+use crate::unread::unread_line;
 use indexmap::IndexMap;
 use spec_expression::StaticCode;
 use std::alloc::Global;
+use xt_base::EditCode;
 use xt_build::{BuildFault, Built, build};
+use xt_edit::{Edit, EditFault, Edited, apply};
 use xt_io::Line;
 use xt_names::Scope;
 use xt_text::{Memory, Text};
@@ -65,7 +71,7 @@ impl Held {
         ensures { Prepares with_source self.now (document_of root_scope (made_of self.now) body.now) result }
     {
         match self.built(alloc, body) {
-            Ok(built) => Ok(self.source_ready(alloc, built)?),
+            Ok(Built { document, next }) => Ok(self.source_ready(alloc, document, next)?),
             Err(fault) => Err(edit_fault(fault)),
         }
     }
@@ -78,12 +84,38 @@ impl Held {
         name: &Text,
         body: &[Line],
     ) -> Result<Ready, EditFault>
+        requires { IsCurrent self.old }
         ensures answer { Prepares (with_module name.now) self.new (document_of root_scope (made_of self.old) body.now) result }
         ensures kept { IsKept self.old self.new }
     {
         match self.built(alloc, body) {
-            Ok(built) => Ok(self.module_ready(alloc, name, built)?),
+            Ok(Built { document, next }) => Ok(self.module_ready(alloc, name, document, next)?),
             Err(fault) => Err(edit_fault(fault)),
+        }
+    }
+
+    /// Makes ready that the document of this name is held as this edit makes it. Else the least of its faults: 2 where a
+    /// line of the body is not UTF-8, with the first such line; 5 where there is no such document; 6 to 14 as `apply` of
+    /// `xt_edit` says. Nothing is changed but that room is made. An edit of the source reads no module again.
+    pub fn edit(
+        &mut self,
+        alloc: Global,
+        name: DocName<'_>,
+        edit: &Edit,
+    ) -> Result<Ready, EditFault>
+        requires { IsCurrent self.old }
+        ensures answer { PreparesEdit name.entry (edit_of edit.now) self.new result }
+        ensures kept { IsKept self.old self.new }
+    {
+        match unread_line(edit) {
+            Some(line) => Err(EditFault::Refused {
+                code: EditCode::NotUtf8,
+                line,
+            }),
+            None => {
+                let Edited { document, next } = self.edited(alloc, name, edit)?;
+                Ok(self.document_ready(alloc, name, document, next)?)
+            }
         }
     }
 
@@ -134,6 +166,13 @@ impl Held {
     pub fn document(&self, name: DocName<'_>) -> Option<&Doc>
         ensures { plain_in result ≡ document_named name.entry (documents_of self.now) }
     {
+        self.found(name)
+    }
+
+    // The same, and which numbers its nodes have.
+    fn found(&self, name: DocName<'_>) -> Option<&Doc>
+        ensures { option_copied result ≡ numbered_document name.entry self.now }
+    {
         match name {
             DocName::Source => self.source.as_ref(),
             DocName::Module(name) => self.module(name.as_str()),
@@ -142,7 +181,7 @@ impl Held {
 
     // The module of this name, where there is one.
     fn module(&self, name: &str) -> Option<&Doc>
-        ensures { plain_in result ≡ (documents_of self.now).modules (chars name.now) }
+        ensures { option_copied result ≡ lookup (is_name (chars name.now)) self.now.modules.entries }
     {
         self.modules.get(name)
     }
@@ -151,33 +190,77 @@ impl Held {
     fn built(&self, alloc: Global, body: &[Line]) -> Result<Built, BuildFault>
         ensures answer { Builds document_in result (document_of root_scope (made_of self.now) body.now) }
         ensures next { IfOk result (λ built. built.next.number ≡ made_of self.now + 1 + size built.document.nodes) }
+        ensures below { IfOk result (λ built. AreBelow built.next.number built.document) }
     {
         let scope = Scope::root(alloc)?;
         build(alloc, body, &scope, self.next)
     }
 
+    // What the edit makes of the document of this name, where no line of a body is at fault.
+    fn edited(&self, alloc: Global, name: DocName<'_>, edit: &Edit) -> Result<Edited, EditFault>
+        requires { IsCurrent self.now }
+        ensures answer { EditsPlain (made_of self.now) result (edited_or_missing (made_of self.now) (edit_of edit.now) (document_named name.entry (documents_of self.now))) }
+        ensures below { IfOk result (λ edited. AreBelow edited.next.number edited.document) }
+    {
+        match self.found(name) {
+            Some(document) => apply(alloc, document, edit, self.next),
+            None => Err(EditFault::Refused {
+                code: EditCode::NoDocument,
+                line: 0,
+            }),
+        }
+    }
+
+    // Makes ready that this document is that of this name, after which the next node has this number.
+    fn document_ready(
+        &mut self,
+        alloc: Global,
+        name: DocName<'_>,
+        document: Doc,
+        next: NodeId,
+    ) -> Result<Ready, Memory>
+        requires current { IsCurrent self.old }
+        requires grows { made_of self.old ≤ next.number }
+        requires below { AreBelow next.number document }
+        ensures ok { IfOk result (λ ready. IsReady (with_document name.entry (plain_of document)) next.number self.new ready) }
+        ensures kept { IsKept self.old self.new }
+    {
+        match name {
+            DocName::Source => self.source_ready(alloc, document, next),
+            DocName::Module(name) => self.module_ready(alloc, name, document, next),
+        }
+    }
+
     // The modules are what they are.
-    fn source_ready(&self, alloc: Global, built: Built) -> Result<Ready, Memory>
-        requires next { built.next.number ≡ made_of self.now + 1 + size built.document.nodes }
+    fn source_ready(&self, alloc: Global, document: Doc, next: NodeId) -> Result<Ready, Memory>
         requires current { IsCurrent self.now }
-        ensures { IfOk result (λ ready. IsReady with_source self.now built.document ready) }
+        requires grows { made_of self.now ≤ next.number }
+        requires below { AreBelow next.number document }
+        ensures { IfOk result (λ ready. IsReady (with_source (plain_of document)) next.number self.now ready) }
     {
         let compiled = self.compiled.as_ref();
-        let outcome = outcome_of(alloc, compiled, &self.parameters, Some(&built.document))?;
+        let outcome = outcome_of(alloc, compiled, &self.parameters, Some(&document))?;
         Ok(Ready {
-            change: Change::Source(built.document),
-            next: built.next,
+            change: Change::Source(document),
+            next,
             outcome,
         })
     }
 
     // There is room for one module more afterwards, so that `adopt` takes no memory.
-    fn module_ready(&mut self, alloc: Global, name: &Text, built: Built) -> Result<Ready, Memory>
-        requires { built.next.number ≡ made_of self.old + 1 + size built.document.nodes }
-        ensures ok { IfOk result (λ ready. IsReady (with_module name.now) self.new built.document ready) }
+    fn module_ready(
+        &mut self,
+        alloc: Global,
+        name: &Text,
+        document: Doc,
+        next: NodeId,
+    ) -> Result<Ready, Memory>
+        requires current { IsCurrent self.old }
+        requires grows { made_of self.old ≤ next.number }
+        requires below { AreBelow next.number document }
+        ensures ok { IfOk result (λ ready. IsReady (with_module name.now (plain_of document)) next.number self.new ready) }
         ensures kept { IsKept self.old self.new }
     {
-        let Built { document, next } = built;
         let Tried { compiled, document } = compiled_with(alloc, &mut self.modules, name, document)?;
         let source = self.source.as_ref();
         let outcome = outcome_of(alloc, compiled.as_ref(), &self.parameters, source)?;
@@ -193,7 +276,7 @@ impl Held {
     // There is room for one parameter more afterwards, so that `adopt` takes no memory.
     fn parameter_ready(&mut self, alloc: Global, name: &Text, value: &Text) -> Result<Ready, Memory>
         requires { IsCurrent self.old }
-        ensures ok { IfOk result (λ ready. IsReadyWith (with_parameter name.now value.now) self.new ready) }
+        ensures ok { IfOk result (λ ready. IsReady (with_parameter name.now value.now) (made_of self.new) self.new ready) }
         ensures kept { IsKept self.old self.new }
     {
         let compiled = self.compiled.as_ref();
@@ -215,6 +298,7 @@ impl Held {
         requires { HasRoom change self.old }
         ensures documents { documents_of self.new ≡ changed_by change (documents_of self.old) }
         ensures compiled { self.new.compiled ≡ next_compiled change self.old }
+        ensures below { (first : ℕ) → HasBelow first self.old → IsBelow first change → HasBelow first self.new }
     {
         match change {
             Change::Source(document) => self.put_source(document),
@@ -226,6 +310,7 @@ impl Held {
     fn put_source(&mut self, document: Doc)
         ensures documents { documents_of self.new ≡ with_source (plain_of document) (documents_of self.old) }
         ensures compiled { self.new.compiled ≡ self.old.compiled }
+        ensures below { (first : ℕ) → HasBelow first self.old → AreBelow first document → HasBelow first self.new }
     {
         self.source = Some(document);
     }
@@ -235,6 +320,7 @@ impl Held {
         requires { 0 < spare self.old.modules }
         ensures documents { documents_of self.new ≡ with_module (chars (string_bytes name)) (plain_of document) (documents_of self.old) }
         ensures compiled { self.new.compiled ≡ compiled }
+        ensures below { (first : ℕ) → HasBelow first self.old → AreBelow first document → HasBelow first self.new }
     {
         let _ = self.modules.insert(name, document);
         self.compiled = compiled;
@@ -245,6 +331,7 @@ impl Held {
         requires { HasRoomForOne self.old.parameters }
         ensures documents { documents_of self.new ≡ with_parameter (chars (string_bytes name)) value (documents_of self.old) }
         ensures compiled { self.new.compiled ≡ self.old.compiled }
+        ensures below { (first : ℕ) → HasBelow first self.old → HasBelow first self.new }
     {
         self.parameters.keep(name, value);
     }

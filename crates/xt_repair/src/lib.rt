@@ -1,6 +1,7 @@
 //! What a session holds: the source, the modules by name, the values that parameters are given, and the outcome of the
 //! transformation, which is that of all these. A change is made ready first, with the outcome that it will have, and
-//! then adopted, so that a refused or failing one leaves all as it was.
+//! then adopted, so that a refused or failing one leaves all as it was. A document is given whole, or edited by path
+//! with `edit`.
 //!
 //! So far the outcome of a change is that of a run from nothing. The modules are compiled again where one changes.
 //!
@@ -9,11 +10,11 @@
 //! let ready = held.set_source(alloc, body)?;         // nothing is changed yet
 //! let outcome = ready.outcome();                     // what it will come to
 //! held.adopt(ready);                                 // takes no memory
+//! let ready = held.edit(alloc, name, &edit)?;        // a document by its name, edited by path
 //! let ready = held.set_param(alloc, name, value)?;   // the same for a parameter
 //! ```
 #![tactic(auto)]
 
-mod fault;
 mod held;
 mod name;
 mod outcome;
@@ -21,9 +22,10 @@ mod parameter;
 mod ready;
 mod stylesheet;
 mod tried;
+mod unread;
 
-pub use fault::EditFault;
 pub use held::Held;
 pub use name::DocName;
 pub use outcome::Outcome;
 pub use ready::Ready;
+pub use xt_edit::{Edit, EditFault};

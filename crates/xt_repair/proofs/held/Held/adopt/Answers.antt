@@ -1,5 +1,5 @@
 use Rattle.std.proofs.Common.{refl}
-use Rattle.xt_repair.specs.View.{next_documents, next_outcome, next_compiled}
+use Rattle.xt_repair.specs.View.{next_documents, next_made, next_outcome, next_compiled}
 use Rattle.xt_repair.proofs.Keeping.{current_by}
 use Rattle.xt_repair.proofs.held.Held.adopt.Goals as goal
 
@@ -11,4 +11,4 @@ returns-clause-current c =
     let ready = c.args.ready in
     let held = c.args.self.now in
     current_by _ (next_documents ready held) (next_outcome ready) (next_compiled ready.change held) c.put.ensures.documents refl c.put.ensures.compiled
-    c.requires.outcome c.requires.compiled
+    c.requires.outcome c.requires.compiled (c.put.ensures.below (next_made ready) c.requires.others c.requires.below)

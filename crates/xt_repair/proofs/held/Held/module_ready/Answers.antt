@@ -1,17 +1,20 @@
 use Rattle.std.proofs.Common.{◌≡◌, List, ℕ, Option, refl, ap, sym, subst, string_bytes, ◌∙◌}
 use Rattle.std.specs.Option.{option_map}
 use Rattle.std.specs.Str.{chars}
+use Rattle.std.specs.declared.alloc.Global.{Global}
+use Rattle.std.specs.declared.string.String.{String}
 use Rattle.spec_document.specs.Forest.{Document, Plain}
-use Rattle.spec_run.specs.Documents.{Documents, main_name, with_module}
+use Rattle.spec_run.specs.Documents.{main_name, with_module}
 use Rattle.spec_run.specs.Outcome.{Comes}
 use Rattle.spec_structure.specs.Modules.{Modules}
+use Rattle.xt_edit.specs.View.{AreBelow}
 use Rattle.xt_import.specs.View.{modules_in, plain_of}
 use Rattle.xt_world.specs.ParameterView.{parameters_of}
 use Rattle.xt_repair.specs.OutcomeView.{outcome_of}
 use Rattle.xt_repair.specs.StylesheetView.{AreCompiled, with_one}
-use Rattle.xt_repair.specs.View.{documents_of}
+use Rattle.xt_repair.specs.View.{AreAllBelow, made_of}
 use Rattle.xt_repair.specs.declared.stylesheet.Compiled.{Compiled}
-use Rattle.xt_repair.proofs.Keeping.{kept_by}
+use Rattle.xt_repair.proofs.Keeping.{all_raised, kept_by}
 use Rattle.xt_repair.proofs.Keys.{map-copied}
 use Rattle.xt_repair.proofs.held.Held.module_ready.Goals as goal
 
@@ -22,10 +25,10 @@ returns-clause-ok c =
     let compiled = c.in_ok-compiled.field-0.compiled in
     let key = chars (string_bytes c.in_ok-key.key) in
     let name : key ≡ c.args.name.now = ap chars c.in_ok-key.ensures.ok ∙ c.as_str.ensures.characters in
-    let same : document ≡ c.args.built.document = c.in_ok-compiled.ensures.document in
+    let same : document ≡ c.args.document = c.in_ok-compiled.ensures.document in
     let entries : c.reserve.new.self.entries ≡ held.modules.entries = c.in_ok-reserve.ensures.entries ∙ c.in_ok-compiled.ensures.kept in
     let modules = with_one key (plain_of document) (modules_in c.reserve.new.self.entries) in
-    let is : with_one c.args.name.now (plain_of c.args.built.document) (modules_in held.modules.entries) ≡ modules
+    let is : with_one c.args.name.now (plain_of c.args.document) (modules_in held.modules.entries) ≡ modules
     = sym (λ i. with_one (name i) (plain_of (same i)) (modules_in (entries i))) in
     let are : AreCompiled modules compiled = subst (λ (ms : Modules). AreCompiled ms compiled) is c.in_ok-compiled.ensures.compiled in
     let outcome = outcome_of c.in_ok-outcome.outcome in
@@ -33,23 +36,35 @@ returns-clause-ok c =
     record {
       documents = λ i. with_module (name i) (plain_of (same i))
           (record { source = option_map plain_of held.source; modules = modules_in c.reserve.new.self.entries; parameters = parameters_of held.parameters });
-      made = c.requires;
+      made = refl;
       from = record {
         outcome = subst (λ (s : Option Plain). Comes modules (parameters_of held.parameters) (modules main_name) s outcome) source
             (c.in_ok-outcome.ensures modules (subst (λ (o : Option Compiled). AreCompiled modules o) (sym c.as_ref.ensures.value) are));
         compiled = are;
         room = c.in_ok-reserve.ensures.ok;
+        others = subst (λ (es : List (String Global × Document ℕ)). AreAllBelow c.args.next.number held.source es) (sym entries)
+            (all_raised (made_of held) c.args.next.number held c.requires.grows c.requires.current.below);
+        below = subst (λ (d : Document ℕ). AreBelow c.args.next.number d) (sym same) c.requires.below;
       };
     }
+
+pub returns-clause-kept : goal.returns-clause-kept
+returns-clause-kept c =
+    let held = c.args.self.now in
+    let entries : c.reserve.new.self.entries ≡ held.modules.entries = c.in_ok-reserve.ensures.entries ∙ c.in_ok-compiled.ensures.kept in
+    kept_by held _ (λ i. record { source = option_map plain_of held.source; modules = modules_in (entries i); parameters = parameters_of held.parameters })
+    refl refl refl refl entries
 
 pub returns-in_err-key-clause-kept : goal.returns-in_err-key-clause-kept
 returns-in_err-key-clause-kept c =
     let held = c.args.self.now in
     let entries : c.compiled_with.new.modules.entries ≡ held.modules.entries = c.in_ok-compiled.ensures.kept in
-    kept_by held _ (λ i. record { source = option_map plain_of held.source; modules = modules_in (entries i); parameters = parameters_of held.parameters }) refl refl refl
+    kept_by held _ (λ i. record { source = option_map plain_of held.source; modules = modules_in (entries i); parameters = parameters_of held.parameters })
+    refl refl refl refl entries
 
 pub returns-in_err-reserve-clause-kept : goal.returns-in_err-reserve-clause-kept
 returns-in_err-reserve-clause-kept c =
     let held = c.args.self.now in
     let entries : c.reserve.new.self.entries ≡ held.modules.entries = c.reserve.ensures.entries ∙ c.in_ok-compiled.ensures.kept in
-    kept_by held _ (λ i. record { source = option_map plain_of held.source; modules = modules_in (entries i); parameters = parameters_of held.parameters }) refl refl refl
+    kept_by held _ (λ i. record { source = option_map plain_of held.source; modules = modules_in (entries i); parameters = parameters_of held.parameters })
+    refl refl refl refl entries

@@ -1,7 +1,8 @@
 use Rattle.std.proofs.Common.{Option, refl, sym, subst}
 use Rattle.xt_repair.specs.StylesheetView.{AreCompiled}
-use Rattle.xt_repair.specs.View.{documents_of}
+use Rattle.xt_repair.specs.View.{documents_of, made_of}
 use Rattle.xt_repair.specs.declared.stylesheet.Compiled.{Compiled}
+use Rattle.xt_repair.proofs.Keeping.{all_raised}
 use Rattle.xt_repair.proofs.held.Held.source_ready.Goals as goal
 
 pub returns : goal.returns
@@ -9,11 +10,13 @@ returns c =
     let modules = (documents_of c.args.self.now).modules in
     record {
       documents = refl;
-      made = c.requires.next;
+      made = refl;
       from = record {
         outcome = c.in_ok-outcome.ensures modules
             (subst (λ (compiled : Option Compiled). AreCompiled modules compiled) (sym c.as_ref-compiled.ensures.value) c.requires.current.compiled);
         compiled = c.requires.current.compiled;
         room = tt;
+        others = all_raised (made_of c.args.self.now) c.args.next.number c.args.self.now c.requires.grows c.requires.current.below;
+        below = c.requires.below;
       };
     }
