@@ -6,3 +6,4 @@ pub mod Serving
 pub mod Turning
 pub mod Commands
 pub mod Answering
+pub mod Counting

@@ -1,3 +1,4 @@
 pub mod State
 pub mod Progress
 pub mod Turn
+pub mod Counting

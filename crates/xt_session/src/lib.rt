@@ -1,5 +1,6 @@
 //! The session of xt: commands in, one reply each out. `serve` reads commands from a source and
-//! answers each but `quit`, before it takes the next line; `run` does all that the program does.
+//! answers each but `quit`, before it takes the next line; `run` does all that the program does, and answers
+//! the commands of a generated session for a demonstration.
 //!
 //! Its contract is the headline: the bytes written are the replies of a run of the session machine
 //! over the whole commands, in order, and nothing else.
@@ -12,11 +13,17 @@
 #![tactic(auto)]
 
 mod answer;
+mod changes;
 mod command;
+mod counts;
+mod demo;
 mod meet;
 mod messages;
+mod names;
 mod program;
+mod replies;
 mod session;
+mod summary;
 mod take;
 
 pub use program::run;

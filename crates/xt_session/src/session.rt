@@ -14,7 +14,7 @@ use xt_io::{Lines, Sink, Source, write_all};
 use xt_repair::Held;
 
 /// The bytes of the reply for want of memory.
-const NO_MEMORY: &[u8] = b"no 1\n";
+pub(crate) const NO_MEMORY: &[u8] = b"no 1\n";
 
 /// Reads commands from the input up to its end or `quit`, and answers each but `quit` with one
 /// reply, before the next line is taken. No more than `limit` bytes are taken, and one more to see

@@ -4,7 +4,7 @@ use Rattle.spec_session.specs.Machine.{State, given_by}
 use Rattle.xt_session.specs.State.{state_of}
 use Rattle.xt_session.specs.Turn.{GivesText}
 use Rattle.xt_session.proofs.Answering.{if_ok_map, gives_given, gives_not_given, on_err_then, same_state}
-use Rattle.xt_session.proofs.answer.set_parameter.Goals as goal
+use Rattle.xt_session.proofs.changes.set_parameter.Goals as goal
 
 pub returns-in-Ok-clause-ok : goal.returns-in-Ok-clause-ok
 returns-in-Ok-clause-ok c =

@@ -4,7 +4,7 @@ use Rattle.xt_repair.specs.View.{next_documents, next_made, next_outcome}
 use Rattle.xt_wire.specs.View.{reply_of}
 use Rattle.xt_session.specs.State.{state_of}
 use Rattle.xt_session.proofs.Answering.{gives_changed}
-use Rattle.xt_session.proofs.answer.adopt.Goals as goal
+use Rattle.xt_session.proofs.changes.adopt.Goals as goal
 
 pub returns-clause-ok : goal.returns-clause-ok
 returns-clause-ok c =

@@ -6,7 +6,7 @@ use Rattle.spec_session.specs.Machine.{State, kept_by}
 use Rattle.xt_session.specs.State.{state_of}
 use Rattle.xt_session.specs.Turn.{GivesText}
 use Rattle.xt_session.proofs.Answering.{if_ok_map, gives_built, gives_fault, on_err_then, same_state}
-use Rattle.xt_session.proofs.answer.set_module.Goals as goal
+use Rattle.xt_session.proofs.changes.set_module.Goals as goal
 
 pub returns-in-Ok-clause-ok : goal.returns-in-Ok-clause-ok
 returns-in-Ok-clause-ok c =

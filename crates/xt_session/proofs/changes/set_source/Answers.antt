@@ -4,7 +4,7 @@ use Rattle.spec_document.specs.Scope.{root_scope}
 use Rattle.spec_run.specs.Documents.{with_source}
 use Rattle.xt_session.specs.State.{state_of}
 use Rattle.xt_session.proofs.Answering.{if_ok_map, gives_built, gives_fault}
-use Rattle.xt_session.proofs.answer.set_source.Goals as goal
+use Rattle.xt_session.proofs.changes.set_source.Goals as goal
 
 pub returns-in-Ok-clause-ok : goal.returns-in-Ok-clause-ok
 returns-in-Ok-clause-ok c =
