@@ -21,7 +21,7 @@ use xt_tree::Items;
 
 /// Where a level stands.
 #[derive(Drop)]
-pub struct Standing<R> {
+pub struct Level<R> {
     pub run: R,
     /// What the run is given next.
     pub given: Option<Entered>,
@@ -55,7 +55,7 @@ pub fn begin<E: Engine>(
     engine: &mut E,
     call: &Call,
     below: u64,
-) -> Result<Box<Standing<E::Run>>, Memory>
+) -> Result<Box<Level<E::Run>>, Memory>
     ensures started { IfOk result (λ s. E.progress s.value.run ≡ started (call_of call.now) below) }
     ensures given { IfOk result (λ s. s.value.given ≡ None) }
     ensures parts { IfOk result (λ s. s.value.parts.items ≡ []) }
@@ -63,7 +63,7 @@ pub fn begin<E: Engine>(
     let run = engine.start(alloc, call, below)?;
     Ok(Box::new(
         alloc,
-        Standing {
+        Level {
             run,
             given: None,
             parts: Vec::new(alloc),
@@ -76,7 +76,7 @@ pub fn advance<E: Engine, W: World>(
     alloc: Global,
     engine: &mut E,
     world: &mut W,
-    standing: &mut Standing<E::Run>,
+    standing: &mut Level<E::Run>,
     call: &Call,
     below: u64,
 ) -> Result<Step, Memory>
@@ -103,7 +103,7 @@ pub fn advance<E: Engine, W: World>(
 
 /// Takes what came of the call that it entered last. The call is done with.
 pub fn take_stream<R: Drop>(
-    standing: &mut Standing<R>,
+    standing: &mut Level<R>,
     came: Result<Box<Outcome>, Memory>,
     call: Box<Call>,
 ) -> Result<(), Memory>
@@ -117,7 +117,7 @@ pub fn take_stream<R: Drop>(
 
 /// Takes what came of the global that it needed last.
 pub fn take_global<R: Drop>(
-    standing: &mut Standing<R>,
+    standing: &mut Level<R>,
     came: Result<Box<Entered>, Memory>,
 ) -> Result<(), Memory>
     ensures taken { OnOk result (IsTaken standing.new.given came) }

@@ -20,23 +20,15 @@ ghost use Rattle.xt_engine.specs.Parameter.{argument_planned, parameter_planned,
 use crate::frames::{go_on_application, go_on_body};
 use crate::start::leave_nothing;
 use std::alloc::Global;
-use std::rc::Rc;
 use xp_syntax::{Binding, Declared, Expr, Site};
 use xt_ask::{Bindings, World, copy_name, copy_name_if, copy_place};
 use xt_frames::{
     Application, Arguments, Body, Came, Frame, Holder, Next, Parameters, Passing, Run, Standing,
-    hold, holding, lack, push, share_content, value,
+    hold, holding, lack, push, share_bindings, share_content, value,
 };
 use xt_run::Call;
 use xt_text::{Memory, Text};
 use xt_tree::Value;
-
-/// The same parameters, shared.
-pub(crate) fn share_bindings(bindings: &Rc<Vec<Binding>>) -> Result<Rc<Vec<Binding>>, Memory>
-    ensures { IfOk result (λ b. b.value ≡ bindings.now.value) }
-{
-    Ok(bindings.clone()?)
-}
 
 // ---- Parameters of a template
 

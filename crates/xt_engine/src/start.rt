@@ -13,7 +13,6 @@ ghost use Rattle.xt_frames.specs.View.{here_of, global_left};
 ghost use Rattle.xt_frames.specs.Left.{Does, StepsFrom};
 ghost use Rattle.xt_engine.specs.Start.{Begun, declared_in, unless_text};
 
-use crate::parameters::share_bindings;
 use spec_document::{Axis, Kind};
 use spec_expression::NodeType;
 use std::alloc::Global;
@@ -21,7 +20,9 @@ use std::rc::Rc;
 use xp_syntax::{Declared, GlobalBinding, Template, Test};
 use xt_ask::{Answer, Bindings, Focus, Question, ResolvedUnit, World};
 use xt_base::Place;
-use xt_frames::{Application, Frame, Next, Parameters, Run, Standing, push, share_content};
+use xt_frames::{
+    Application, Frame, Next, Parameters, Run, Standing, push, share_bindings, share_content,
+};
 use xt_names::Expanded;
 use xt_perform::kind_in;
 use xt_run::Target;

@@ -28,4 +28,4 @@ pub use operand::{attribute, element, expansion, instruction, nodes, text, truth
 pub use run::{
     Came, Next, Run, Waiting, go_into, lack, push, sink, want, write_fragment, write_text,
 };
-pub use standing::{Standing, share_content};
+pub use standing::{Standing, share_bindings, share_content};

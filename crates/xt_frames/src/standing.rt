@@ -97,3 +97,12 @@ pub fn share_content(content: &Rc<Vec<Instr>>) -> Result<Rc<Vec<Instr>>, Memory>
 {
     Ok(content.clone()?)
 }
+
+/// The same bindings, shared.
+pub fn share_bindings(
+    bindings: &Rc<Vec<xp_syntax::Binding>>,
+) -> Result<Rc<Vec<xp_syntax::Binding>>, Memory>
+    ensures { IfOk result (λ b. b.value ≡ bindings.now.value) }
+{
+    Ok(bindings.clone()?)
+}

@@ -20,7 +20,9 @@ use std::alloc::Global;
 use std::rc::Rc;
 use xp_syntax::{Binding, Expr, Instr, Site};
 use xt_ask::{Bindings, World, copy_name};
-use xt_frames::{Arguments, Body, Frame, Holder, Next, Passing, Run, hold, push, share_content};
+use xt_frames::{
+    Arguments, Body, Frame, Holder, Next, Passing, Run, hold, push, share_bindings, share_content,
+};
 use xt_names::Expanded;
 use xt_text::Memory;
 
@@ -85,11 +87,4 @@ pub(crate) fn pass(
     push(run, Frame::Body(advanced(body)))?;
     push(run, Frame::Arguments(arguments))?;
     Ok(Next::Went)
-}
-
-/// The same bindings, shared.
-fn share_bindings(bindings: &Rc<Vec<Binding>>) -> Result<Rc<Vec<Binding>>, Memory>
-    ensures { IfOk result (λ b. b.value ≡ bindings.now.value) }
-{
-    Ok(bindings.clone()?)
 }
