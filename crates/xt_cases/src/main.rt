@@ -5,6 +5,7 @@
 mod bodies;
 mod characters;
 mod codes;
+mod commands;
 mod files;
 mod names;
 mod nodes;
@@ -68,6 +69,7 @@ fn is_answered(alloc: Global, out: &mut Text, call: &str, words: &[Word]) -> Res
             || nodes::answer(alloc, out, call, words)?
             || streams::answer(alloc, out, call, words)?
             || files::answer(alloc, out, call, words)?
-            || wire::answer(alloc, out, call, words)?,
+            || wire::answer(alloc, out, call, words)?
+            || commands::answer(alloc, out, call, words)?,
     )
 }
