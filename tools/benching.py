@@ -1,13 +1,12 @@
 """What the benches of crates/xt_bench and crates/result_bench share: each runs the proved native program
 (built by `rt run` there, where it is not current) at a size and at twice that
-size, and prints the seconds and the peak of memory at both, how many lines,
-terms or elements it takes a second, and the ratio of the times: about 2 where
-time is in proportion to the size.
+size, and prints the seconds of the processor and the peak of memory at both, how
+many lines, terms or elements it takes a second, and the ratio of the times: about
+2 where time is in proportion to the size.
 """
 import os
 import subprocess
 import sys
-import time
 from pathlib import Path
 
 TOP = Path(__file__).resolve().parent.parent
@@ -26,15 +25,14 @@ def is_current(program):
 
 
 def run(program, words, size):
-    """The seconds, the peak of memory in MiB and the outcome of one run."""
-    begun = time.monotonic()
+    """The seconds of the processor, the peak of memory in MiB and the outcome of one run."""
     process = subprocess.Popen([program, *words, str(size)], stdout=subprocess.PIPE, text=True)
     outcome = process.stdout.read().strip()
     _, status, usage = os.wait4(process.pid, 0)
     process.returncode = os.waitstatus_to_exitcode(status)
     if process.returncode != 0:
         sys.exit(f'{words} {size} ended with {process.returncode}')
-    return time.monotonic() - begun, usage.ru_maxrss / 1024, outcome
+    return usage.ru_utime + usage.ru_stime, usage.ru_maxrss / 1024, outcome
 
 
 def best(program, words, size):

@@ -1,9 +1,9 @@
 """What the benches of whole sessions share: PYX lines as XML, and the time of a session and of xsltproc."""
 import os
+import resource
 import subprocess
 import sys
 import tempfile
-import time
 
 TOP = os.path.dirname(os.path.dirname(os.path.abspath(__file__)))
 PROGRAM = os.path.join(TOP, 'crates', 'xt_cli', 'out', 'xt_cli')
@@ -16,13 +16,19 @@ def want_program():
         sys.exit('build the program first: (cd crates/xt_cli && rt run -- session </dev/null)')
 
 
+def processor_seconds():
+    """What the programs that ended so far took of the processor."""
+    usage = resource.getrusage(resource.RUSAGE_CHILDREN)
+    return usage.ru_utime + usage.ru_stime
+
+
 def seconds(run):
-    """The least time of three runs."""
+    """The least time of three runs, in seconds of the processor, which other work on the machine hardly changes."""
     best = None
     for _ in range(3):
-        start = time.perf_counter()
+        start = processor_seconds()
         run()
-        spent = time.perf_counter() - start
+        spent = processor_seconds() - start
         best = spent if best is None else min(best, spent)
     return best
 
