@@ -49,8 +49,8 @@ use Rattle.spec_meaning.specs.Call.{language_at, language_of, name_meant, xslt, 
 use Rattle.spec_meaning.specs.Call.{nodes_or_refused, nodes_of_key, nodes_of_keys, keyed, key_of, applied, called}
 use Rattle.spec_meaning.specs.Meaning.{bound_or_global, last_of, keeps, kept, stepped, meaning, values_of, chained, kept_by, along}
 use Rattle.spec_meaning.specs.Related.{Each, none, more, Both, neither, both, Questions, steps, texts, names, places, orders, keys, Answers, gone}
-use Rattle.spec_meaning.specs.Related.{refused, some_nodes, some_text, named, copied, some_unit, passed, Values, number, text, boolean, nodes}
-use Rattle.spec_meaning.specs.Related.{fragment, Givens, counted, valued, Bindings, bound, Contexts, context, Match, gives, refuses, asks, needs}
+use Rattle.spec_meaning.specs.Related.{refused, some_nodes, some_text, named, chosen, copied, some_unit, passed, Values, number, text, boolean, nodes}
+use Rattle.spec_meaning.specs.Related.{fragment, Givens, counted, ruled, valued, Bindings, bound, Contexts, context, Match, gives, refuses, asks, needs}
 use Rattle.spec_meaning.specs.Related.{Outcomes, both_give, both_refuse, both_lack, ReadsAlike, asked_alike, saw_alike, Worlds, SuppliesAlike}
 
 -- ---- programs
@@ -128,6 +128,7 @@ nodes_match refused = none
 nodes_match (some_nodes h) = h
 nodes_match some_text = none
 nodes_match named = none
+nodes_match (chosen h) = none
 nodes_match copied = none
 nodes_match (some_unit h) = none
 nodes_match passed = none
@@ -138,6 +139,7 @@ text_match refused = refl
 text_match (some_nodes h) = refl
 text_match some_text = refl
 text_match named = refl
+text_match (chosen h) = refl
 text_match copied = refl
 text_match (some_unit h) = refl
 text_match passed = refl
@@ -148,6 +150,7 @@ local_match refused = refl
 local_match (some_nodes h) = refl
 local_match some_text = refl
 local_match named = refl
+local_match (chosen h) = refl
 local_match copied = refl
 local_match (some_unit h) = refl
 local_match passed = refl
@@ -158,6 +161,7 @@ uri_match refused = refl
 uri_match (some_nodes h) = refl
 uri_match some_text = refl
 uri_match named = refl
+uri_match (chosen h) = refl
 uri_match copied = refl
 uri_match (some_unit h) = refl
 uri_match passed = refl
@@ -168,16 +172,19 @@ written_match refused = refl
 written_match (some_nodes h) = refl
 written_match some_text = refl
 written_match named = refl
+written_match (chosen h) = refl
 written_match copied = refl
 written_match (some_unit h) = refl
 written_match passed = refl
 
 count_match : {N M : Type 0} {R : N → M → Type 0} {x : Given N} {y : Given M} → Givens R x y → count_in x ≡ count_in y
 count_match counted = refl
+count_match ruled = refl
 count_match (valued h) = refl
 
 value_match : {N M : Type 0} {R : N → M → Type 0} {x : Given N} {y : Given M} → Givens R x y → Values R (value_in x) (value_in y)
 value_match counted = text
+value_match ruled = text
 value_match (valued h) = h
 
 -- ---- conversions
@@ -532,6 +539,7 @@ nodes_or_refused_match refused = refuses
 nodes_or_refused_match (some_nodes h) = gives h
 nodes_or_refused_match some_text = gives none
 nodes_or_refused_match named = gives none
+nodes_or_refused_match (chosen h) = gives none
 nodes_or_refused_match copied = gives none
 nodes_or_refused_match (some_unit h) = gives none
 nodes_or_refused_match passed = gives none

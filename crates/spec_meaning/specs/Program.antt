@@ -5,23 +5,40 @@ use Rattle.spec_meaning.specs.Value.{Value}
 use Rattle.spec_meaning.specs.Value as value
 use Rattle.spec_meaning.specs.Question.{Question, Answer, Refusal}
 
--- what is needed of the run and not of the world: position and size, where the context is that of an instantiation itself, and the
--- values of globals
+-- the current template rule (XSLT 1.0, section 5.6): its mode, and what its stylesheet imports, which are the import precedences from the first
+-- on and below the last
+pub record CurrentRule : Type 0 where
+  pub mode : Option Expanded
+  pub first : ℕ
+  pub last : ℕ
+
+-- what is needed of the run and not of the world: position and size, where the context is that of an instantiation itself, the current
+-- template rule, and the values of globals
 pub data Wanted : Type 0 where
   Position : Wanted
   Size : Wanted
+  Rule : Wanted
   Global : (name : Expanded) → Wanted
 
 pub data Given (N : Type 0) : Type 0 where
   Counted : (number : ℕ) → Given N
+  Ruled : (rule : Option CurrentRule) → Given N
   Valued : (value : Value N) → Given N
 
 abbrev pub count_in : {N : Type 0} → Given N → ℕ
 count_in (Counted number) = number
+count_in (Ruled rule) = 0
 count_in (Valued value) = 0
+
+-- none where there is no current rule
+abbrev pub current_in : {N : Type 0} → Given N → Option CurrentRule
+current_in (Counted number) = None
+current_in (Ruled rule) = rule
+current_in (Valued value) = None
 
 abbrev pub value_in : {N : Type 0} → Given N → Value N
 value_in (Counted number) = value.Text []
+value_in (Ruled rule) = value.Text []
 value_in (Valued value) = value
 
 -- a program ends with a value or a refusal, asks the world, or needs something of the run; from an answer it goes on

@@ -36,6 +36,13 @@ pub record ResolvedUnit (N : Type 0) : Type 0 where
   pub sets : List (NamedSets N)
   pub counts : Bool
 
+-- a template rule: the element of its template, and what its stylesheet imports, which are the import precedences from the first on and below
+-- the last
+pub record ChosenRule (N : Type 0) : Type 0 where
+  pub element : N
+  pub first : ℕ
+  pub last : ℕ
+
 pub data Question (N : Type 0) : Type 0 where
   -- the nodes of an axis that pass a node test, in the order of the axis
   Step : (node : N) → (axis : Axis) → (test : Test) → Question N
@@ -49,7 +56,7 @@ pub data Question (N : Type 0) : Type 0 where
   Order : (nodes : List N) → Question N
   -- the nodes that have a value in the keys of a name
   Key : (name : Expanded) → (value : List ℕ) → Question N
-  -- the element of the template rule of a node; none where that is a built-in rule
+  -- the template rule of a node; none where that is a built-in rule
   Choice : (node : N) → (mode : Option Expanded) → (candidates : Candidates) → Question N
   -- a copy of the node with what is below it
   Copy : (node : N) → Question N
@@ -66,6 +73,7 @@ pub data Answer (N : Type 0) : Type 0 where
   SomeNodes : (nodes : List N) → Answer N
   SomeText : (text : List ℕ) → Answer N
   Named : (kind : Kind) → (name : Option Expanded) → (written : List ℕ) → Answer N
+  Chosen : (rule : Option (ChosenRule N)) → Answer N
   Copied : (stream : Stream) → Answer N
   Resolved : (unit : ResolvedUnit N) → Answer N
   Passed : (value : Option (List ℕ)) → Answer N
@@ -87,6 +95,10 @@ rank_of (External name) = 2
 abbrev pub nodes_in : {N : Type 0} → Answer N → List N
 nodes_in (SomeNodes nodes) = nodes
 nodes_in _ = []
+
+abbrev pub rule_in : {N : Type 0} → Answer N → Option (ChosenRule N)
+rule_in (Chosen rule) = rule
+rule_in _ = None
 
 abbrev pub text_in : {N : Type 0} → Answer N → List ℕ
 text_in (SomeText text) = text

@@ -11,9 +11,9 @@ use Rattle.spec_meaning.specs.Stream.{Stream}
 use Rattle.spec_meaning.specs.Value as value
 use Rattle.spec_meaning.specs.Value.{Value}
 use Rattle.spec_meaning.specs.Question as question
-use Rattle.spec_meaning.specs.Question.{Question, Answer, Refusal, Candidates, NamedTemplate, NamedSets, ResolvedUnit}
+use Rattle.spec_meaning.specs.Question.{Question, Answer, Refusal, Candidates, ChosenRule, NamedTemplate, NamedSets, ResolvedUnit}
 use Rattle.spec_meaning.specs.Program as program
-use Rattle.spec_meaning.specs.Program.{Program, Wanted, Given, Supply, Read, Said}
+use Rattle.spec_meaning.specs.Program.{Program, CurrentRule, Wanted, Given, Supply, Read, Said}
 use Rattle.spec_meaning.specs.Context.{Context, Bound}
 
 -- lists related element by element
@@ -39,6 +39,10 @@ pub data Units {N M : Type 0} (R : N → M → Type 0) : ResolvedUnit N → Reso
       → Each (Templates R) ts us → Each (Sets R) ss rs
       → Units R (record { unit = unit; templates = ts; sets = ss; counts = counts }) (record { unit = unit; templates = us; sets = rs; counts = counts })
 
+pub data Rules {N M : Type 0} (R : N → M → Type 0) : ChosenRule N → ChosenRule M → Type 0 where
+  rule : {first last : ℕ} {n : N} {m : M} → R n m
+      → Rules R (record { element = n; first = first; last = last }) (record { element = m; first = first; last = last })
+
 pub data Questions {N M : Type 0} (R : N → M → Type 0) : Question N → Question M → Type 0 where
   steps : {n : N} {m : M} {axis : Axis} {test : Test} → R n m → Questions R (question.Step n axis test) (question.Step m axis test)
   texts : {n : N} {m : M} → R n m → Questions R (question.Text n) (question.Text m)
@@ -58,6 +62,7 @@ pub data Answers {N M : Type 0} (R : N → M → Type 0) : Answer N → Answer M
   some_nodes : {ns : List N} {ms : List M} → Each R ns ms → Answers R (question.SomeNodes ns) (question.SomeNodes ms)
   some_text : {text : List ℕ} → Answers R (question.SomeText text) (question.SomeText text)
   named : {kind : Kind} {name : Option Expanded} {written : List ℕ} → Answers R (question.Named kind name written) (question.Named kind name written)
+  chosen : {r : Option (ChosenRule N)} {s : Option (ChosenRule M)} → Both (Rules R) r s → Answers R (question.Chosen r) (question.Chosen s)
   copied : {stream : Stream} → Answers R (question.Copied stream) (question.Copied stream)
   some_unit : {u : ResolvedUnit N} {v : ResolvedUnit M} → Units R u v → Answers R (question.Resolved u) (question.Resolved v)
   passed : {text : Option (List ℕ)} → Answers R (question.Passed text) (question.Passed text)
@@ -71,6 +76,7 @@ pub data Values {N M : Type 0} (R : N → M → Type 0) : Value N → Value M �
 
 pub data Givens {N M : Type 0} (R : N → M → Type 0) : Given N → Given M → Type 0 where
   counted : {n : ℕ} → Givens R (program.Counted n) (program.Counted n)
+  ruled : {rule : Option CurrentRule} → Givens R (program.Ruled rule) (program.Ruled rule)
   valued : {v : Value N} {w : Value M} → Values R v w → Givens R (program.Valued v) (program.Valued w)
 
 pub data Bindings {N M : Type 0} (R : N → M → Type 0) : Bound N → Bound M → Type 0 where

@@ -2,7 +2,7 @@
 use Rattle.std.specs.Prelude.{ℕ, ◌&&◌, List, [], ◌∷◌, nat_le, Option, None, Some, if◌then◌else◌}
 use Rattle.spec_document.specs.Name.{Expanded, same_name}
 use Rattle.spec_meaning.specs.Value.{Value}
-use Rattle.spec_meaning.specs.Program.{Given, Counted, Valued, Supply, Position, Size, Global}
+use Rattle.spec_meaning.specs.Program.{CurrentRule, Given, Counted, Ruled, Valued, Supply, Position, Size, Rule, Global}
 
 -- a global that was given, for references in contents up to so deep below the level of the instantiation
 pub record Known (N : Type 0) : Type 0 where
@@ -10,10 +10,11 @@ pub record Known (N : Type 0) : Type 0 where
   pub depth : ℕ
   pub value : Value N
 
--- the position and size of the instantiation, and the globals that were given
+-- the position and size of the instantiation, its current template rule, and the globals that were given
 pub record Supplies (N : Type 0) : Type 0 where
   pub position : ℕ
   pub size : ℕ
+  pub rule : Option CurrentRule
   pub globals : List (Known N)
 
 abbrev pub found : {N : Type 0} → Expanded → ℕ → List (Known N) → Option (Given N)
@@ -24,4 +25,5 @@ found name depth (k ∷ ks) = if same_name k.name name && nat_le depth k.depth t
 abbrev pub at_hand : {N : Type 0} → Supplies N → ℕ → Supply N
 at_hand s depth Position = Some (Counted s.position)
 at_hand s depth Size = Some (Counted s.size)
+at_hand s depth Rule = Some (Ruled s.rule)
 at_hand s depth (Global name) = found name depth s.globals

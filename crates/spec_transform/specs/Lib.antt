@@ -1,4 +1,5 @@
 pub mod Position
 pub mod Match
 pub mod Choice
+pub mod Key
 pub mod Expansion

@@ -1,9 +1,12 @@
 //! What xt believes about the parts of transformations that ask a world: what a value template stands for, when a node
-//! matches a pattern, and which template rule is chosen.
+//! matches a pattern, which template rule is chosen, and which nodes have a value in a key.
 //!
-//! Read `specs/Expansion.antt`, `specs/Match.antt` and `specs/Choice.antt`. There is no code here but laws.
+//! Read `specs/Expansion.antt`, `specs/Match.antt`, `specs/Choice.antt` and `specs/Key.antt`. There is no code here but
+//! laws.
 #![tactic(auto)]
 
 mod choosing;
+mod keying;
 
 pub use choosing::{matching_is_never_refused, the_first_is_the_greatest};
+pub use keying::a_refusal_is_of_all_values;
