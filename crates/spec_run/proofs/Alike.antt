@@ -14,25 +14,25 @@ use Rattle.spec_meaning.specs.Stream.{Stream}
 use Rattle.spec_meaning.specs.Value as value
 use Rattle.spec_meaning.specs.Value.{Value}
 use Rattle.spec_meaning.specs.Question as question
-use Rattle.spec_meaning.specs.Question.{Answer, NamedTemplate, nodes_in, text_in, local_in}
-use Rattle.spec_meaning.specs.Program.{Program}
+use Rattle.spec_meaning.specs.Question.{Answer, ChosenRule, NamedTemplate, nodes_in, text_in, local_in}
+use Rattle.spec_meaning.specs.Program.{CurrentRule, Given, Program, current_in}
 use Rattle.spec_meaning.specs.Context.{Context, Bound, binding_of}
 use Rattle.spec_meaning.specs.Meaning.{meaning}
-use Rattle.spec_meaning.specs.Related.{Each, none, more, Both, neither, both, Templates, template, resolved, steps, texts, names}
-use Rattle.spec_meaning.specs.Related.{choices, copies, units, externals, Answers, gone, refused, some_nodes, some_text, named, copied, some_unit, passed}
-use Rattle.spec_meaning.specs.Related.{Values, number, text, boolean, nodes, fragment, Bindings, bound, Contexts, context, Match, gives, refuses, asks, needs}
+use Rattle.spec_meaning.specs.Related.{Each, none, more, Both, neither, both, Templates, template, resolved, Rules, rule, steps, texts, names}
+use Rattle.spec_meaning.specs.Related.{choices, copies, units, externals, Answers, gone, refused, some_nodes, some_text, named, chosen, copied, some_unit, passed}
+use Rattle.spec_meaning.specs.Related.{Values, number, text, boolean, nodes, fragment, Givens, Bindings, bound, Contexts, context, Match, gives, refuses, asks, needs}
 use Rattle.spec_meaning.proofs.Matching.{Same, each_length, meaning_match}
 use Rattle.spec_run.specs.Plan.{nowhere, Call, Plan, End, Yield, Inquire, Put, Deep, lift}
 use Rattle.spec_run.specs.Copy.{stream_in}
 use Rattle.spec_run.specs.Content as content
-use Rattle.spec_run.specs.Content.{Here, deeper, at, with_variable, context_at, text_meant, nodes_meant, truth_meant, each, text_item, target_by}
-use Rattle.spec_run.specs.Content.{rule_call, applied_to, template_called, called, nodes_copied, value_copied, namespaces_read, kind_in, attributes_put}
+use Rattle.spec_run.specs.Content.{Here, deeper, at, with_variable, context_at, text_meant, nodes_meant, truth_meant, each, text_item, target_by, ruling_by}
+use Rattle.spec_run.specs.Content.{rule_call, applied_to, imports_applied, template_called, called, nodes_copied, value_copied, namespaces_read, kind_in, attributes_put}
 use Rattle.spec_run.specs.Content.{planned_without, copied_as, planned_with, is_empty, valued, unless_passed, planned, plan, planned_control}
 use Rattle.spec_run.specs.Content.{planned_branches, with_parameters, may_be_given, unless_given, global_planned, declared_planned, unit_planned}
 use Rattle.spec_run.specs.Content.{asked, children_applied, text_put, built_in, plan_of}
-use Rattle.spec_run.proofs.Related.{Targets, units_of, built_in_both, Calls, calls, Plans, ends, yields, stops, inquires, uses, puts, begins, wraps}
+use Rattle.spec_run.proofs.Related.{units_of, built_in_both, Calls, calls, Plans, ends, yields, stops, inquires, uses, puts, begins, wraps}
 use Rattle.spec_run.proofs.Related.{takes, deepens, enters, Heres, heres}
-use Rattle.spec_run.proofs.Asking.{nodes_match, text_match, local_match, to_text_match, text_meant_match}
+use Rattle.spec_run.proofs.Asking.{nodes_match, text_match, local_match, rule_match, current_match, to_text_match, text_meant_match}
 use Rattle.spec_run.proofs.Asking.{nodes_meant_match, truth_meant_match, joined_match, element_meant_match, attribute_meant_match, instruction_meant_match}
 
 -- ---- plans of programs
@@ -85,17 +85,21 @@ each_alike alike none position k = k
 each_alike alike (more h hs) position k = alike _ _ h position _ _ (each_alike alike hs (suc position) k)
 
 -- ---- what is entered
-target_alike : {N M : Type 0} {R : N → M → Type 0} (mode : Option Expanded) {ns : List N} {ms : List M} → Each R ns ms
-    → Targets R (target_by mode ns) (target_by mode ms)
-target_alike mode none = built_in_both
-target_alike mode (more h hs) = units_of h
+-- the rule of a node, with the same of all else
+chosen_alike : {N M : Type 0} {R : N → M → Type 0} (by : Place) (mode : Option Expanded) (position size : Option ℕ) {bs : List (Bound N)} {ds : List (Bound M)}
+    → Each (Bindings R) bs ds → {n : N} {m : M} → R n m → {r : Option (ChosenRule N)} {s : Option (ChosenRule M)} → Both (Rules R) r s
+    → Calls R
+    (record { target = target_by mode r; node = n; parameters = bs; position = position; size = size; ruling = ruling_by mode r; by = by })
+    (record { target = target_by mode s; node = m; parameters = ds; position = position; size = size; ruling = ruling_by mode s; by = by })
+chosen_alike by mode position size values h neither = calls built_in_both h values
+chosen_alike by mode position size values h (both (rule e)) = calls (units_of e) h values
 
 pub rule_call_alike : {N M : Type 0} {R : N → M → Type 0} (by : Place) (mode : Option Expanded) {bs : List (Bound N)} {ds : List (Bound M)}
     → Each (Bindings R) bs ds → {size also : ℕ} → size ≡ also → {n : N} {m : M} → R n m → (position : ℕ) {x : Answer N} {y : Answer M} → Answers R x y
     → Calls R (rule_call by mode bs size n position x) (rule_call by mode ds also m position y)
 rule_call_alike {R = R} by mode {bs = bs} {ds = ds} values {size = size} same {n = n} {m = m} h position {x = x} {y = y} e =
     subst (λ s. Calls R (rule_call by mode bs size n position x) (rule_call by mode ds s m position y)) same
-    (calls (target_alike mode (nodes_match e)) h values)
+    (chosen_alike by mode (Some position) (Some size) values h (rule_match e))
 
 applied_to_alike : {N M : Type 0} {R : N → M → Type 0} (by : Place) (mode : Option Expanded) {bs : List (Bound N)} {ds : List (Bound M)}
     → Each (Bindings R) bs ds → {depth also : ℕ} → depth ≡ also → {ns : List N} {ms : List M} → Each R ns ms → {p : Plan N} {q : Plan M} → Plans R p q
@@ -103,6 +107,23 @@ applied_to_alike : {N M : Type 0} {R : N → M → Type 0} (by : Place) (mode : 
 applied_to_alike {R = R} by mode {bs = bs} {ds = ds} values {depth = depth} same {ns = ns} {ms = ms} hs {p = p} {q = q} k =
     subst (λ d. Plans R (applied_to by mode bs depth ns p) (applied_to by mode ds d ms q)) same
     (each_alike (λ n m h position x y e. inquires (choices h) (λ a b s. enters (rule_call_alike by mode values (each_length hs) h position s) e)) hs 1 k)
+
+imports_alike : {N M : Type 0} {R : N → M → Type 0} (site : Site) {h : Here N} {i : Here M} → Heres R h i → (current : Option CurrentRule)
+    → {p : Plan N} {q : Plan M} → Plans R p q → Plans R (imports_applied site h current p) (imports_applied site i current q)
+imports_alike site h None k = stops
+imports_alike site (heres {position = position} {size = size} n bs ts ss) (Some current) k =
+    inquires (choices n) (λ x y e. enters (chosen_alike site.place current.mode position size none n (rule_match e)) k)
+
+-- what was given says which rule is current
+given_imports : {N M : Type 0} {R : N → M → Type 0} (site : Site) {h : Here N} {i : Here M} → Heres R h i → {x : Given N} {y : Given M} → Givens R x y
+    → {p : Plan N} {q : Plan M} → Plans R p q → Plans R (imports_applied site h (current_in x) p) (imports_applied site i (current_in y) q)
+given_imports {R = R} site {h = h} {i = i} s {x = x} e {p = p} {q = q} k =
+    subst (λ c. Plans R (imports_applied site h (current_in x) p) (imports_applied site i c q)) (current_match e) (imports_alike site s (current_in x) k)
+
+imports_planned : {N M : Type 0} {R : N → M → Type 0} (site : Site) {h : Here N} {i : Here M} → Heres R h i → {p : Plan N} {q : Plan M} → Plans R p q
+    → Plans R (planned_without site h made.ApplyImports p) (planned_without site i made.ApplyImports q)
+imports_planned site (heres {depth = depth} {ruled = ruled} n bs ts ss) k =
+    either_plan ruled (uses (λ x y e. given_imports site (heres {depth = depth} {ruled = ruled} n bs ts ss) e k)) stops
 
 pub either_both : {A B : Type 0} {S : A → B → Type 0} (b : Bool) {x y : Option A} {z w : Option B} → Both S x z → Both S y w
     → Both S (cond b x y) (cond b z w)
@@ -136,6 +157,7 @@ stream_match refused = refl
 stream_match (some_nodes h) = refl
 stream_match some_text = refl
 stream_match named = refl
+stream_match (chosen h) = refl
 stream_match copied = refl
 stream_match (some_unit h) = refl
 stream_match passed = refl
@@ -182,6 +204,7 @@ copied_as_alike h gone inner k = copy_put (node_here h) k
 copied_as_alike h refused inner k = copy_put (node_here h) k
 copied_as_alike h (some_nodes ns) inner k = copy_put (node_here h) k
 copied_as_alike h some_text inner k = copy_put (node_here h) k
+copied_as_alike h (chosen r) inner k = copy_put (node_here h) k
 copied_as_alike h copied inner k = copy_put (node_here h) k
 copied_as_alike h (some_unit u) inner k = copy_put (node_here h) k
 copied_as_alike h passed inner k = copy_put (node_here h) k
@@ -207,7 +230,7 @@ without_alike site h (made.Text t) k = puts k
 without_alike site h (made.ValueOf e) k = asked_same site h (λ c d s. text_meant_match e s) (λ t. puts k)
 without_alike site h (made.CopyOf e) k = asked_alike site h (λ c d s. meaning_match e s) (λ v w s. value_copied_alike s k)
 without_alike site h (made.Number numbering) k = puts k
-without_alike site h made.ApplyImports k = puts k
+without_alike site h made.ApplyImports k = imports_planned site h k
 without_alike site h made.Fallback k = puts k
 
 with_alike : {N M : Type 0} {R : N → M → Type 0} (site : Site) {h : Here N} {i : Here M} → Heres R h i → (what : made.WithContent)
@@ -352,6 +375,7 @@ unless_given_alike refused own = own
 unless_given_alike (some_nodes h) own = own
 unless_given_alike some_text own = own
 unless_given_alike named own = own
+unless_given_alike (chosen r) own = own
 unless_given_alike copied own = own
 unless_given_alike (some_unit u) own = own
 unless_given_alike (passed {text = None}) own = own
@@ -377,6 +401,7 @@ unit_alike n m h values refused = ends
 unit_alike n m h values (some_nodes ns) = ends
 unit_alike n m h values some_text = ends
 unit_alike n m h values named = ends
+unit_alike n m h values (chosen r) = ends
 unit_alike n m h values copied = ends
 unit_alike n m h values (some_unit (resolved {unit = unit} ts ss)) = declared_alike unit.declared values (heres h none ts ss)
 unit_alike n m h values passed = ends
@@ -393,6 +418,7 @@ kind_match refused = refl
 kind_match (some_nodes h) = refl
 kind_match some_text = refl
 kind_match named = refl
+kind_match (chosen h) = refl
 kind_match copied = refl
 kind_match (some_unit h) = refl
 kind_match passed = refl

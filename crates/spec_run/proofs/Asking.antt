@@ -9,12 +9,12 @@ use Rattle.spec_stylesheet.specs.ValueTemplate as template
 use Rattle.spec_stylesheet.specs.ValueTemplate.{Avt, AvtPart}
 use Rattle.spec_stylesheet.specs.Instruction.{MadeName}
 use Rattle.spec_meaning.specs.Value.{Value}
-use Rattle.spec_meaning.specs.Question.{Answer, nodes_in, text_in, local_in}
-use Rattle.spec_meaning.specs.Program.{Program, then}
+use Rattle.spec_meaning.specs.Question.{Answer, nodes_in, rule_in, text_in, local_in}
+use Rattle.spec_meaning.specs.Program.{Program, Given, current_in, then}
 use Rattle.spec_meaning.specs.Context.{Context}
 use Rattle.spec_meaning.specs.Convert.{first_text, to_text, to_boolean, to_nodes}
-use Rattle.spec_meaning.specs.Related.{Each, none, more, texts}
-use Rattle.spec_meaning.specs.Related.{Answers, gone, refused, some_nodes, some_text, named, copied, some_unit, passed}
+use Rattle.spec_meaning.specs.Related.{Each, none, more, Both, neither, Rules, texts, Givens, counted, ruled, valued}
+use Rattle.spec_meaning.specs.Related.{Answers, gone, refused, some_nodes, some_text, named, chosen, copied, some_unit, passed}
 use Rattle.spec_meaning.specs.Related.{Values, number, text, boolean, nodes, fragment, Contexts, context, Match, gives, refuses, asks}
 use Rattle.spec_meaning.proofs.Matching.{Same, then_match, meaning_match}
 use Rattle.spec_transform.specs.Expansion.{part_text, joined}
@@ -39,6 +39,7 @@ nodes_match refused = none
 nodes_match (some_nodes h) = h
 nodes_match some_text = none
 nodes_match named = none
+nodes_match (chosen h) = none
 nodes_match copied = none
 nodes_match (some_unit h) = none
 nodes_match passed = none
@@ -49,6 +50,7 @@ text_match refused = refl
 text_match (some_nodes h) = refl
 text_match some_text = refl
 text_match named = refl
+text_match (chosen h) = refl
 text_match copied = refl
 text_match (some_unit h) = refl
 text_match passed = refl
@@ -59,9 +61,26 @@ local_match refused = refl
 local_match (some_nodes h) = refl
 local_match some_text = refl
 local_match named = refl
+local_match (chosen h) = refl
 local_match copied = refl
 local_match (some_unit h) = refl
 local_match passed = refl
+
+pub rule_match : {N M : Type 0} {R : N → M → Type 0} {x : Answer N} {y : Answer M} → Answers R x y → Both (Rules R) (rule_in x) (rule_in y)
+rule_match gone = neither
+rule_match refused = neither
+rule_match (some_nodes h) = neither
+rule_match some_text = neither
+rule_match named = neither
+rule_match (chosen h) = h
+rule_match copied = neither
+rule_match (some_unit h) = neither
+rule_match passed = neither
+
+pub current_match : {N M : Type 0} {R : N → M → Type 0} {x : Given N} {y : Given M} → Givens R x y → current_in x ≡ current_in y
+current_match counted = refl
+current_match ruled = refl
+current_match (valued h) = refl
 
 first_text_match : {N M : Type 0} {R : N → M → Type 0} {ns : List N} {ms : List M} → Each R ns ms → Match R Same (first_text ns) (first_text ms)
 first_text_match none = gives refl

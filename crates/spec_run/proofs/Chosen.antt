@@ -8,7 +8,7 @@ use Rattle.spec_expression.specs.Syntax.{Test, Expr, Exprs, no_exprs, expr, Step
 use Rattle.spec_stylesheet.specs.declared.pattern.Separator.{Separator}
 use Rattle.spec_stylesheet.specs.declared.pattern.Start.{Start}
 use Rattle.spec_stylesheet.specs.declared.pattern.Start.TheVariants.{Anywhere, Root, Id, Key}
-use Rattle.spec_stylesheet.specs.Pattern.{PatternStep, Alternative}
+use Rattle.spec_stylesheet.specs.Pattern.{Pattern, PatternStep, Alternative}
 use Rattle.spec_stylesheet.specs.Sheet as sheet
 use Rattle.spec_stylesheet.specs.Sheet.{Rule}
 use Rattle.spec_meaning.specs.Value.{Value}
@@ -16,14 +16,15 @@ use Rattle.spec_meaning.specs.Question.{Answer, Candidates}
 use Rattle.spec_meaning.specs.Program.{Program}
 use Rattle.spec_meaning.specs.Context.{Context}
 use Rattle.spec_meaning.specs.Meaning.{keeps}
-use Rattle.spec_meaning.specs.Related.{Each, none, more, steps, names, keys, Answers, gone, refused, some_nodes, some_text, named, copied, some_unit, passed}
+use Rattle.spec_meaning.specs.Related.{Each, none, more, steps, names, keys, Answers, gone, refused, some_nodes, some_text, named, chosen, copied, some_unit, passed}
 use Rattle.spec_meaning.specs.Related.{Values, number, text, boolean, nodes, fragment, Contexts, context, Match, gives, refuses, asks, needs}
 use Rattle.spec_meaning.proofs.Matching.{Same, then_match, each_append, each_length, meaning_match}
 use Rattle.spec_transform.specs.Match.{passes, caught, is_kept, all_kept, position_of, is_kept_there, keep, keep_alone, holds_of_one, is_given_below}
 use Rattle.spec_transform.specs.Match.{passes_predicates, passes_step, is_root, starts_at, when_called, is_free, holds_above, matches_steps}
-use Rattle.spec_transform.specs.Match.{matches_one}
+use Rattle.spec_transform.specs.Match.{matches_one, matches}
 use Rattle.spec_transform.specs.Position.{read_no_position}
-use Rattle.spec_transform.specs.Choice.{may_be_chosen, context_for, first_that_matches, chosen}
+use Rattle.spec_transform.specs.Choice as choice
+use Rattle.spec_transform.specs.Choice.{may_be_chosen, context_for, first_that_matches}
 use Rattle.spec_run.proofs.Asking.{then_same, either_match, nodes_match, to_boolean_match}
 
 -- two tests that tell names apart alike
@@ -37,6 +38,7 @@ passes_match axis test refused = refl
 passes_match axis test (some_nodes h) = refl
 passes_match axis test some_text = refl
 passes_match axis test named = refl
+passes_match axis test (chosen h) = refl
 passes_match axis test copied = refl
 passes_match axis test (some_unit h) = refl
 passes_match axis test passed = refl
@@ -139,6 +141,7 @@ root_match refused = refl
 root_match (some_nodes h) = refl
 root_match some_text = refl
 root_match named = refl
+root_match (chosen h) = refl
 root_match copied = refl
 root_match (some_unit h) = refl
 root_match passed = refl
@@ -177,6 +180,10 @@ one_match same like alike h [] n m k x y e = gives refl
 one_match same like alike h (a ∷ rest) n m k x y e =
     then_same (steps_match same like alike h a.start (reverse a.steps) n m k x y e) (λ b. either_match b (gives refl) (one_match same like alike h rest n m k x y e))
 
+pub matches_match : {N M : Type 0} {R : N → M → Type 0} (same : N → N → Bool) (like : M → M → Bool) → TellAlike R same like → {c : Context N} {d : Context M} → Contexts R c d
+    → (pattern : Pattern) (n : N) (m : M) → R n m → Match R Same (matches same c pattern n) (matches like d pattern m)
+matches_match same like alike h pattern n m k = called_match (one_match same like alike h pattern.alternatives) n m k
+
 -- ---- rules
 first_match : {N M : Type 0} {R : N → M → Type 0} (same : N → N → Bool) (like : M → M → Bool) → TellAlike R same like → (us : List sheet.Unit)
     (mode : Option Expanded) (candidates : Candidates) (at : ℕ) (rules : List Rule) (n : N) (m : M) → R n m → (x : Answer N) (y : Answer M) → Answers R x y
@@ -189,5 +196,5 @@ first_match same like alike us mode candidates at (rule ∷ rules) n m k x y e =
 -- the same rule is chosen
 pub chosen_match : {N M : Type 0} {R : N → M → Type 0} (same : N → N → Bool) (like : M → M → Bool) → TellAlike R same like → (us : List sheet.Unit)
     (mode : Option Expanded) (candidates : Candidates) (rules : List Rule) (n : N) (m : M) → R n m
-    → Match R Same (chosen same (context_for us n) n mode candidates rules) (chosen like (context_for us m) m mode candidates rules)
+    → Match R Same (choice.chosen same (context_for us n) n mode candidates rules) (choice.chosen like (context_for us m) m mode candidates rules)
 chosen_match same like alike us mode candidates rules n m k = asks (names k) (λ x y e. first_match same like alike us mode candidates 0 rules n m k x y e)

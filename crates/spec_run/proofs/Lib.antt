@@ -9,5 +9,6 @@ pub mod Alike
 pub mod Meanings
 pub mod Chosen
 pub mod Copies
+pub mod Keyed
 pub mod Truths
 pub mod Coming

@@ -7,9 +7,9 @@ use Rattle.spec_stylesheet.specs.Place.{Place}
 use Rattle.spec_meaning.specs.Stream as stream
 use Rattle.spec_meaning.specs.Stream.{Stream, followed, filled}
 use Rattle.spec_meaning.specs.Question.{Question, Answer}
-use Rattle.spec_meaning.specs.Program.{Wanted, Position, Size, Global, Given}
+use Rattle.spec_meaning.specs.Program.{Wanted, Position, Size, Rule, Global, Given}
 use Rattle.spec_meaning.specs.Context.{Bound}
-use Rattle.spec_meaning.specs.Related.{Each, none, more, Both, neither, both, choices, Values, text, fragment, Givens, counted, valued, Bindings, bound, Worlds}
+use Rattle.spec_meaning.specs.Related.{Each, none, more, Both, neither, both, choices, Values, text, fragment, Givens, counted, ruled, valued, Bindings, bound, Worlds}
 use Rattle.spec_meaning.proofs.Matching.{each_append}
 use Rattle.spec_result.specs.Recovery.{messages_of}
 use Rattle.spec_run.specs.Plan.{Call, Plan, wrapped, aside_of, nowhere}
@@ -130,6 +130,7 @@ supplied_alike : {N M : Type 0} {R : N → M → Type 0} {c : Call N} {d : Call 
     → Provisions R (supplied c globals) (supplied d also)
 supplied_alike (calls t n bs) alike Position depth place = both_know counted
 supplied_alike (calls t n bs) alike Size depth place = both_know counted
+supplied_alike (calls t n bs) alike Rule depth place = both_know ruled
 supplied_alike (calls t n bs) alike (Global name) depth place = alike name depth place
 
 -- ---- calls
@@ -150,6 +151,7 @@ meaning_alike settings (suc room) p q past (suc depth) c d call = meaning_alike 
 -- ---- the run
 value_alike : {N M : Type 0} {R : N → M → Type 0} {x : Given N} {y : Given M} → Givens R x y → Values R (value_of x) (value_of y)
 value_alike counted = text
+value_alike ruled = text
 value_alike (valued h) = h
 
 -- the turn of a global, after what its content means

@@ -7,7 +7,7 @@ use Rattle.spec_stylesheet.specs.Place.{Place}
 use Rattle.spec_meaning.specs.Stream.{Stream}
 use Rattle.spec_meaning.specs.Context.{Bound}
 use Rattle.spec_meaning.specs.Question.{Question, Answer}
-use Rattle.spec_meaning.specs.Program.{Wanted, Position, Size, Global, Given, Valued}
+use Rattle.spec_meaning.specs.Program.{Wanted, Position, Size, Rule, Global, Given, Valued}
 use Rattle.spec_run.specs.Plan.{Call, Plan}
 use Rattle.spec_run.specs.Direct.{Supplied, Known, Ending, Finished, Gave, Halted, Outcome}
 use Rattle.spec_run.specs.Going.{Event, Going, at_start, owned, own, whole}
@@ -75,6 +75,7 @@ pub referred_still : {N : Type 0} (s : Setting N) (means others : Past N → ℕ
     → (past : Past N) (c : Call N) (w : Wanted) (d : ℕ) (l : Place) (x : Given N) → supplied c (referred s means past) w d l ≡ Known x → supplied c (referred s others past) w d l ≡ Known x
 referred_still s means others f past c Position d l x h = h
 referred_still s means others f past c Size d l x h = h
+referred_still s means others f past c Rule d l x h = h
 referred_still {N = N} s means others f past c (Global name) d l x h =
     refer_still name l past.values (list_any (same_name name) past.under) (evaluated s means past name d l (element_named name s.globals)) (evaluated s others past name d l (element_named name s.globals)) x
     (go (element_named name s.globals)) h

@@ -1,5 +1,5 @@
 -- What relates what runs do where nodes are named by an N and by an M: nothing but the names of nodes may differ.
-use Rattle.std.specs.Prelude.{ℕ, List, Option}
+use Rattle.std.specs.Prelude.{ℕ, Bool, List, Option}
 use Rattle.spec_document.specs.Name.{Expanded}
 use Rattle.spec_stylesheet.specs.Place.{Place}
 use Rattle.spec_meaning.specs.Stream.{Stream}
@@ -9,7 +9,7 @@ use Rattle.spec_meaning.specs.Program.{Wanted, Given}
 use Rattle.spec_meaning.specs.Context.{Bound}
 use Rattle.spec_meaning.specs.Related.{Each, Templates, Sets, Questions, Answers, Values, Givens, Bindings}
 use Rattle.spec_run.specs.Plan as plan
-use Rattle.spec_run.specs.Plan.{Refused, Target, Call, Wrapping, Plan}
+use Rattle.spec_run.specs.Plan.{Refused, Target, Ruling, Call, Wrapping, Plan}
 use Rattle.spec_run.specs.Direct as direct
 use Rattle.spec_run.specs.Direct.{Supplied, Ending, Outcome}
 use Rattle.spec_run.specs.Content.{Here}
@@ -20,10 +20,10 @@ pub data Targets {N M : Type 0} (R : N → M → Type 0) : Target N → Target M
   built_in_both : {mode : Option Expanded} → Targets R (plan.BuiltIn mode) (plan.BuiltIn mode)
 
 pub data Calls {N M : Type 0} (R : N → M → Type 0) : Call N → Call M → Type 0 where
-  calls : {t : Target N} {u : Target M} {n : N} {m : M} {bs : List (Bound N)} {ds : List (Bound M)} {position size : Option ℕ} {by : Place}
+  calls : {t : Target N} {u : Target M} {n : N} {m : M} {bs : List (Bound N)} {ds : List (Bound M)} {position size : Option ℕ} {ruling : Ruling} {by : Place}
       → Targets R t u → R n m → Each (Bindings R) bs ds
-      → Calls R (record { target = t; node = n; parameters = bs; position = position; size = size; by = by })
-      (record { target = u; node = m; parameters = ds; position = position; size = size; by = by })
+      → Calls R (record { target = t; node = n; parameters = bs; position = position; size = size; ruling = ruling; by = by })
+      (record { target = u; node = m; parameters = ds; position = position; size = size; ruling = ruling; by = by })
 
 -- plans that do the same, whatever related answers they get
 pub data Plans {N M : Type 0} (R : N → M → Type 0) : Plan N → Plan M → Type 0 where
@@ -43,11 +43,11 @@ pub data Plans {N M : Type 0} (R : N → M → Type 0) : Plan N → Plan M → T
       → Plans R (plan.Enter c depth p) (plan.Enter d depth q)
 
 pub data Heres {N M : Type 0} (R : N → M → Type 0) : Here N → Here M → Type 0 where
-  heres : {n : N} {m : M} {position size : Option ℕ} {bs : List (Bound N)} {ds : List (Bound M)} {depth : ℕ}
+  heres : {n : N} {m : M} {position size : Option ℕ} {bs : List (Bound N)} {ds : List (Bound M)} {depth : ℕ} {ruled : Bool}
       {ts : List (NamedTemplate N)} {us : List (NamedTemplate M)} {ss : List (NamedSets N)} {rs : List (NamedSets M)}
       → R n m → Each (Bindings R) bs ds → Each (Templates R) ts us → Each (Sets R) ss rs
-      → Heres R (record { node = n; position = position; size = size; bindings = bs; depth = depth; templates = ts; sets = ss })
-      (record { node = m; position = position; size = size; bindings = ds; depth = depth; templates = us; sets = rs })
+      → Heres R (record { node = n; position = position; size = size; bindings = bs; depth = depth; ruled = ruled; templates = ts; sets = ss })
+      (record { node = m; position = position; size = size; bindings = ds; depth = depth; ruled = ruled; templates = us; sets = rs })
 
 pub data Supplies {N M : Type 0} (R : N → M → Type 0) : Supplied N → Supplied M → Type 0 where
   both_know : {x : Given N} {y : Given M} → Givens R x y → Supplies R (direct.Known x) (direct.Known y)

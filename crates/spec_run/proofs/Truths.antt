@@ -9,24 +9,27 @@ use Rattle.spec_stylesheet.specs.Place.{Place}
 use Rattle.spec_stylesheet.specs.Sheet.{Unit as Piece, Declared, Sheet, Rule}
 use Rattle.spec_meaning.specs.Stream.{Stream}
 use Rattle.spec_meaning.specs.Question as question
-use Rattle.spec_meaning.specs.Question.{Answer, NamedTemplate, NamedSets, ResolvedUnit, Candidates}
+use Rattle.spec_meaning.specs.Question.{Answer, ChosenRule, NamedTemplate, NamedSets, ResolvedUnit, Candidates}
+use Rattle.spec_meaning.specs.Program as program
 use Rattle.spec_meaning.specs.Program.{Said, Gives, Refuses, Lacks, Position, Size, Global, outcome_of}
 use Rattle.spec_meaning.specs.Truth.{answer_by, entry_named, told_of}
-use Rattle.spec_meaning.specs.Related.{Each, none, more, both, neither, counted, SuppliesAlike, Templates, template, Sets, sets, Units, resolved, steps, texts, names, places, orders, keys}
-use Rattle.spec_meaning.specs.Related.{choices, copies, units, externals, Answers, gone, refused, some_nodes, some_text, named, copied, some_unit, passed}
+use Rattle.spec_meaning.specs.Related.{Each, none, more, Both, both, neither, counted, ruled, SuppliesAlike, Templates, template, Sets, sets, Units, resolved, Rules, rule, steps, texts, names, places, orders, keys}
+use Rattle.spec_meaning.specs.Related.{choices, copies, units, externals, Answers, gone, refused, some_nodes, some_text, named, chosen, copied, some_unit, passed}
 use Rattle.spec_meaning.specs.Related.{Outcomes, both_give, both_refuse, both_lack, Worlds}
 use Rattle.spec_meaning.specs.Naming.{Beside, first, later, Names, Alike, AllDiffer, AreApart}
 use Rattle.spec_meaning.proofs.Matching.{Same, each_append, matching}
 use Rattle.spec_meaning.proofs.Named.{worlds}
-use Rattle.spec_transform.specs.Choice.{context_for, chosen}
-use Rattle.spec_run.specs.World.{last_element, template_by, templates_called, is_template, called_in_unit, unit_by, unit_at, no_globals, element_of_unit}
-use Rattle.spec_run.specs.World.{element_of_rule, rule_by, rule_at, counts, global_in, globals_of, truth_by}
+use Rattle.spec_transform.specs.Choice as choice
+use Rattle.spec_transform.specs.Choice.{context_for}
+use Rattle.spec_transform.specs.Key.{no_globals, keys_named}
+use Rattle.spec_run.specs.World.{last_element, template_by, templates_called, is_template, called_in_unit, unit_by, unit_at, keyed_at, chosen_in}
+use Rattle.spec_run.specs.World.{chosen_by, rule_by, rule_at, is_global, global_in, global_by, globals_of, source_by, truth_by}
 use Rattle.spec_run.specs.Documents.{Parameters}
-use Rattle.spec_run.specs.Meaning.{NamedGlobal}
 use Rattle.spec_run.proofs.Related.{Globals, global}
 use Rattle.spec_run.proofs.Meanings.{Settings}
 use Rattle.spec_run.proofs.Copies.{CopiedAlike}
-use Rattle.spec_run.proofs.Chosen.{chosen_match}
+use Rattle.spec_run.proofs.Chosen.{TellAlike, chosen_match}
+use Rattle.spec_run.proofs.Keyed.{Entries, indexed_match, keyed_match}
 
 -- ---- entries told by their keys
 beside_alike : {L M : Type 0} {S : Entry L → Entry M → Type 0} {es : List (Entry L)} {fs : List (Entry M)} {e : Entry L} {f : Entry M} → Each S es fs
@@ -124,12 +127,20 @@ sets_wider w _ _ (sets h) = sets (each_wider w h)
 units_wider : {N M : Type 0} {R S : N → M → Type 0} → ((n : N) (m : M) → R n m → S n m) → {u : ResolvedUnit N} {v : ResolvedUnit M} → Units R u v → Units S u v
 units_wider w (resolved ts ss) = resolved (each_wider (templates_wider w) ts) (each_wider (sets_wider w) ss)
 
+rules_wider : {N M : Type 0} {R S : N → M → Type 0} → ((n : N) (m : M) → R n m → S n m) → (r : ChosenRule N) (s : ChosenRule M) → Rules R r s → Rules S r s
+rules_wider w _ _ (rule h) = rule (w _ _ h)
+
+both_wider : {A B : Type 0} {R S : A → B → Type 0} → ((a : A) (b : B) → R a b → S a b) → {x : Option A} {y : Option B} → Both R x y → Both S x y
+both_wider w neither = neither
+both_wider w (both h) = both (w _ _ h)
+
 answers_wider : {N M : Type 0} {R S : N → M → Type 0} → ((n : N) (m : M) → R n m → S n m) → {x : Answer N} {y : Answer M} → Answers R x y → Answers S x y
 answers_wider w gone = gone
 answers_wider w refused = refused
 answers_wider w (some_nodes h) = some_nodes (each_wider w h)
 answers_wider w some_text = some_text
 answers_wider w named = named
+answers_wider w (chosen h) = chosen (both_wider (rules_wider w) h)
 answers_wider w copied = copied
 answers_wider w (some_unit h) = some_unit (units_wider w h)
 answers_wider w passed = passed
@@ -146,13 +157,10 @@ same_said (both_give h) = ap (λ x. Gives x) h
 same_said both_refuse = refl
 same_said both_lack = refl
 
--- the globals of these units
-abbrev globals_in : {K : Type 0} → (Place → K) → List Piece → List (NamedGlobal K)
-globals_in naming us = flat_map (λ u. map (λ name. record { name = name; element = naming u.site.place }) (global_in u.declared)) us
-
-supplied_alike : {K J : Type 0} {R : K → J → Type 0} → SuppliesAlike R (no_globals {K = K}) (no_globals {K = J})
+supplied_alike : {K J : Type 0} {R : K → J → Type 0} → SuppliesAlike R (no_globals {N = K}) (no_globals {N = J})
 supplied_alike Position = both counted
 supplied_alike Size = both counted
+supplied_alike program.Rule = both ruled
 supplied_alike (Global name) = neither
 
 module _ {L M K J : Type 0} (key : Entry L → K) (same : K → K → Bool) (naming : Place → K) (also : Entry M → J) (like : J → J → Bool) (calling : Place → J)
@@ -207,53 +215,88 @@ module _ {L M K J : Type 0} (key : Entry L → K) (same : K → K → Bool) (nam
   unit_alike (Some u) = some_unit (resolved (templates_alike (called_in_unit u.declared)) none)
 
   -- ---- globals
-  names_alike : {p : Place} → OfUnit s.units p → (own : List Expanded)
-      → Each (Globals One) (map (λ name. record { name = name; element = naming p }) own) (map (λ name. record { name = name; element = calling p }) own)
-  names_alike h [] = none
-  names_alike h (name ∷ own) = more (global (in_module h)) (names_alike h own)
+  -- that of a unit, unless one of those after it is one of its name too
+  global_alike : (u : Piece) (us : List Piece) → OfUnit s.units u.site.place → (name : Expanded)
+      → Each (Globals One) (global_by naming u us name) (global_by calling u us name)
+  global_alike u us h name = by (list_any (λ later. is_global name later.declared) us)
+    where
+      by : (b : Bool)
+          → Each (Globals One) (cond b [] (record { name = name; element = naming u.site.place } ∷ []))
+          (cond b [] (record { name = name; element = calling u.site.place } ∷ []))
+      by true = none
+      by false = more (global (in_module h)) none
 
-  -- those of a unit that may count, before those after it
-  counted_alike : (b : Bool) (u : Piece) (us : List Piece) → OfUnit s.units u.site.place
-      → Each (Globals One) (globals_in naming us) (globals_in calling us)
-      → Each (Globals One) (globals_in naming (cond b (u ∷ us) us)) (globals_in calling (cond b (u ∷ us) us))
-  counted_alike true u us h hs = each_append (names_alike h (global_in u.declared)) hs
-  counted_alike false u us h hs = hs
+  own_alike : (u : Piece) (us : List Piece) → OfUnit s.units u.site.place → (own : List Expanded)
+      → Each (Globals One) (flat_map (global_by naming u us) own) (flat_map (global_by calling u us) own)
+  own_alike u us h [] = none
+  own_alike u us h (name ∷ own) = each_append (global_alike u us h name) (own_alike u us h own)
 
-  all_alike : (us : List Piece) → ((p : Place) → OfUnit us p → OfUnit s.units p)
-      → Each (Globals One) (globals_in naming (filter (counts s.units) us)) (globals_in calling (filter (counts s.units) us))
+  all_alike : (us : List Piece) → ((p : Place) → OfUnit us p → OfUnit s.units p) → Each (Globals One) (globals_of naming us) (globals_of calling us)
   all_alike [] h = none
-  all_alike (u ∷ us) h = counted_alike (counts s.units u) u (filter (counts s.units) us) (h _ this) (all_alike us (λ p k. h p (that k)))
+  all_alike (u ∷ us) h = each_append (own_alike u us (h _ this) (global_in u.declared)) (all_alike us (λ p k. h p (that k)))
 
   pub globals_alike : Each (Globals One) (globals_of naming s.units) (globals_of calling s.units)
   globals_alike = all_alike s.units (λ p h. h)
 
   -- ---- rules
-  element_alike : (k : ℕ) (o : Option Piece) → slice_get s.units k ≡ o → Each One (element_of_unit naming o) (element_of_unit calling o)
-  element_alike k None e = none
-  element_alike k (Some u) e = more (in_module (of_index s.units k u e)) none
+  unit_chosen : (r : Rule) (k : ℕ) (o : Option Piece) → slice_get s.units k ≡ o → Both (Rules One) (chosen_in naming r o) (chosen_in calling r o)
+  unit_chosen r k None e = neither
+  unit_chosen r k (Some u) e = both (rule (in_module (of_index s.units k u e)))
 
-  rule_element_alike : (o : Option Rule) → Each One (element_of_rule naming s.units o) (element_of_rule calling s.units o)
-  rule_element_alike None = none
-  rule_element_alike (Some rule) = element_alike rule.unit (slice_get s.units rule.unit) refl
+  rule_chosen : (o : Option Rule) → Both (Rules One) (chosen_by naming s.units o) (chosen_by calling s.units o)
+  rule_chosen None = neither
+  rule_chosen (Some r) = unit_chosen r r.unit (slice_get s.units r.unit) refl
 
   rule_alike : (o : Said (Option ℕ)) → Answers One (rule_by naming s o) (rule_by calling s o)
-  rule_alike (Gives None) = some_nodes none
-  rule_alike (Gives (Some k)) = some_nodes (rule_element_alike (slice_get s.rules.rules k))
-  rule_alike (Refuses why) = some_nodes none
-  rule_alike (Lacks wanted) = some_nodes none
+  rule_alike (Gives None) = chosen neither
+  rule_alike (Gives (Some k)) = chosen (rule_chosen (slice_get s.rules.rules k))
+  rule_alike (Refuses why) = chosen neither
+  rule_alike (Lacks wanted) = chosen neither
 
   tree : Worlds OneNode (answer_by key same es) (answer_by also like fs)
   tree = worlds key same also like es fs alike apart apart_too
 
+  -- ---- keys
+  listed : {xs : List (Entry L)} {ys : List (Entry M)} → Each Alike xs ys → ((x : Entry L) (y : Entry M) → Beside xs ys x y → Beside es fs x y)
+      → Each OneNode (map key xs) (map also ys)
+  listed none there = none
+  listed (more {x = x} {y = y} h hs) there =
+      more (record { entry = x; other = y; beside = there x y first; named = refl; also_named = refl }) (listed hs (λ d g b. there d g (later b)))
+
+  tell_alike : TellAlike OneNode same like
+  tell_alike a b c d g h =
+      at_names key also (λ x y. same x b ≡ like y d)
+      (λ e f i. at_names key also (λ x y. same (key e) x ≡ like (also f) y) (λ v w j. told_alike key same also like apart apart_too i j) h) g
+
+  pub keyed_alike : (name : Expanded) (text : List ℕ)
+      → Answers OneNode (keyed_at same s.units (answer_by key same es) (map key es) name text) (keyed_at like s.units (answer_by also like fs) (map also fs) name text)
+  keyed_alike name text =
+      let of_all = listed alike (λ x y b. b) in
+      let entries = matching OneNode (Each (Entries OneNode)) (answer_by key same es) (answer_by also like fs) no_globals no_globals 0 tree supplied_alike _ _
+      (indexed_match same like tell_alike (keys_named name s.units) of_all none) in
+      keyed_match same like tell_alike of_all text entries.0
+
+  -- the tree of the source, with its keys
+  pub source : Worlds OneNode (source_by key same s es) (source_by also like s fs)
+  source _ _ (keys {name = name} {text = text}) = keyed_alike name text
+  source _ _ (steps n) = tree _ _ (steps n)
+  source _ _ (texts n) = tree _ _ (texts n)
+  source _ _ (names n) = tree _ _ (names n)
+  source _ _ (places n) = tree _ _ (places n)
+  source _ _ (orders ns) = tree _ _ (orders ns)
+  source _ _ (choices n) = gone
+  source _ _ (copies n) = gone
+  source _ _ (units n) = gone
+  source _ _ externals = gone
+
+  -- ---- choices
   choice_alike : (mode : Option Expanded) (candidates : Candidates) (k : K) (j : J) → OneNode k j
-      → Answers One (rule_at naming same s (answer_by key same es) k mode candidates) (rule_at calling like s (answer_by also like fs) j mode candidates)
+      → Answers One (rule_at naming same s (source_by key same s es) k mode candidates) (rule_at calling like s (source_by also like s fs) j mode candidates)
   choice_alike mode candidates k j n =
-      let one = matching OneNode Same (answer_by key same es) (answer_by also like fs) no_globals no_globals 0 tree supplied_alike _ _
-      (chosen_match same like (λ a b c d g h. at_names key also (λ x y. same x b ≡ like y d)
-      (λ e f i. at_names key also (λ x y. same (key e) x ≡ like (also f) y) (λ v w j. told_alike key same also like apart apart_too i j) h) g)
-      s.units mode candidates s.rules.rules k j n) in
-      subst (λ o. Answers One (rule_at naming same s (answer_by key same es) k mode candidates) (rule_by calling s o)) (same_said one.0)
-      (rule_alike (outcome_of (answer_by key same es) no_globals (chosen same (context_for s.units k) k mode candidates s.rules.rules)))
+      let one = matching OneNode Same (source_by key same s es) (source_by also like s fs) no_globals no_globals 0 source supplied_alike _ _
+      (chosen_match same like tell_alike s.units mode candidates s.rules.rules k j n) in
+      subst (λ o. Answers One (rule_at naming same s (source_by key same s es) k mode candidates) (rule_by calling s o)) (same_said one.0)
+      (rule_alike (outcome_of (source_by key same s es) no_globals (choice.chosen same (context_for s.units k) k mode candidates s.rules.rules)))
 
   -- ---- all
   absent : (f : Entry L → Answer K) (g : Entry M → Answer J) {o : Option (Entry L)} {p : Option (Entry M)} → o ≡ None → p ≡ None
@@ -277,7 +320,7 @@ module _ {L M K J : Type 0} (key : Entry L → K) (same : K → K → Bool) (nam
   truths _ _ (places (in_source n)) = answers_wider (λ k j h. in_source h) (tree _ _ (places n))
   truths _ _ (places (in_module {p = p} h)) = no_entry p h _ _
   truths _ _ (orders ns) = some_nodes (each_picked _ _ alike (λ d g b. b) (λ d g b. any_alike ns d g b))
-  truths _ _ keys = some_nodes none
+  truths _ _ (keys {name = name} {text = text}) = answers_wider (λ k j h. in_source h) (keyed_alike name text)
   truths _ _ (choices {mode = mode} {candidates = candidates} (in_source n)) =
       at_names key also
       (λ x y. Answers One (truth_by key same naming s parameters es (question.Choice x mode candidates))

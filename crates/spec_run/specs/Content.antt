@@ -17,34 +17,54 @@ use Rattle.spec_meaning.specs.Stream.{Stream, filled}
 use Rattle.spec_meaning.specs.Value as value
 use Rattle.spec_meaning.specs.Value.{Value}
 use Rattle.spec_meaning.specs.Question as question
-use Rattle.spec_meaning.specs.Question.{Answer, AllRules, NamedTemplate, NamedSets, ResolvedUnit, nodes_in, text_in, local_in, uri_in, written_in}
-use Rattle.spec_meaning.specs.Program.{Program, Give, ◌>>=◌}
+use Rattle.spec_meaning.specs.Question.{Answer, AllRules, Imported, ChosenRule, NamedTemplate, NamedSets, ResolvedUnit, nodes_in, rule_in, text_in, local_in, uri_in, written_in}
+use Rattle.spec_meaning.specs.Program.{CurrentRule, Rule, current_in, Program, Give, ◌>>=◌}
 use Rattle.spec_meaning.specs.Context.{Context, Bound, binding_of}
 use Rattle.spec_meaning.specs.Convert.{to_text, to_boolean, to_nodes}
 use Rattle.spec_meaning.specs.Meaning.{meaning}
 use Rattle.spec_result.specs.Shape.{with_prefix}
 use Rattle.spec_transform.specs.Expansion.{expanded}
-use Rattle.spec_run.specs.Plan.{Refused, nowhere, Target, UnitOf, BuiltIn, Call, AsElement, AsComment, AsMessage, Plan, End, Yield, Stop, Inquire, Put, Begin, Wrap, Take, Deep, Enter, lift}
+use Rattle.spec_run.specs.Plan.{Refused, nowhere, Target, UnitOf, BuiltIn, Ruling, SameRule, RuleIs, Call, AsElement, AsComment, AsMessage, Plan, End, Yield, Stop, Inquire, Use, Put, Begin, Wrap, Take, Deep, Enter, lift}
 use Rattle.spec_run.specs.Names.{element_meant, attribute_meant, instruction_meant}
 use Rattle.spec_run.specs.Copy.{stream_in, without_attributes}
 
 -- where an instruction stands: the current node, its position and the size of its list, where they are not those of the instantiation, the
--- local variables, innermost first, the depth below the level of the instantiation, and what the names of the unit name
+-- local variables, innermost first, the depth below the level of the instantiation, whether its template rule is the current one, and what the
+-- names of the unit name
 pub record Here (N : Type 0) : Type 0 where
   pub node : N
   pub position : Option ℕ
   pub size : Option ℕ
   pub bindings : List (Bound N)
   pub depth : ℕ
+  pub ruled : Bool
   pub templates : List (NamedTemplate N)
   pub sets : List (NamedSets N)
 
 abbrev pub deeper : {N : Type 0} → Here N → Here N
-deeper h = record { node = h.node; position = h.position; size = h.size; bindings = h.bindings; depth = suc h.depth; templates = h.templates; sets = h.sets }
+deeper h = record {
+  node = h.node;
+  position = h.position;
+  size = h.size;
+  bindings = h.bindings;
+  depth = suc h.depth;
+  ruled = h.ruled;
+  templates = h.templates;
+  sets = h.sets;
+}
 
--- at one of the nodes of a loop
+-- at one of the nodes of a loop, where no template rule is the current one (section 5.6)
 abbrev pub at : {N : Type 0} → N → (position size : ℕ) → Here N → Here N
-at n p size h = record { node = n; position = Some p; size = Some size; bindings = h.bindings; depth = h.depth; templates = h.templates; sets = h.sets }
+at n p size h = record {
+  node = n;
+  position = Some p;
+  size = Some size;
+  bindings = h.bindings;
+  depth = h.depth;
+  ruled = false;
+  templates = h.templates;
+  sets = h.sets;
+}
 
 -- where one more local variable or parameter is in scope, which hides those of its name
 abbrev pub with_variable : {N : Type 0} → Expanded → Value N → Here N → Here N
@@ -54,6 +74,7 @@ with_variable name v h = record {
   size = h.size;
   bindings = record { name = name; value = v } ∷ h.bindings;
   depth = h.depth;
+  ruled = h.ruled;
   templates = h.templates;
   sets = h.sets;
 }
@@ -85,13 +106,25 @@ text_item text = stream.Text text stream.Ended
 
 -- ---- Template rules (section 5.4)
 
-abbrev pub target_by : {N : Type 0} → Option Expanded → List N → Target N
-target_by mode [] = BuiltIn mode
-target_by mode (element ∷ more) = UnitOf element
+-- what the rule of a node enters, and that rule as the current one
+abbrev pub target_by : {N : Type 0} → Option Expanded → Option (ChosenRule N) → Target N
+target_by mode None = BuiltIn mode
+target_by mode (Some rule) = UnitOf rule.element
+
+abbrev pub ruling_by : {N : Type 0} → Option Expanded → Option (ChosenRule N) → Ruling
+ruling_by mode None = RuleIs None
+ruling_by mode (Some rule) = RuleIs (Some (record { mode = mode; first = rule.first; last = rule.last }))
 
 abbrev pub rule_call : {N : Type 0} → Place → Option Expanded → (parameters : List (Bound N)) → (size : ℕ) → N → ℕ → Answer N → Call N
-rule_call by mode parameters size n p a =
-    record { target = target_by mode (nodes_in a); node = n; parameters = parameters; position = Some p; size = Some size; by = by }
+rule_call by mode parameters size n p a = record {
+  target = target_by mode (rule_in a);
+  node = n;
+  parameters = parameters;
+  position = Some p;
+  size = Some size;
+  ruling = ruling_by mode (rule_in a);
+  by = by;
+}
 
 -- the rule of one of so many nodes is entered, by this element and with these parameters
 abbrev pub applied : {N : Type 0} → Place → Option Expanded → (parameters : List (Bound N)) → (size depth : ℕ) → N → ℕ → Plan N → Plan N
@@ -101,15 +134,44 @@ applied by mode parameters size depth n p after =
 abbrev pub applied_to : {N : Type 0} → Place → Option Expanded → (parameters : List (Bound N)) → (depth : ℕ) → List N → Plan N → Plan N
 applied_to by mode parameters depth ns after = each (applied by mode parameters (length ns) depth) 1 ns after
 
--- ---- Named templates (section 6): position and size are those of the caller
+-- ---- The rules that the current one overrides (section 5.6): position and size stay, and nothing is passed
+
+abbrev pub imported_call : {N : Type 0} → Site → Here N → Option Expanded → Answer N → Call N
+imported_call site h mode a = record {
+  target = target_by mode (rule_in a);
+  node = h.node;
+  parameters = [];
+  position = h.position;
+  size = h.size;
+  ruling = ruling_by mode (rule_in a);
+  by = site.place;
+}
+
+abbrev pub no_current_rule : Place → Refused
+no_current_rule place = record { code = code.NoCurrentRule; place = place }
+
+-- in the mode of the current rule, of those that its stylesheet imports
+abbrev pub imports_applied : {N : Type 0} → Site → Here N → Option CurrentRule → Plan N → Plan N
+imports_applied site h None after = Stop (no_current_rule site.place)
+imports_applied site h (Some rule) after =
+    Inquire (question.Choice h.node rule.mode (Imported rule.first rule.last)) (λ a. Enter (imported_call site h rule.mode a) h.depth after)
+
+-- ---- Named templates (section 6): position, size and the current rule are those of the caller
 
 abbrev pub template_called : {N : Type 0} → Expanded → List (NamedTemplate N) → Option N
 template_called name [] = None
 template_called name (t ∷ ts) = if same_name t.name name then Some t.element else template_called name ts
 
 abbrev pub template_call : {N : Type 0} → Site → Here N → N → (parameters : List (Bound N)) → Call N
-template_call site h element parameters =
-    record { target = UnitOf element; node = h.node; parameters = parameters; position = h.position; size = h.size; by = site.place }
+template_call site h element parameters = record {
+  target = UnitOf element;
+  node = h.node;
+  parameters = parameters;
+  position = h.position;
+  size = h.size;
+  ruling = if h.ruled then SameRule else RuleIs None;
+  by = site.place;
+}
 
 -- the template of this element, where `passing` is what is passed to it
 abbrev pub called : {N : Type 0} → Site → Here N → (passing : (List (Bound N) → Plan N) → Plan N) → Option N → Plan N → Plan N
@@ -154,7 +216,8 @@ planned_without site h (made.Text text) after = Put (text_item text) after
 planned_without site h (made.ValueOf e) after = asked site h (text_meant e) (λ t. Put (text_item t) after)
 planned_without site h (made.CopyOf e) after = asked site h (meaning e) (λ v. value_copied v after)
 planned_without site h (made.Number numbering) after = Put stream.Ended after
-planned_without site h made.ApplyImports after = Put stream.Ended after
+planned_without site h made.ApplyImports after =
+    if h.ruled then Use Rule h.depth site.place (λ g. imports_applied site h (current_in g) after) else imports_applied site h None after
 planned_without site h made.Fallback after = Put stream.Ended after
 
 -- an xsl:copy of this node, of which this is its name, where `inside` is its content before what follows
@@ -250,7 +313,7 @@ abbrev mutual
 -- ---- Instantiations
 
 abbrev pub here_in : {N : Type 0} → N → ResolvedUnit N → Here N
-here_in n u = record { node = n; position = None; size = None; bindings = []; depth = 0; templates = u.templates; sets = u.sets }
+here_in n u = record { node = n; position = None; size = None; bindings = []; depth = 0; ruled = true; templates = u.templates; sets = u.sets }
 
 -- the parameters of a template, each seen by those after it: what was passed, or its default
 abbrev pub with_parameters : {N : Type 0} → Bindings → (given : List (Bound N)) → Here N → (Here N → Plan N) → Plan N

@@ -26,6 +26,11 @@ abbrev pub with_module : List ℕ → Plain → Documents → Documents
 with_module name nodes old =
     record { source = old.source; modules = λ other. if bytes_eq other name then Some nodes else old.modules other; parameters = old.parameters }
 
+-- without the module of this name
+abbrev pub without_module : List ℕ → Documents → Documents
+without_module name old =
+    record { source = old.source; modules = λ other. if bytes_eq other name then None else old.modules other; parameters = old.parameters }
+
 -- and with this value of the parameter of this name, in place of the one before
 abbrev pub with_parameter : List ℕ → List ℕ → Documents → Documents
 with_parameter name value old =

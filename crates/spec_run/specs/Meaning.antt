@@ -13,9 +13,9 @@ use Rattle.spec_meaning.specs.Value.{Value}
 use Rattle.spec_meaning.specs.Context.{Bound}
 use Rattle.spec_meaning.specs.Question as question
 use Rattle.spec_meaning.specs.Question.{Question, Answer, AllRules}
-use Rattle.spec_meaning.specs.Program.{Wanted, Position, Size, Global, Given, Counted, Valued}
+use Rattle.spec_meaning.specs.Program.{CurrentRule, Wanted, Position, Size, Rule, Global, Given, Counted, Ruled, Valued}
 use Rattle.spec_result.specs.Recovery.{messages_of}
-use Rattle.spec_run.specs.Plan.{Refused, nowhere, UnitOf, Call}
+use Rattle.spec_run.specs.Plan.{Refused, nowhere, UnitOf, Ruling, SameRule, RuleIs, Call}
 use Rattle.spec_run.specs.Direct.{quiet, Supplied, Known, Failed, Ending, Finished, Gave, Halted, Outcome, too_deep, direct}
 use Rattle.spec_run.specs.Content.{rule_call, plan_of}
 
@@ -51,9 +51,10 @@ held_by o = elim o.ending [
   | Halted why ↦ Failed why
 ]
 
--- the root is its only context
+-- the root is its only context, and there is no current rule
 abbrev pub global_call : {N : Type 0} → N → N → Place → Call N
-global_call root element by = record { target = UnitOf element; node = root; parameters = []; position = Some 1; size = Some 1; by = by }
+global_call root element by =
+    record { target = UnitOf element; node = root; parameters = []; position = Some 1; size = Some 1; ruling = RuleIs None; by = by }
 
 abbrev pub element_named : {N : Type 0} → Expanded → List (NamedGlobal N) → Option N
 element_named name [] = None
@@ -76,14 +77,23 @@ abbrev pub referred : {N : Type 0} → Setting N → (Past N → ℕ → Call N 
 referred s means past name depth place =
     refer name place past.values (list_any (same_name name) past.under) (evaluated s means past name depth place (element_named name s.globals))
 
+abbrev pub current_by : Ruling → Option CurrentRule
+current_by SameRule = None
+current_by (RuleIs rule) = rule
+
 abbrev pub supplied : {N : Type 0} → Call N → (Expanded → ℕ → Place → Supplied N) → Wanted → ℕ → Place → Supplied N
 supplied c globals Position depth place = Known (Counted (unwrap_or c.position 1))
 supplied c globals Size depth place = Known (Counted (unwrap_or c.size 1))
+supplied c globals Rule depth place = Known (Ruled (current_by c.ruling))
 supplied c globals (Global name) depth place = globals name depth place
 
 -- ---- Calls
 
--- a call that leaves position and size to the instantiation that enters it
+-- a call that leaves position, size or the current rule to the instantiation that enters it
+abbrev pub ruling_in : Ruling → Ruling → Ruling
+ruling_in outer SameRule = outer
+ruling_in outer (RuleIs rule) = RuleIs rule
+
 abbrev pub settled : {N : Type 0} → Call N → Call N → Call N
 settled outer c = record {
   target = c.target;
@@ -91,6 +101,7 @@ settled outer c = record {
   parameters = c.parameters;
   position = option_or c.position outer.position;
   size = option_or c.size outer.size;
+  ruling = ruling_in outer.ruling c.ruling;
   by = c.by;
 }
 
@@ -125,6 +136,7 @@ after_turn k told (Failed why) = record { content = stream.Ended; messages = tol
 
 abbrev pub value_of : {N : Type 0} → Given N → Value N
 value_of (Counted n) = value.Text []
+value_of (Ruled rule) = value.Text []
 value_of (Valued v) = v
 
 -- each global in its order, under way at its own turn, and then the call

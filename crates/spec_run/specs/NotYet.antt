@@ -1,5 +1,5 @@
--- What is not run yet, by one table: where such an element, or an element with such an attribute, stands in the principal module, that is
--- S90, the greatest code of the first pass.
+-- What is not run yet, by one table: where such an element, or an element with such an attribute, stands in a module, that is S90, the greatest
+-- code of the first pass.
 use Rattle.std.specs.Prelude.{ℕ, ◌+◌, Bool, true, false, ◌||◌, List, [], ◌∷◌, ◌++◌, Option, None, Some, is_some, codes, if◌then◌else◌}
 use Rattle.std.specs.Option.{option_or}
 use Rattle.spec_document.specs.Forest as forest
@@ -12,14 +12,8 @@ use Rattle.spec_structure.specs.Structure.{Fault}
 
 -- the table
 abbrev pub is_not_yet : XsltElement → Bool
-is_not_yet xsl.Import = true
-is_not_yet xsl.Include = true
-is_not_yet xsl.StripSpace = true
-is_not_yet xsl.PreserveSpace = true
-is_not_yet xsl.Key = true
 is_not_yet xsl.NamespaceAlias = true
 is_not_yet xsl.AttributeSet = true
-is_not_yet xsl.ApplyImports = true
 is_not_yet xsl.Sort = true
 is_not_yet xsl.Number = true
 is_not_yet _ = false

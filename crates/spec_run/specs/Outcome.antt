@@ -1,6 +1,6 @@
 -- What documents come to: the result of the stylesheet on the source, with the parameters, its output method and its messages, or why there is
 -- none, with the messages before it. Nothing but these bears on it: no number of a node, and nothing that was held before.
-use Rattle.std.specs.Prelude.{◌≡◌, ℕ, List, [], Option, None, Some, Result, Ok, Err}
+use Rattle.std.specs.Prelude.{◌≡◌, ℕ, List, [], ◌∷◌, Option, None, Some, Result, Ok, Err}
 use Rattle.spec_document.specs.Name.{Expanded}
 use Rattle.spec_document.specs.Forest.{Plain, Document}
 use Rattle.spec_expression.specs.declared.code.Code.{Code}
@@ -10,10 +10,11 @@ use Rattle.spec_stylesheet.specs.declared.method.Method.{Method}
 use Rattle.spec_stylesheet.specs.Place.{Place}
 use Rattle.spec_stylesheet.specs.Sheet.{Sheet}
 use Rattle.spec_structure.specs.Structure.{Fault}
-use Rattle.spec_structure.specs.Modules.{Modules}
+use Rattle.spec_structure.specs.Modules.{Modules, AreInReadingOrder}
 use Rattle.spec_compile.specs.Unit.{TopLevel}
 use Rattle.spec_compile.specs.Sheet as compile
 use Rattle.spec_compile.specs.Sheet.{earlier_of, fault_in, IsRead, refusal_at, IsSheet}
+use Rattle.spec_seen.specs.Seen.{seen}
 use Rattle.spec_result.specs.Shape.{shaped}
 use Rattle.spec_run.specs.Documents.{Parameters, Documents, main_name}
 use Rattle.spec_run.specs.Plan.{Refused, nowhere}
@@ -30,13 +31,29 @@ pub data Outcome : Type 0 where
   Done : (result : Plain) → (method : Option (Method Expanded)) → (messages : List (List ℕ)) → Outcome
   Failed : (why : Refusal) → (messages : List (List ℕ)) → Outcome
 
--- ---- The stylesheet: what is not run yet is a fault of the first pass of the principal module, which is the first in reading order
+-- ---- The stylesheet: what is not run yet is a fault of the first pass of the module in which it stands
 
-pub data IsStylesheet (modules : Modules) (main : List ℕ) (tree : Plain) : Result Sheet compile.Refusal → Type 0 where
-  faulty : {answer : Result (List TopLevel) Fault} {fault : Fault} → IsRead modules main answer
-      → earlier_of (fault_in answer) (not_yet_of 1 tree) ≡ Some fault → IsStylesheet modules main tree (Err (refusal_at main fault))
-  well : {answer : Result (List TopLevel) Fault} {result : Result Sheet compile.Refusal} → IsRead modules main answer
-      → earlier_of (fault_in answer) (not_yet_of 1 tree) ≡ None → IsSheet modules main result → IsStylesheet modules main tree result
+-- the first of the faults of a module, where what is not run yet is one
+pub record HasFault (modules : Modules) (name : List ℕ) (fault : Option Fault) : Type 0 where
+  pub tree : Plain
+  pub is : modules name ≡ Some tree
+  pub answer : Result (List TopLevel) Fault
+  pub reading : IsRead modules name answer
+  pub whole : fault ≡ earlier_of (fault_in answer) (not_yet_of 1 tree)
+
+-- of modules in this order, the first that has one
+pub data FirstRefusal (modules : Modules) : List (List ℕ) → Option compile.Refusal → Type 0 where
+  none_left : FirstRefusal modules [] None
+  here : {name : List ℕ} {names : List (List ℕ)} {fault : Fault} → HasFault modules name (Some fault)
+      → FirstRefusal modules (name ∷ names) (Some (refusal_at name fault))
+  later : {name : List ℕ} {names : List (List ℕ)} {refusal : Option compile.Refusal} → HasFault modules name None
+      → FirstRefusal modules names refusal → FirstRefusal modules (name ∷ names) refusal
+
+pub data IsStylesheet (modules : Modules) (main : List ℕ) : Result Sheet compile.Refusal → Type 0 where
+  faulty : {order : List (List ℕ)} {why : compile.Refusal} → AreInReadingOrder modules main order → FirstRefusal modules order (Some why)
+      → IsStylesheet modules main (Err why)
+  well : {order : List (List ℕ)} {result : Result Sheet compile.Refusal} → AreInReadingOrder modules main order → FirstRefusal modules order None
+      → IsSheet modules main result → IsStylesheet modules main result
 
 -- ---- The outcome
 
@@ -55,10 +72,11 @@ outcome_by method whole = elim whole.refusal [
   | Some why ↦ Failed (refused_dynamic why) whole.messages
 ]
 
--- a static refusal has no messages
+-- The run sees the source without the texts that the rules of the stylesheet strip. A static refusal has no messages
 abbrev pub outcome_of : Parameters → Plain → Result Sheet compile.Refusal → Outcome
 outcome_of parameters source (Err why) = Failed (refused_static why) []
-outcome_of parameters source (Ok sheet) = outcome_by sheet.method (run_of (setting_of sheet parameters (document_of source)))
+outcome_of parameters source (Ok sheet) =
+    outcome_by sheet.method (run_of (setting_of sheet parameters (seen sheet.space_rules.rules (document_of source))))
 
 -- S01: there is no module `main`; S02: there is no source
 abbrev pub no_main : Refusal
@@ -71,7 +89,7 @@ abbrev pub Comes : Modules → Parameters → Option Plain → Option Plain → 
 Comes modules parameters None source outcome = outcome ≡ Failed no_main []
 Comes modules parameters (Some main) None outcome = outcome ≡ Failed no_source []
 Comes modules parameters (Some main) (Some source) outcome =
-    (result : Result Sheet compile.Refusal) × IsStylesheet modules main_name main result × (outcome ≡ outcome_of parameters source result)
+    (result : Result Sheet compile.Refusal) × IsStylesheet modules main_name result × (outcome ≡ outcome_of parameters source result)
 
 -- the documents have this outcome
 abbrev pub IsOutcome : Documents → Outcome → Type 0

@@ -9,7 +9,7 @@ use Rattle.spec_meaning.specs.Stream.{Stream}
 use Rattle.spec_meaning.specs.Value.{Value}
 use Rattle.spec_meaning.specs.Context.{Bound}
 use Rattle.spec_meaning.specs.Question.{Question, Answer, Refusal, Here, At}
-use Rattle.spec_meaning.specs.Program.{Wanted, Given, Program, Give, Refuse, Ask, Need}
+use Rattle.spec_meaning.specs.Program.{CurrentRule, Wanted, Given, Program, Give, Refuse, Ask, Need}
 
 -- why a run ends: a code, and the element of the stylesheet where it stands; it stands at none where a built-in rule was to enter
 pub record Refused : Type 0 where
@@ -29,6 +29,12 @@ pub data Target (N : Type 0) : Type 0 where
   UnitOf : (element : N) → Target N
   BuiltIn : (mode : Option Expanded) → Target N
 
+-- the current template rule of what is entered (section 5.6): that of the instantiation that enters it; or this one, where it is none where
+-- there is no such rule
+pub data Ruling : Type 0 where
+  SameRule : Ruling
+  RuleIs : (rule : Option CurrentRule) → Ruling
+
 -- and with what
 pub record Call (N : Type 0) : Type 0 where
   pub target : Target N
@@ -38,6 +44,7 @@ pub record Call (N : Type 0) : Type 0 where
   -- where none is said, they are those of the instantiation that enters it
   pub position : Option ℕ
   pub size : Option ℕ
+  pub ruling : Ruling
   -- the element that enters it
   pub by : Place
 

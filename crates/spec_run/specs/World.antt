@@ -1,7 +1,7 @@
 -- The true answers of a stylesheet and a source to all questions. The nodes of the source are named by a key of the reader's choice, and so
 -- are the elements of the stylesheet: by their places, or by their numbers.
 use Rattle.std.specs.Prelude.{ℕ, Bool, true, false, ◌&&◌, List, [], ◌∷◌, ◌++◌, map, Option, None, Some, slice_get, bytes_eq, if◌then◌else◌}
-use Rattle.std.specs.List.{find, filter, flat_map}
+use Rattle.std.specs.List.{find, flat_map, list_any}
 use Rattle.spec_document.specs.Name.{Expanded, same_name}
 use Rattle.spec_document.specs.Forest.{Document}
 use Rattle.spec_document.specs.Place as document
@@ -11,11 +11,11 @@ use Rattle.spec_stylesheet.specs.Instruction.{Form, without_content, with_conten
 use Rattle.spec_stylesheet.specs.Sheet as sheet
 use Rattle.spec_stylesheet.specs.Sheet.{Sheet, Rule}
 use Rattle.spec_meaning.specs.Question as question
-use Rattle.spec_meaning.specs.Question.{Question, Answer, Gone, SomeNodes, Copied, Resolved, Passed, Candidates, NamedTemplate}
-use Rattle.spec_meaning.specs.Program.{Supply, Said, Gives, outcome_of}
-use Rattle.spec_meaning.specs.Supplies.{at_hand}
+use Rattle.spec_meaning.specs.Question.{Question, Answer, Gone, SomeNodes, Chosen, Copied, Resolved, Passed, Candidates, ChosenRule, NamedTemplate}
+use Rattle.spec_meaning.specs.Program.{Said, Gives, outcome_of}
 use Rattle.spec_meaning.specs.Truth.{answer_by, entry_named, told_of}
 use Rattle.spec_transform.specs.Choice.{context_for, chosen}
+use Rattle.spec_transform.specs.Key.{no_globals, keys_named, indexed, keyed}
 use Rattle.spec_run.specs.Documents.{Parameters}
 use Rattle.spec_run.specs.Copy.{copy_of}
 use Rattle.spec_run.specs.Meaning.{NamedGlobal, Setting}
@@ -86,7 +86,7 @@ abbrev pub is_element : stylesheet.Place → Option stylesheet.Place → Bool
 is_element place None = false
 is_element place (Some other) = same_element other place
 
--- of the globals of one name the last counts
+-- of the globals of one name the last counts. A module that is imported twice stands in the stylesheet twice, and so does what it declares
 abbrev pub counts : List sheet.Unit → sheet.Unit → Bool
 counts units u = elim u.declared [
   | sheet.AGlobal g ↦ is_element u.site.place (last_element (is_global g.binding.name) None units)
@@ -95,16 +95,21 @@ counts units u = elim u.declared [
   | sheet.AKey k ↦ false
 ]
 
--- those that count, in the order of the stylesheet
+-- those that count, each once, in the order of the stylesheet
 abbrev pub global_in : sheet.Declared → List Expanded
 global_in (sheet.AGlobal g) = g.binding.name ∷ []
 global_in (sheet.ATemplate t) = []
 global_in (sheet.ASet s) = []
 global_in (sheet.AKey k) = []
 
+-- the global of this name that a unit is, unless one of those after it is one too
+abbrev pub global_by : {K : Type 0} → (stylesheet.Place → K) → sheet.Unit → List sheet.Unit → Expanded → List (NamedGlobal K)
+global_by named u us name =
+    if list_any (λ later. is_global name later.declared) us then [] else record { name = name; element = named u.site.place } ∷ []
+
 abbrev pub globals_of : {K : Type 0} → (stylesheet.Place → K) → List sheet.Unit → List (NamedGlobal K)
-globals_of named units =
-    flat_map (λ u. map (λ name. record { name = name; element = named u.site.place }) (global_in u.declared)) (filter (counts units) units)
+globals_of named [] = []
+globals_of named (u ∷ us) = flat_map (global_by named u us) (global_in u.declared) ++ globals_of named us
 
 abbrev pub unit_by : {K : Type 0} → (stylesheet.Place → K) → List sheet.Unit → Option sheet.Unit → Answer K
 unit_by named units None = Gone
@@ -113,38 +118,50 @@ unit_by named units (Some u) = Resolved (record { unit = u; templates = template
 abbrev pub unit_at : {K : Type 0} → (stylesheet.Place → K) → (K → K → Bool) → List sheet.Unit → K → Answer K
 unit_at named same units element = unit_by named units (find (λ u. same element (named u.site.place)) units)
 
+-- ---- Keys
+
+-- the nodes that have a value in the keys of a name, where these are the answers of the source's tree and these are all its nodes in document order
+abbrev pub keyed_at : {K : Type 0} → (K → K → Bool) → List sheet.Unit → (Question K → Answer K) → List K → Expanded → List ℕ → Answer K
+keyed_at same units tree nodes name text = keyed same nodes text (outcome_of tree no_globals (indexed same (keys_named name units) nodes []))
+
+-- the answers of the source's tree and of its keys
+abbrev pub with_keys : {K : Type 0} → (K → K → Bool) → List sheet.Unit → (Question K → Answer K) → List K → Question K → Answer K
+with_keys same units tree nodes (question.Key name text) = keyed_at same units tree nodes name text
+with_keys same units tree nodes q = tree q
+
 -- ---- Rules, by the elements of their templates
 
--- where patterns are asked no global is at hand. Position and size are never asked of the run: a predicate has its own
-abbrev pub no_globals : {K : Type 0} → Supply K
-no_globals = at_hand (record { position = 1; size = 1; globals = [] }) 0
+abbrev pub chosen_in : {K : Type 0} → (stylesheet.Place → K) → Rule → Option sheet.Unit → Option (ChosenRule K)
+chosen_in named rule None = None
+chosen_in named rule (Some u) = Some (record { element = named u.site.place; first = rule.imported; last = rule.precedence })
 
-abbrev pub element_of_unit : {K : Type 0} → (stylesheet.Place → K) → Option sheet.Unit → List K
-element_of_unit named None = []
-element_of_unit named (Some u) = named u.site.place ∷ []
-
-abbrev pub element_of_rule : {K : Type 0} → (stylesheet.Place → K) → List sheet.Unit → Option Rule → List K
-element_of_rule named units None = []
-element_of_rule named units (Some rule) = element_of_unit named (slice_get units rule.unit)
+abbrev pub chosen_by : {K : Type 0} → (stylesheet.Place → K) → List sheet.Unit → Option Rule → Option (ChosenRule K)
+chosen_by named units None = None
+chosen_by named units (Some rule) = chosen_in named rule (slice_get units rule.unit)
 
 abbrev pub rule_by : {K : Type 0} → (stylesheet.Place → K) → Sheet → Said (Option ℕ) → Answer K
-rule_by named s (Gives (Some number)) = SomeNodes (element_of_rule named s.units (slice_get s.rules.rules number))
-rule_by named s _ = SomeNodes []
+rule_by named s (Gives (Some number)) = Chosen (chosen_by named s.units (slice_get s.rules.rules number))
+rule_by named s _ = Chosen None
 
--- the element of the template rule of a node, where these are the answers of the source; none where it is a built-in rule
+-- the template rule of a node, where these are the answers of the source; none where it is a built-in rule
 abbrev pub rule_at : {K : Type 0} → (stylesheet.Place → K) → (K → K → Bool) → Sheet → (Question K → Answer K) → K → Option Expanded → Candidates → Answer K
 rule_at named same s tree n mode candidates =
     rule_by named s (outcome_of tree no_globals (chosen same (context_for s.units n) n mode candidates s.rules.rules))
 
 -- ---- All
 
--- `key` names the nodes of the source by its entries, `named` the elements of the stylesheet by their places. Keys do not run yet
+-- the answers of the source by its entries
+abbrev pub source_by : {L K : Type 0} → (Entry L → K) → (K → K → Bool) → Sheet → List (Entry L) → Question K → Answer K
+source_by key same s entries = with_keys same s.units (answer_by key same entries) (map key entries)
+
+-- `key` names the nodes of the source by its entries, `named` the elements of the stylesheet by their places. Patterns may ask for keys, and keys
+-- ask for the tree alone
 abbrev pub truth_by : {L K : Type 0} → (Entry L → K) → (K → K → Bool) → (stylesheet.Place → K) → Sheet → Parameters → List (Entry L) → Question K → Answer K
 truth_by key same named s parameters entries (question.Copy n) = told_of (λ e. Copied (copy_of e.item)) (entry_named key same entries n)
 truth_by key same named s parameters entries (question.Choice n mode candidates) =
-    told_of (λ e. rule_at named same s (answer_by key same entries) n mode candidates) (entry_named key same entries n)
+    told_of (λ e. rule_at named same s (source_by key same s entries) n mode candidates) (entry_named key same entries n)
 truth_by key same named s parameters entries (question.Unit element) = unit_at named same s.units element
-truth_by key same named s parameters entries (question.Key name text) = SomeNodes []
+truth_by key same named s parameters entries (question.Key name text) = source_by key same s entries (question.Key name text)
 truth_by key same named s parameters entries (question.External name) = Passed (parameters name)
 truth_by key same named s parameters entries q = answer_by key same entries q
 
