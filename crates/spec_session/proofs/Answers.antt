@@ -16,10 +16,10 @@ use Rattle.spec_session.specs.Request.{DropModule, Insert, Delete, SetText, SetA
 use Rattle.spec_session.specs.Request.{SetParameter, Show, Write, Messages, Dump, Statistics, request_by, Words, is_text, is_taken, or_number, asked_by}
 use Rattle.spec_session.specs.Request.{words_of}
 use Rattle.spec_structure.specs.Modules.{is_among}
-use Rattle.spec_run.specs.Documents.{Documents, with_source, with_module, parameter_fault}
+use Rattle.spec_run.specs.Documents.{Documents, with_source, with_module, without_module, parameter_fault}
 use Rattle.spec_session.specs.Reply.{Reply}
 use Rattle.spec_session.specs.Machine.{State, initial, Step, Run, answer_of, answer_by, answer_to}
-use Rattle.spec_session.specs.Machine.{kept_by, given_by, with_document, edited_by, edited_in, shows, document_named}
+use Rattle.spec_session.specs.Machine.{kept_by, dropped_by, given_by, with_document, edited_by, edited_in, shows, document_named}
 use Rattle.spec_session.proofs.Steps.{AreFinite, IsOther, finite_after}
 use Rattle.spec_session.proofs.FaultNumbers.{FaultIsAbove, fault-above}
 use Rattle.spec_session.proofs.EditFaults.{edit-above}
@@ -37,6 +37,17 @@ finite_with name nodes old finite = record {
   all = λ other its e. with_one_more name other finite.names nodes its (old.modules other) (bytes_eq other name) (finite.all other its) e;
 }
 
+without_one : (other : List ℕ) (names : List (List ℕ)) (its : Plain) (before : Option Plain) (b : Bool)
+    → (before ≡ Some its → is_among other names ≡ true) → (if b then None else before) ≡ Some its → is_among other names ≡ true
+without_one other names its before true h e = absurd (cc)
+without_one other names its before false h e = h e
+
+finite_without : (name : List ℕ) (old : Documents) → AreFinite old → AreFinite (without_module name old)
+finite_without name old finite = record {
+  names = finite.names;
+  all = λ other its e. without_one other finite.names its (old.modules other) (bytes_eq other name) (finite.all other its) e;
+}
+
 finite_source : (nodes : Plain) (old : Documents) → AreFinite old → AreFinite (with_source nodes old)
 finite_source nodes old finite = record { names = finite.names; all = finite.all }
 
@@ -49,6 +60,10 @@ kept : (make : Plain → Documents → Documents) (old : State) (result : Result
     → ((nodes : Plain) → AreFinite (make nodes old.documents)) → IsOther (kept_by make old result)
 kept make old (Ok document) h finite = finite (plain document.nodes)
 kept make old (Err fault) h finite = h
+
+dropped : (name : List ℕ) (old : State) → AreFinite old.documents → (o : Option Plain) → IsOther (dropped_by name old o)
+dropped name old finite None = lit< tt
+dropped name old finite (Some tree) = finite_without name old.documents finite
 
 given : (name value : List ℕ) (old : State) → AreFinite old.documents → IsOther (given_by name value old (parameter_fault name value))
 given name value old finite = go (list_all is_char value) (is_ncname name)
@@ -80,7 +95,7 @@ to old finite (SetModule name body) =
     kept (with_module name) old _ (fault-above root_scope old.made body) (λ nodes. finite_with name nodes old.documents finite)
 to old finite Show = tt
 to old finite (Dump document) = shown (document_named old document)
-to old finite (DropModule name) = lit< tt
+to old finite (DropModule name) = dropped name old finite (old.documents.modules name)
 to old finite (Insert document path body) = edited old finite document (edits.Insert path body)
 to old finite (Delete document path) = edited old finite document (edits.Delete path)
 to old finite (SetText document path value) = edited old finite document (edits.SetText path value)

@@ -7,15 +7,15 @@ use Rattle.spec_document.specs.Character.{is_char, is_name_start, is_name_part}
 use Rattle.spec_document.specs.Forest.{Plain, Empty, Node, Element, Text, Comment, lines_of}
 use Rattle.spec_session.specs.declared.kinds.Ending.TheVariants.{Finished, Quit, Unfinished}
 use Rattle.spec_session.specs.Command.{session_of, status_of}
-use Rattle.spec_session.specs.Request.{Request, SetSource, SetModule, Insert, Delete, SetText, SetAttribute, RemoveAttribute, Rename}
+use Rattle.spec_session.specs.Request.{Request, SetSource, SetModule, DropModule, Insert, Delete, SetText, SetAttribute, RemoveAttribute, Rename}
 use Rattle.spec_session.specs.Request.{SetParameter, Write, Messages, Dump, SourceName, ModuleName, words_of, asked_by, request_of, path_of}
-use Rattle.spec_run.specs.Documents.{Documents, no_documents, with_source, with_parameter}
-use Rattle.spec_structure.specs.Modules.{no_fault}
-use Rattle.spec_run.specs.Outcome.{Failed, IsOutcome, faulty, no_main, no_source}
+use Rattle.spec_run.specs.Documents.{Documents, no_documents, with_source, with_module, without_module, with_parameter}
+use Rattle.spec_structure.specs.Modules.{reads, no_link, no_fault}
+use Rattle.spec_run.specs.Outcome.{Failed, IsOutcome, here, faulty, no_main, no_source}
 use Rattle.spec_expression.specs.declared.code.Code.TheVariants.{Static, Dynamic}
 use Rattle.spec_expression.specs.declared.code.StaticCode.TheVariants.{NoStylesheet}
 use Rattle.spec_expression.specs.declared.code.DynCode.TheVariants.{TooDeep}
-use Rattle.spec_session.specs.Machine.{State, initial, answer_to, Refuses, Changes, messages_reply}
+use Rattle.spec_session.specs.Machine.{State, initial, answer_to, Refuses, Changes, ShowsDocument, messages_reply}
 use Rattle.spec_session.specs.Reply.{OkRefused, Refused, Shown, Written, No, reply_bytes}
 
 -- a body goes up to a line `.`; empty lines between commands are skipped; `quit` ends the session
@@ -45,6 +45,10 @@ source_asks = refl
 pub module_asks : asks (codes "module lib.xsl") ≡ Ok (SetModule (codes "lib.xsl") [])
 unfolding chars is_utf8 encode
 module_asks = refl
+
+pub drop_asks : asks (codes "drop lib.xsl") ≡ Ok (DropModule (codes "lib.xsl"))
+unfolding chars is_utf8 encode
+drop_asks = refl
 
 pub dump_asks : asks (codes "dump source") ≡ Ok (Dump SourceName)
 unfolding chars is_utf8 encode
@@ -125,6 +129,11 @@ pub module_source : asks (codes "module source") ≡ Err 4
 unfolding chars is_utf8 encode
 module_source = refl
 
+-- the source is no module, and cannot be dropped
+pub drop_source : asks (codes "drop source") ≡ Err 4
+unfolding chars is_utf8 encode
+drop_source = refl
+
 pub quit_with_a_word : asks (codes "quit now") ≡ Err 4
 unfolding chars is_utf8 encode
 quit_with_a_word = refl
@@ -173,7 +182,40 @@ without_source = refl
 -- a module that is no stylesheet: there is nothing behind a comment
 pub other_main : IsOutcome (holding (Some (Node tt (Comment []) Empty Empty)) (Some (leaf (codes "a") (codes "b"))))
     (Failed (record { code = Static NoStylesheet; place = record { module_name = Some (codes "main"); path = 2 ∷ [] } }) [])
-other_main = (_, faulty (record { tree = _; is = refl; says = Ok []; reading = refl; link = None; links = no_fault; whole = refl }) refl, refl)
+other_main = (
+  _,
+  faulty (reads _ refl refl no_link)
+      (here (record {
+        tree = _;
+        is = refl;
+        answer = _;
+        reading = record { tree = _; is = refl; says = Ok []; reading = refl; link = None; links = no_fault; whole = refl };
+        whole = refl;
+      })),
+  refl,
+)
+
+-- ---- What is dropped
+
+-- two modules are held
+abbrev of_two_modules : Documents
+of_two_modules = with_module (codes "b") (leaf (codes "t") []) (with_module (codes "a") (leaf (codes "s") []) no_documents)
+
+pub drop_of_no_module : answer_to initial (DropModule (codes "lib")) ≡ Refuses 5
+drop_of_no_module = refl
+
+-- no node is made
+pub module_dropped : answer_to (record { documents = of_two_modules; made = 6 }) (DropModule (codes "a"))
+    ≡ Changes (record { documents = without_module (codes "a") of_two_modules; made = 6 })
+module_dropped = refl
+
+abbrev after_drop : State
+after_drop = record { documents = without_module (codes "a") of_two_modules; made = 6 }
+
+-- the other stays
+pub dropped_alone : answer_to after_drop (Dump (ModuleName (codes "a"))) ∷ answer_to after_drop (Dump (ModuleName (codes "b"))) ∷ []
+    ≡ Refuses 5 ∷ ShowsDocument (leaf (codes "t") []) ∷ []
+dropped_alone = refl
 
 -- ---- What a parameter comes to
 

@@ -13,7 +13,7 @@ use Rattle.spec_stylesheet.specs.declared.method.Method.{Method}
 use Rattle.spec_stylesheet.specs.declared.method.Method.TheVariants as method
 use Rattle.spec_session.specs.Command.{Command}
 use Rattle.spec_session.specs.Request.{DocumentName, SourceName, ModuleName, Request, SetSource, SetModule, DropModule, Insert, Delete, SetText, SetAttribute, RemoveAttribute, Rename, SetParameter, Show, Write, Messages, Dump, Statistics, request_of}
-use Rattle.spec_run.specs.Documents.{Documents, no_documents, with_source, with_module, with_parameter, parameter_fault}
+use Rattle.spec_run.specs.Documents.{Documents, no_documents, with_source, with_module, without_module, with_parameter, parameter_fault}
 use Rattle.spec_run.specs.Outcome.{Outcome, Done, Failed, IsOutcome}
 use Rattle.spec_session.specs.Reply.{Reply, OkDone, OkRefused, Refused, Shown, Written, No}
 
@@ -56,6 +56,11 @@ abbrev pub kept_by : (Plain → Documents → Documents) → State → Result (D
 kept_by with_document old (Err fault) = Refuses fault.number
 kept_by with_document old (Ok document) = Changes (kept_in with_document old document)
 
+-- the module of this name is no longer held, or there is none
+abbrev pub dropped_by : (name : List ℕ) → State → Option Plain → Answer
+dropped_by name old None = Refuses 5
+dropped_by name old (Some tree) = Changes (record { documents = without_module name old.documents; made = old.made })
+
 -- a parameter is given, or it may not be
 abbrev pub given_by : (name value : List ℕ) → State → Option ℕ → Answer
 given_by name value old (Some number) = Refuses number
@@ -82,6 +87,7 @@ shows (Some tree) = ShowsDocument tree
 abbrev pub answer_to : State → Request → Answer
 answer_to old (SetSource body) = kept_by with_source old (document_of root_scope old.made body)
 answer_to old (SetModule name body) = kept_by (with_module name) old (document_of root_scope old.made body)
+answer_to old (DropModule name) = dropped_by name old (old.documents.modules name)
 answer_to old (SetParameter name value) = given_by name value old (parameter_fault name value)
 answer_to old Show = ShowsResult
 answer_to old Write = WritesResult
@@ -94,7 +100,6 @@ answer_to old (SetAttribute document path name value) = edited_in old document (
 answer_to old (RemoveAttribute document path name) = edited_in old document (edits.RemoveAttribute path name)
 answer_to old (Rename document path name) = edited_in old document (edits.Rename path name)
 -- whatever else a command may ask is not taken: its word is no command
-answer_to old (DropModule name) = Refuses 3
 answer_to old Statistics = Refuses 3
 
 abbrev pub answer_by : State → Result Request ℕ → Answer

@@ -196,7 +196,7 @@ commands =
 abbrev pub taken_words : List (List ℕ)
 taken_words =
     codes "source" ∷ codes "module" ∷ codes "show" ∷ codes "dump" ∷ codes "quit" ∷ codes "write" ∷ codes "param" ∷ codes "messages"
-    ∷ codes "insert" ∷ codes "delete" ∷ codes "text" ∷ codes "attr" ∷ codes "unattr" ∷ codes "rename" ∷ []
+    ∷ codes "insert" ∷ codes "delete" ∷ codes "text" ∷ codes "attr" ∷ codes "unattr" ∷ codes "rename" ∷ codes "drop" ∷ []
 
 abbrev pub is_taken : List ℕ → Bool
 is_taken word = list_any (λ taken. bytes_eq word taken) taken_words
