@@ -2,6 +2,7 @@ pub mod Alike
 pub mod Bools
 pub mod Changed
 pub mod Joined
+pub mod Lost
 pub mod Paths
 pub mod Renumbered
 pub mod Apart

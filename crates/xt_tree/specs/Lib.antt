@@ -9,5 +9,6 @@ pub mod Room
 pub mod Step
 pub mod StreamView
 pub mod StreamCode
+pub mod Thinned
 pub mod ValueView
 pub mod View

@@ -24,6 +24,7 @@ mod remade;
 mod room;
 mod splice;
 mod table;
+mod thinned;
 mod value;
 
 pub use doc::{Doc, Nodes};

@@ -59,8 +59,8 @@ impl Doc {
         }
     }
 
-    // The same document.
-    fn copy(&self, alloc: Global) -> Result<Doc, Memory>
+    /// The same document, shared.
+    pub fn copy(&self, alloc: Global) -> Result<Doc, Memory>
         ensures { IfOk result (λ doc. doc ≡ self.now) }
     {
         let keys = self.keys.copy()?;
