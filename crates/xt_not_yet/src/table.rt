@@ -30,14 +30,8 @@ fn is_not_yet(element: XsltElement) -> bool
 {
     matches!(
         element,
-        XsltElement::Import
-            | XsltElement::Include
-            | XsltElement::StripSpace
-            | XsltElement::PreserveSpace
-            | XsltElement::Key
-            | XsltElement::NamespaceAlias
+        XsltElement::NamespaceAlias
             | XsltElement::AttributeSet
-            | XsltElement::ApplyImports
             | XsltElement::Sort
             | XsltElement::Number
     )

@@ -100,8 +100,8 @@ fn unprefixed<'a>(scope: &'a Scope, local: &'a str) -> Meaning<'a>
     }
 }
 
-/// What the name of an element means. None where it is no QName or its prefix is not declared.
-pub(crate) fn meaning_of<'a>(scope: &'a Scope, name: &'a str) -> Option<Meaning<'a>>
+/// What the name of an element means. None where it is no QName or its prefix is not declared. Takes no memory.
+pub fn meaning_of<'a>(scope: &'a Scope, name: &'a str) -> Option<Meaning<'a>>
     ensures { result ≡ option_and_then (declaration.element_name scope.now) (qname_of (chars name.now)) }
 {
     match QName::read(name) {

@@ -79,8 +79,8 @@ fn inside_with(
     })
 }
 
-// The namespaces in scope inside an element with these attributes.
-fn scope_within(alloc: Global, outer: &Scope, attributes: &[Written]) -> Result<Scope, Memory>
+/// The namespaces in scope inside an element with these attributes.
+pub fn scope_within(alloc: Global, outer: &Scope, attributes: &[Written]) -> Result<Scope, Memory>
     ensures { IfOk result (λ scope. scope ≡ declaration.declared_all (map written_of attributes.now) outer.now) }
 {
     let mut scope = outer.copy()?;
@@ -90,8 +90,8 @@ fn scope_within(alloc: Global, outer: &Scope, attributes: &[Written]) -> Result<
     Ok(scope)
 }
 
-// Whether white space is kept inside an element with these attributes.
-fn preserves_within(scope: &Scope, before: bool, attributes: &[Written]) -> bool
+/// Whether white space is kept inside an element with these attributes. Takes no memory.
+pub fn preserves_within(scope: &Scope, before: bool, attributes: &[Written]) -> bool
     ensures { result ≡ spec.space_by before (spec.value_of scope.now spec.space_name (map written_of attributes.now)) }
 {
     match space_in(scope, attributes) {

@@ -23,9 +23,11 @@ mod walk;
 
 pub use attributes::kind_named;
 pub use code::{after_role, is_left};
-pub use expanded::{Meaning, expanded_of, value_of};
+pub use expanded::{Meaning, expanded_of, meaning_of, value_of};
 pub use fault::{Fault, below};
-pub use inside::{Inside, Role, copies, inside_of, push_uris, role_of};
+pub use inside::{
+    Inside, Role, copies, inside_of, preserves_within, push_uris, role_of, scope_within,
+};
 pub use links::Link;
 pub use module::{Module, check};
 pub use names::element_named;
