@@ -1,0 +1,6 @@
+pub mod There
+pub mod Programs
+pub mod Entries
+pub mod Grouping
+pub mod Lookups
+pub mod Refs

@@ -1,0 +1,20 @@
+//! The keys of one name (XSLT 1.0, section 12.2): an index of the nodes that have a value in them. The keys are
+//! asked in the order of the stylesheet, each for all nodes, so what is refused first is the same, whichever
+//! value is sought. To find the nodes of a value then takes no memory and one look-up.
+//!
+//! ```text
+//! let nodes = all_nodes(alloc, &doc)?;
+//! let index = index(alloc, units, &name, nodes.as_slice(), &mut world)?;
+//! let found = index.find("rose");      // the nodes that have this value, in document order
+//! ```
+#![tactic(auto)]
+
+mod asking;
+mod filling;
+mod groups;
+mod nodes;
+mod values;
+
+pub use asking::index;
+pub use groups::KeyIndex;
+pub use nodes::all_nodes;
