@@ -1,5 +1,6 @@
 -- What questions, answers and contexts of the program stand for.
 use Rattle.std.specs.Prelude.{List, [], ◌∷◌, map}
+use Rattle.std.specs.Option.{option_map}
 use Rattle.spec_meaning.specs.Question as plain
 use Rattle.spec_meaning.specs.Program as program
 use Rattle.spec_meaning.specs.Context as context
@@ -13,6 +14,7 @@ use Rattle.xt_ask.specs.declared.question.Candidates.{Candidates}
 use Rattle.xt_ask.specs.declared.question.Candidates.TheVariants as candidates
 use Rattle.xt_ask.specs.declared.question.Question.{Question}
 use Rattle.xt_ask.specs.declared.question.Question.TheVariants as questions
+use Rattle.xt_ask.specs.declared.question.CurrentRule.{CurrentRule}
 use Rattle.xt_ask.specs.declared.question.Wanted.{Wanted}
 use Rattle.xt_ask.specs.declared.question.Wanted.TheVariants as wanted
 use Rattle.xt_ask.specs.declared.question.Given.{Given}
@@ -20,6 +22,7 @@ use Rattle.xt_ask.specs.declared.question.Given.TheVariants as given
 use Rattle.xt_ask.specs.declared.answer.NamedTemplate.{NamedTemplate}
 use Rattle.xt_ask.specs.declared.answer.NamedSets.{NamedSets}
 use Rattle.xt_ask.specs.declared.answer.ResolvedUnit.{ResolvedUnit}
+use Rattle.xt_ask.specs.declared.answer.ChosenRule.{ChosenRule}
 use Rattle.xt_ask.specs.declared.answer.Answer.{Answer}
 use Rattle.xt_ask.specs.declared.answer.Answer.TheVariants as answers
 use Rattle.xt_names.specs.View.{entry_of}
@@ -66,23 +69,32 @@ sets_of s = record { name = s.name; elements = s.elements.items }
 abbrev pub resolved_of : ResolvedUnit → plain.ResolvedUnit NodeRef
 resolved_of u = record { unit = unit_of u.unit.value; templates = map template_of u.templates.items; sets = map sets_of u.sets.items; counts = u.counts }
 
+abbrev pub chosen_of : ChosenRule → plain.ChosenRule NodeRef
+chosen_of r = record { element = r.element; first = r.first; last = r.last }
+
 abbrev pub answer_of : Answer → plain.Answer NodeRef
 answer_of answers.Gone = plain.Gone
 answer_of (answers.Refused why) = plain.Refused (refusal_of why)
 answer_of (answers.Nodes nodes) = plain.SomeNodes nodes.items
 answer_of (answers.Text text) = plain.SomeText text
 answer_of (answers.Named kind name written) = plain.Named kind name written
+answer_of (answers.Chosen rule) = plain.Chosen (option_map chosen_of rule)
 answer_of (answers.Copied copy) = plain.Copied copy
 answer_of (answers.Resolved unit) = plain.Resolved (resolved_of unit.value)
 answer_of (answers.Passed value) = plain.Passed value
 
+abbrev pub current_of : CurrentRule → program.CurrentRule
+current_of r = record { mode = r.mode; first = r.first; last = r.last }
+
 abbrev pub wanted_of : Wanted → program.Wanted
 wanted_of wanted.Position = program.Position
 wanted_of wanted.Size = program.Size
+wanted_of wanted.Rule = program.Rule
 wanted_of (wanted.Global name) = program.Global name
 
 abbrev pub given_of : Given → program.Given NodeRef
 given_of (given.Counted number) = program.Counted number
+given_of (given.Ruled rule) = program.Ruled (option_map current_of rule)
 given_of (given.Valued value) = program.Valued (value_of value)
 
 abbrev pub read_of : Read → program.Read NodeRef
@@ -119,4 +131,4 @@ abbrev pub known_of : Known → supplies.Known NodeRef
 known_of k = record { name = k.name; depth = k.depth; value = value_of k.value }
 
 abbrev pub supplies_of : Supplies → supplies.Supplies NodeRef
-supplies_of s = record { position = s.position; size = s.size; globals = map known_of s.globals.items }
+supplies_of s = record { position = s.position; size = s.size; rule = option_map current_of s.rule; globals = map known_of s.globals.items }

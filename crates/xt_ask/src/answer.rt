@@ -51,6 +51,16 @@ impl ResolvedUnit {
     }
 }
 
+/// A template rule, by the node of the element of its template.
+#[derive(Clone, Copy, Debug, PartialEq, Eq)]
+pub struct ChosenRule {
+    pub element: NodeRef,
+    /// Its stylesheet imports what has an import precedence from this one on,
+    pub first: u64,
+    /// and below this one.
+    pub last: u64,
+}
+
 /// An answer to a question.
 #[derive(Drop)]
 pub enum Answer {
@@ -58,12 +68,14 @@ pub enum Answer {
     Gone,
     /// An xsl:key is refused.
     Refused(Refusal),
-    /// To a step, an order, a key or a choice, whose node is the element of the template rule.
+    /// To a step, an order or a key.
     Nodes(Vec<NodeRef>),
     /// To a text or a place.
     Text(Text),
     /// The kind of a node, its expanded name and its name as it is written.
     Named(Kind, Option<Expanded>, Text),
+    /// The template rule of a node; none where it is a built-in rule.
+    Chosen(Option<ChosenRule>),
     /// The copy of a node.
     Copied(Fragment),
     /// A unit of the stylesheet.
@@ -75,8 +87,9 @@ pub enum Answer {
 impl Answer {
     ghost use Rattle.std.specs.Prelude.{◌≡◌, IfOk};
     ghost use Rattle.std.specs.Bool.{Decides};
-    ghost use Rattle.spec_meaning.specs.Question.{nodes_in, text_in};
-    ghost use Rattle.xt_ask.specs.View.{answer_of};
+    ghost use Rattle.std.specs.Option.{option_map};
+    ghost use Rattle.spec_meaning.specs.Question.{nodes_in, rule_in, text_in};
+    ghost use Rattle.xt_ask.specs.View.{answer_of, chosen_of};
 
     /// The same answer. Copied nodes and units are shared, all else is in memory of its own.
     pub fn copy(&self, alloc: Global) -> Result<Answer, Memory>
@@ -91,6 +104,7 @@ impl Answer {
                 let name = copy_name_if(alloc, name)?;
                 Ok(Answer::Named(*kind, name, written.copy(alloc)?))
             }
+            Answer::Chosen(rule) => Ok(Answer::Chosen(*rule)),
             Answer::Copied(copy) => Ok(Answer::Copied(Fragment::new(copy.items().clone()?))),
             Answer::Resolved(unit) => Ok(Answer::Resolved(unit.clone()?)),
             Answer::Passed(value) => Ok(Answer::Passed(copy_text_if(alloc, value)?)),
@@ -111,6 +125,7 @@ impl Answer {
             (Answer::Named(kind, name, written), Answer::Named(other_kind, other, others)) => {
                 Ok(kind == other_kind && same_name_if(name, other) && written.same(others))
             }
+            (Answer::Chosen(rule), Answer::Chosen(other)) => Ok(rule == other),
             (Answer::Copied(copy), Answer::Copied(other)) => {
                 same_streams(alloc, copy.items(), other.items())
             }
@@ -127,6 +142,16 @@ impl Answer {
         match self {
             Answer::Nodes(nodes) => nodes,
             _ => Vec::new(alloc),
+        }
+    }
+
+    /// The template rule of the answer, and none where it is of another kind. Takes no memory.
+    pub fn into_rule(self) -> Option<ChosenRule>
+        ensures { option_map chosen_of result ≡ rule_in (answer_of self) }
+    {
+        match self {
+            Answer::Chosen(rule) => rule,
+            _ => None,
         }
     }
 

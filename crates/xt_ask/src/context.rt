@@ -5,7 +5,7 @@ ghost use Rattle.spec_meaning.specs.Context.{binding_of};
 ghost use Rattle.xt_tree.specs.ValueView.{value_of};
 ghost use Rattle.xt_ask.specs.View.{bindings_of};
 
-use crate::copy_value;
+use crate::{CurrentRule, copy_value};
 use std::alloc::Global;
 use std::rc::Rc;
 use xt_names::{Expanded, Scope};
@@ -96,5 +96,7 @@ pub struct Known {
 pub struct Supplies {
     pub position: u64,
     pub size: u64,
+    /// The current template rule; none where there is none.
+    pub rule: Option<CurrentRule>,
     pub globals: Vec<Known>,
 }

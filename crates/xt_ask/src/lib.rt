@@ -21,7 +21,7 @@ mod question;
 mod read;
 mod world;
 
-pub use answer::{Answer, NamedSets, NamedTemplate, ResolvedUnit};
+pub use answer::{Answer, ChosenRule, NamedSets, NamedTemplate, ResolvedUnit};
 pub use ask::{ask_nodes, ask_order, ask_text};
 pub use context::{Binding, Bindings, Context, Focus, Known, Supplies};
 pub use copies::{copy_name, copy_name_if, copy_place, copy_test, copy_value};
@@ -29,6 +29,6 @@ pub use evaluate::Evaluate;
 pub use fault::{EvalFault, Refusal};
 pub use hold::holds;
 pub use logged::Logged;
-pub use question::{Candidates, Given, Question, Wanted};
+pub use question::{Candidates, CurrentRule, Given, Question, Wanted, copy_rule_if};
 pub use read::Read;
 pub use world::World;

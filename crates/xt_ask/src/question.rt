@@ -1,4 +1,8 @@
 // Questions to a world, and what is needed of a run.
+ghost use Rattle.std.specs.Prelude.{◌≡◌, IfOk};
+ghost use Rattle.std.specs.Option.{option_map};
+ghost use Rattle.xt_ask.specs.View.{current_of};
+
 use crate::copies::copy_name_if;
 use crate::{copy_name, copy_test, copy_value};
 use spec_document::Axis;
@@ -42,6 +46,16 @@ pub enum Question {
     External(Text),
 }
 
+/// The current template rule (XSLT 1.0, section 5.6), as xsl:apply-imports asks for it.
+#[derive(Drop)]
+pub struct CurrentRule {
+    pub mode: Option<Expanded>,
+    /// Its stylesheet imports what has an import precedence from this one on,
+    pub first: u64,
+    /// and below this one.
+    pub last: u64,
+}
+
 /// What is needed of the run of an instantiation, and not of the world.
 #[derive(Drop)]
 pub enum Wanted {
@@ -49,6 +63,8 @@ pub enum Wanted {
     Position,
     /// The size of the list that it stands in.
     Size,
+    /// The current template rule.
+    Rule,
     /// The value of a global variable or parameter.
     Global(Expanded),
 }
@@ -58,6 +74,8 @@ pub enum Wanted {
 pub enum Given {
     /// A position or size.
     Counted(u64),
+    /// The current template rule; none where there is none.
+    Ruled(Option<CurrentRule>),
     /// The value of a global.
     Valued(Value),
 }
@@ -94,6 +112,35 @@ impl Question {
     }
 }
 
+impl CurrentRule {
+    ghost use Rattle.std.specs.Prelude.{◌≡◌, IfOk};
+    ghost use Rattle.xt_ask.specs.View.{current_of};
+
+    /// The same, in memory of its own.
+    pub fn copy(&self, alloc: Global) -> Result<CurrentRule, Memory>
+        ensures { IfOk result (λ r. current_of r ≡ current_of self.now) }
+    {
+        Ok(CurrentRule {
+            mode: copy_name_if(alloc, &self.mode)?,
+            first: self.first,
+            last: self.last,
+        })
+    }
+}
+
+/// The same rule, where there is one, in memory of its own.
+pub fn copy_rule_if(
+    alloc: Global,
+    rule: &Option<CurrentRule>,
+) -> Result<Option<CurrentRule>, Memory>
+    ensures { IfOk result (λ r. option_map current_of r ≡ option_map current_of rule.now) }
+{
+    match rule {
+        None => Ok(None),
+        Some(rule) => Ok(Some(rule.copy(alloc)?)),
+    }
+}
+
 impl Wanted {
     ghost use Rattle.std.specs.Prelude.{◌≡◌, IfOk};
     ghost use Rattle.xt_ask.specs.View.{wanted_of};
@@ -105,6 +152,7 @@ impl Wanted {
         match self {
             Wanted::Position => Ok(Wanted::Position),
             Wanted::Size => Ok(Wanted::Size),
+            Wanted::Rule => Ok(Wanted::Rule),
             Wanted::Global(name) => Ok(Wanted::Global(copy_name(alloc, name)?)),
         }
     }
@@ -122,17 +170,19 @@ impl Given {
     {
         match self {
             Given::Counted(number) => Ok(Given::Counted(*number)),
+            Given::Ruled(rule) => Ok(Given::Ruled(copy_rule_if(alloc, rule)?)),
             Given::Valued(value) => Ok(Given::Valued(copy_value(alloc, value)?)),
         }
     }
 
-    /// The value of a global, and the empty text where a number was given. Takes no memory.
+    /// The value of a global, and the empty text where something else was given. Takes no memory.
     pub fn into_value(self, alloc: Global) -> Value
         ensures { value_of result ≡ value_in (given_of self) }
     {
         match self {
             Given::Valued(value) => value,
             Given::Counted(_) => Value::Text(Text::new(alloc)),
+            Given::Ruled(_) => Value::Text(Text::new(alloc)),
         }
     }
 }

@@ -8,6 +8,7 @@ use Rattle.spec_meaning.specs.Value.{Value}
 use Rattle.spec_meaning.specs.Supplies.{Supplies}
 use Rattle.spec_run.specs.Plan.{Refused, Call, Plan}
 use Rattle.spec_run.specs.Going.{Going, at_start, opened, given}
+use Rattle.spec_run.specs.Meaning.{current_by}
 use Rattle.spec_run.specs.Content.{plan_of}
 use Rattle.xt_tree.specs.declared.node_ref.NodeRef.{NodeRef}
 
@@ -35,7 +36,7 @@ pub record Progress : Type 0 where
   pub room : ℕ
 
 abbrev pub supplies_for : {N : Type 0} → Call N → Supplies N
-supplies_for c = record { position = unwrap_or c.position 1; size = unwrap_or c.size 1; globals = [] }
+supplies_for c = record { position = unwrap_or c.position 1; size = unwrap_or c.size 1; rule = current_by c.ruling; globals = [] }
 
 abbrev pub started : Call NodeRef → ℕ → Progress
 started c room = record { left = plan_of c; going = at_start; supplies = supplies_for c; waits = ForNothing; room = room }
@@ -47,7 +48,7 @@ pub data Start (N : Type 0) : Type 0 where
 
 abbrev pub supplied_with : {N : Type 0} → Expanded → ℕ → Value N → Supplies N → Supplies N
 supplied_with name depth value s =
-    record { position = s.position; size = s.size; globals = s.globals ++ record { name = name; depth = depth; value = value } ∷ [] }
+    record { position = s.position; size = s.size; rule = s.rule; globals = s.globals ++ record { name = name; depth = depth; value = value } ∷ [] }
 
 -- a global that needs itself is refused where it refers to itself
 abbrev pub circular : Place → Refused

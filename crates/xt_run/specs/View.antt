@@ -1,5 +1,6 @@
 -- What calls, events, wrappings and globals of the program stand for.
 use Rattle.std.specs.Prelude.{map}
+use Rattle.std.specs.Option.{option_map}
 use Rattle.spec_stylesheet.specs.Place.{Place}
 use Rattle.spec_run.specs.Plan as plain
 use Rattle.spec_run.specs.Direct.{Known}
@@ -9,10 +10,12 @@ use Rattle.xp_syntax.specs.PartView.{place_of}
 use Rattle.xt_names.specs.View.{entry_of}
 use Rattle.xt_tree.specs.declared.node_ref.NodeRef.{NodeRef}
 use Rattle.xt_tree.specs.StreamView.{streams_of}
-use Rattle.xt_ask.specs.View.{question_of, answer_of, wanted_of, given_of, bindings_of}
+use Rattle.xt_ask.specs.View.{question_of, answer_of, wanted_of, given_of, bindings_of, current_of}
 use Rattle.xt_run.specs.declared.call.Refused.{Refused}
 use Rattle.xt_run.specs.declared.call.Target.{Target}
 use Rattle.xt_run.specs.declared.call.Target.TheVariants as targets
+use Rattle.xt_run.specs.declared.call.Ruling.{Ruling}
+use Rattle.xt_run.specs.declared.call.Ruling.TheVariants as rulings
 use Rattle.xt_run.specs.declared.call.Call.{Call}
 use Rattle.xt_run.specs.declared.event.Event.{Event}
 use Rattle.xt_run.specs.declared.event.Event.TheVariants as events
@@ -27,6 +30,10 @@ abbrev pub target_of : Target → plain.Target NodeRef
 target_of (targets.Unit element) = plain.UnitOf element
 target_of (targets.BuiltIn mode) = plain.BuiltIn mode
 
+abbrev pub ruling_of : Ruling → plain.Ruling
+ruling_of rulings.Same = plain.SameRule
+ruling_of (rulings.Is rule) = plain.RuleIs (option_map current_of rule)
+
 abbrev pub call_of : Call → plain.Call NodeRef
 call_of c = record {
   target = target_of c.target;
@@ -34,6 +41,7 @@ call_of c = record {
   parameters = bindings_of c.parameters;
   position = c.position;
   size = c.size;
+  ruling = ruling_of c.ruling;
   by = place_of c.by;
 }
 

@@ -1,7 +1,7 @@
 // What is entered, and why a run ends.
 use spec_expression::DynCode;
 use std::alloc::Global;
-use xt_ask::{Bindings, copy_name_if, copy_place};
+use xt_ask::{Bindings, CurrentRule, copy_name_if, copy_place, copy_rule_if};
 use xt_base::Place;
 use xt_names::Expanded;
 use xt_text::Memory;
@@ -39,6 +39,15 @@ pub enum Target {
     BuiltIn(Option<Expanded>),
 }
 
+/// The current template rule of what is entered (XSLT 1.0, section 5.6).
+#[derive(Drop)]
+pub enum Ruling {
+    /// That of the instantiation that enters it.
+    Same,
+    /// This one; none where there is no such rule.
+    Is(Option<CurrentRule>),
+}
+
 /// What is entered, and with what.
 #[derive(Drop)]
 pub struct Call {
@@ -50,6 +59,7 @@ pub struct Call {
     pub position: Option<u64>,
     /// Where there is none, it is that of the instantiation that enters it.
     pub size: Option<u64>,
+    pub ruling: Ruling,
     /// The element that enters it.
     pub by: Place,
 }
@@ -69,6 +79,21 @@ impl Target {
     }
 }
 
+impl Ruling {
+    ghost use Rattle.std.specs.Prelude.{◌≡◌, IfOk};
+    ghost use Rattle.xt_run.specs.View.{ruling_of};
+
+    /// The same, in memory of its own.
+    pub fn copy(&self, alloc: Global) -> Result<Ruling, Memory>
+        ensures { IfOk result (λ r. ruling_of r ≡ ruling_of self.now) }
+    {
+        match self {
+            Ruling::Same => Ok(Ruling::Same),
+            Ruling::Is(rule) => Ok(Ruling::Is(copy_rule_if(alloc, rule)?)),
+        }
+    }
+}
+
 impl Call {
     ghost use Rattle.std.specs.Prelude.{◌≡◌, IfOk};
     ghost use Rattle.xt_run.specs.View.{call_of};
@@ -79,6 +104,7 @@ impl Call {
     {
         let target = self.target.copy(alloc)?;
         let parameters = self.parameters.share()?;
+        let ruling = self.ruling.copy(alloc)?;
         let by = copy_place(alloc, &self.by)?;
         Ok(Call {
             target,
@@ -86,6 +112,7 @@ impl Call {
             parameters,
             position: self.position,
             size: self.size,
+            ruling,
             by,
         })
     }

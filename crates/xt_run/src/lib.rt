@@ -17,7 +17,7 @@ mod global;
 mod turn;
 mod wrapping;
 
-pub use call::{Call, Refused, Target};
+pub use call::{Call, Refused, Ruling, Target};
 pub use engine::Engine;
 pub use event::{Event, Ran};
 pub use global::NamedGlobal;
