@@ -6,12 +6,12 @@ use Rattle.std.proofs.lemmas.Bool.Decides.{nat_tests}
 use Rattle.spec_document.specs.Name.{Expanded, same_name}
 use Rattle.spec_stylesheet.specs.Place.{Place}
 use Rattle.spec_meaning.specs.Value.{Value}
-use Rattle.spec_meaning.specs.Program.{Wanted, Position, Size, Global, Given, Counted, Valued}
+use Rattle.spec_meaning.specs.Program.{Wanted, Position, Size, Rule, Global, Given, Counted, Ruled, Valued}
 use Rattle.spec_meaning.specs.Supplies as supplies
 use Rattle.spec_meaning.specs.Supplies.{Supplies, found, at_hand}
 use Rattle.spec_run.specs.Plan.{Call}
 use Rattle.spec_run.specs.Direct.{Supplied, Known}
-use Rattle.spec_run.specs.Meaning.{supplied}
+use Rattle.spec_run.specs.Meaning.{current_by, supplied}
 use Rattle.xt_run.specs.Progress.{supplies_for, supplied_with}
 use Rattle.xt_drive.specs.Stands.{Agrees}
 
@@ -44,6 +44,7 @@ own_name a = both_true (bytes_eq a.uri a.uri) (bytes_eq a.local a.local) ((bytes
 pub agrees_begun : {N : Type 0} (c : Call N) (globals : Expanded → ℕ → Place → Supplied N) → Agrees (supplied c globals) (at_hand (supplies_for c))
 agrees_begun c globals Position d l x e = let f : Counted (unwrap_or c.position 1) ≡ x = cc in ap (λ y. Known y) f
 agrees_begun c globals Size d l x e = let f : Counted (unwrap_or c.size 1) ≡ x = cc in ap (λ y. Known y) f
+agrees_begun c globals Rule d l x e = let f : Ruled (current_by c.ruling) ≡ x = cc in ap (λ y. Known y) f
 agrees_begun c globals (Global name) d l x e = absurd (cc)
 
 -- ---- One more
@@ -88,11 +89,13 @@ found_last name d v (l ∷ ks) h = go (same_name l.name name && nat_le d l.depth
 pub hand_more : {N : Type 0} (s : Supplies N) (name : Expanded) (d : ℕ) (v : Value N) → (e : ℕ) (w : Wanted) (u : Given N) → at_hand s e w ≡ Some u → at_hand (supplied_with name d v s) e w ≡ Some u
 hand_more s name d v e Position u h = h
 hand_more s name d v e Size u h = h
+hand_more s name d v e Rule u h = h
 hand_more s name d v e (Global other) u h = found_first other e s.globals (record { name = name; depth = d; value = v }) u h
 
 pub agrees_with : {N : Type 0} (c : Call N) (globals : Expanded → ℕ → Place → Supplied N) (s : Supplies N) (name : Expanded) (d : ℕ) (v : Value N)
     → ((e : ℕ) (l : Place) → e ≤ d → globals name e l ≡ Known (Valued v)) → Agrees (supplied c globals) (at_hand s) → Agrees (supplied c globals) (at_hand (supplied_with name d v s))
 agrees_with c globals s name d v f a Position e l u h = a Position e l u h
 agrees_with c globals s name d v f a Size e l u h = a Size e l u h
+agrees_with c globals s name d v f a Rule e l u h = a Rule e l u h
 agrees_with c globals s name d v f a (Global other) e l u h =
     found_agrees other e (globals other e l) s.globals (record { name = name; depth = d; value = v }) u (λ x t. a (Global other) e l x t) (λ same k. ap (λ m. globals m e l) (sym same) ∙ f e l k) h

@@ -1,18 +1,19 @@
 // Calls that a driver makes.
 ghost use Rattle.std.specs.Prelude.{◌≡◌, [], IfOk, None};
-ghost use Rattle.std.specs.Option.{option_or};
+ghost use Rattle.std.specs.Option.{option_map, option_or};
 ghost use Rattle.spec_meaning.specs.Question.{AllRules};
 ghost use Rattle.spec_meaning.specs.Question as asked;
 ghost use Rattle.spec_run.specs.Plan.{nowhere};
-ghost use Rattle.spec_run.specs.Content.{rule_call, target_by};
-ghost use Rattle.spec_run.specs.Meaning.{global_call, settled};
+ghost use Rattle.spec_run.specs.Content.{rule_call, target_by, ruling_by};
+ghost use Rattle.spec_run.specs.Meaning.{global_call, ruling_in, settled};
 ghost use Rattle.xp_syntax.specs.PartView.{place_of};
-ghost use Rattle.xt_run.specs.View.{call_of, target_of};
+ghost use Rattle.xt_ask.specs.View.{chosen_of};
+ghost use Rattle.xt_run.specs.View.{call_of, ruling_of, target_of};
 
 use std::alloc::Global;
-use xt_ask::{Bindings, Candidates, Question, World};
+use xt_ask::{Bindings, Candidates, ChosenRule, CurrentRule, Question, World};
 use xt_base::Place;
-use xt_run::{Call, Target};
+use xt_run::{Call, Ruling, Target};
 use xt_text::{Memory, Path};
 use xt_tree::NodeRef;
 
@@ -26,9 +27,20 @@ fn or_outer(inner: Option<u64>, outer: Option<u64>) -> Option<u64>
     }
 }
 
-/// The call as it is entered from another one, which gives it the position and the size that it has not said.
-pub fn settled(outer: &Call, inner: Call) -> Call
-    ensures { call_of result ≡ settled (call_of outer.now) (call_of inner) }
+// The current rule of what is entered: its own, where it has said one.
+fn ruling_in(alloc: Global, outer: &Ruling, inner: Ruling) -> Result<Ruling, Memory>
+    ensures { IfOk result (λ r. ruling_of r ≡ ruling_in (ruling_of outer.now) (ruling_of inner)) }
+{
+    match inner {
+        Ruling::Same => outer.copy(alloc),
+        Ruling::Is(rule) => Ok(Ruling::Is(rule)),
+    }
+}
+
+/// The call as it is entered from another one, which gives it the position, the size and the current rule that it
+/// has not said.
+pub fn settled(alloc: Global, outer: &Call, inner: Call) -> Result<Call, Memory>
+    ensures { IfOk result (λ c. call_of c ≡ settled (call_of outer.now) (call_of inner)) }
 {
     let Call {
         target,
@@ -36,19 +48,22 @@ pub fn settled(outer: &Call, inner: Call) -> Call
         parameters,
         position,
         size,
+        ruling,
         by,
     } = inner;
-    Call {
+    let ruling = ruling_in(alloc, &outer.ruling, ruling)?;
+    Ok(Call {
         target,
         node,
         parameters,
         position: or_outer(position, outer.position),
         size: or_outer(size, outer.size),
+        ruling,
         by,
-    }
+    })
 }
 
-/// The call of a global, from this element.
+/// The call of a global, from this element. No template rule is the current one there (XSLT 1.0, section 5.6).
 pub fn global_call(root: NodeRef, element: NodeRef, by: Place) -> Call
     ensures { call_of result ≡ global_call root element (place_of by) }
 {
@@ -58,6 +73,7 @@ pub fn global_call(root: NodeRef, element: NodeRef, by: Place) -> Call
         parameters: Bindings::Empty,
         position: Some(1),
         size: Some(1),
+        ruling: Ruling::Is(None),
         by,
     }
 }
@@ -72,14 +88,28 @@ pub fn nowhere(alloc: Global) -> Place
     }
 }
 
-// What a template rule enters: the template of this element, or the built-in rule.
-fn target(nodes: &[NodeRef]) -> Target
-    ensures { target_of result ≡ target_by None nodes.now }
+// What a template rule enters: its template, or the built-in rule.
+fn target(rule: &Option<ChosenRule>) -> Target
+    ensures { target_of result ≡ target_by None (option_map chosen_of rule.now) }
 {
-    if nodes.is_empty() {
-        return Target::BuiltIn(None);
+    match rule {
+        Some(rule) => Target::Unit(rule.element),
+        None => Target::BuiltIn(None),
     }
-    Target::Unit(nodes[0])
+}
+
+// The current rule there, which has no mode.
+fn ruling(rule: &Option<ChosenRule>) -> Ruling
+    ensures { ruling_of result ≡ ruling_by None (option_map chosen_of rule.now) }
+{
+    match rule {
+        Some(rule) => Ruling::Is(Some(CurrentRule {
+            mode: None,
+            first: rule.first,
+            last: rule.last,
+        })),
+        None => Ruling::Is(None),
+    }
 }
 
 /// The call of the template rule of the root (XSLT 1.0, section 5.1).
@@ -90,13 +120,14 @@ pub fn root_call<W: World>(alloc: Global, world: &mut W, root: NodeRef) -> Resul
 {
     let question = Question::Choice(root, None, Candidates::AllRules);
     let answer = world.ask(&question)?;
-    let nodes = answer.into_nodes(alloc);
+    let rule = answer.into_rule();
     Ok(Call {
-        target: target(nodes.as_slice()),
+        target: target(&rule),
         node: root,
         parameters: Bindings::Empty,
         position: Some(1),
         size: Some(1),
+        ruling: ruling(&rule),
         by: nowhere(alloc),
     })
 }

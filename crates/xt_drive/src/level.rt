@@ -88,7 +88,7 @@ pub fn advance<E: Engine, W: World>(
     let given = standing.given.take();
     match engine.resume(alloc, &mut standing.run, given, world) {
         Ok(Turn::Want(wanted, depth)) => {
-            let inner = settled(call, wanted);
+            let inner = settled(alloc, call, wanted)?;
             let left = below.saturating_sub(depth);
             Ok(Step::Enter(Box::new(alloc, inner)?, left))
         }

@@ -3,24 +3,21 @@
 ghost use Rattle.std.specs.Prelude.{◌≡◌, ◌<◌, suc, length, get_or, IfOk};
 ghost use Rattle.spec_meaning.specs.Question as question;
 ghost use Rattle.xt_tree.specs.declared.node_ref.NodeRef.{NodeRef};
-ghost use Rattle.xt_run.specs.View.{target_of};
-ghost use Rattle.spec_run.specs.Content.{at, target_by};
+ghost use Rattle.spec_run.specs.Content.{at};
 ghost use Rattle.xt_frames.specs.View.{here_of};
-ghost use Rattle.xt_ask.specs.View.{answer_of};
 ghost use Rattle.xt_frames.specs.declared.frame.Frame.TheVariants as Frame;
 ghost use Rattle.xt_frames.specs.declared.run.Run as declared;
 ghost use Rattle.xt_frames.specs.Left.{StepsFrom};
 
 use spec_expression::DynCode;
 use std::alloc::Global;
-use xt_ask::{Answer, Candidates, Focus, Question, World, copy_name_if, copy_place};
+use xt_ask::{Candidates, Focus, Question, World, copy_name_if, copy_place};
 use xt_base::Place;
 use xt_frames::{
     Application, Body, Copies, Frame, Loop, Next, Run, Standing, go_into, push, share_content, want,
 };
-use xt_names::Expanded;
-use xt_perform::{perform, put_copy};
-use xt_run::{Call, Refused, Target, Wrapping};
+use xt_perform::{perform, put_copy, ruling_of_rule, target_of_rule};
+use xt_run::{Call, Refused, Wrapping};
 use xt_text::Memory;
 
 /// Goes on with a content.
@@ -73,7 +70,8 @@ pub(crate) fn go_on_loop(alloc: Global, run: &mut Run, left: Loop) -> Result<Nex
     go_into(alloc, run, &place, content, here)
 }
 
-/// Where the content of a loop stands for its next node.
+/// Where the content of a loop stands for its next node: there no template rule is the current one (XSLT 1.0,
+/// section 5.6).
 fn item_of(left: &Loop) -> Result<Standing, Memory>
     requires { left.now.next < length left.now.nodes.items }
     ensures { IfOk result (λ h. (n : NodeRef) → here_of h ≡ at (get_or left.now.nodes.items left.now.next n) (suc left.now.next) (length left.now.nodes.items) (here_of left.now.here)) }
@@ -88,6 +86,7 @@ fn item_of(left: &Loop) -> Result<Standing, Memory>
         },
         bindings: shared.bindings,
         depth: shared.depth,
+        ruled: false,
         unit: shared.unit,
     })
 }
@@ -112,12 +111,14 @@ pub(crate) fn go_on_application<W: World>(
     let mode = copy_name_if(alloc, &left.mode)?;
     let question = Question::Choice(node, mode, Candidates::AllRules);
     let answer = run.going.ask(alloc, world, question)?;
+    let rule = answer.into_rule();
     let call = Call {
-        target: target_by(alloc, &left.mode, answer)?,
+        target: target_of_rule(alloc, &left.mode, &rule)?,
         node,
         parameters: left.parameters.share()?,
         position: Some(left.next as u64 + 1),
         size: Some(size),
+        ruling: ruling_of_rule(alloc, &left.mode, &rule)?,
         by: copy_place(alloc, &left.place)?,
     };
     let depth = left.depth;
@@ -130,17 +131,6 @@ pub(crate) fn go_on_application<W: World>(
         depth,
     });
     want(run, rest, call, depth)
-}
-
-/// The template rule that was chosen: that of the first element, and without one a built-in rule.
-fn target_by(alloc: Global, mode: &Option<Expanded>, answer: Answer) -> Result<Target, Memory>
-    ensures { IfOk result (λ t. target_of t ≡ target_by mode.now (question.nodes_in (answer_of answer))) }
-{
-    let nodes = answer.into_nodes(alloc);
-    match nodes.as_slice() {
-        [] => Ok(Target::BuiltIn(copy_name_if(alloc, mode)?)),
-        [element, ..] => Ok(Target::Unit(*element)),
-    }
 }
 
 /// Goes on with nodes that are copied.

@@ -1,8 +1,10 @@
 // A run, up to its end or to what it wants next.
 ghost use Rattle.std.specs.Prelude.{◌≡◌, IfOk};
+ghost use Rattle.std.specs.Option.{option_map};
+ghost use Rattle.spec_run.specs.Meaning.{current_by};
 ghost use Rattle.xp_syntax.specs.PartView.{place_of};
-ghost use Rattle.xt_ask.specs.View.{supplies_of};
-ghost use Rattle.xt_run.specs.View.{call_of, refused_of};
+ghost use Rattle.xt_ask.specs.View.{current_of, supplies_of};
+ghost use Rattle.xt_run.specs.View.{call_of, refused_of, ruling_of};
 ghost use Rattle.xt_run.specs.Progress as progress;
 ghost use Rattle.xt_run.specs.Progress.{Goes, started, after_call, after_global};
 ghost use Rattle.xt_run.specs.Advances.{HaltsSo, ending_of, gift_of, ran_of, made};
@@ -14,12 +16,12 @@ use crate::step::step;
 use spec_expression::DynCode;
 use std::alloc::Global;
 use std::mem;
-use xt_ask::{Known, Supplies, World, copy_name, copy_place};
+use xt_ask::{CurrentRule, Known, Supplies, World, copy_name, copy_place, copy_rule_if};
 use xt_base::Place;
 use xt_frames::{Frame, Next, Run, Waiting};
 use xt_going::Going;
 use xt_names::Expanded;
-use xt_run::{Call, Entered, Ran, Refused, RunFault, Turn};
+use xt_run::{Call, Entered, Ran, Refused, Ruling, RunFault, Turn};
 use xt_text::Memory;
 use xt_tree::Value;
 
@@ -27,26 +29,39 @@ use xt_tree::Value;
 pub(crate) fn start(alloc: Global, call: &Call, room: u64) -> Result<Run, Memory>
     ensures { IfOk result (λ run. progress_of run ≡ started (call_of call.now) room) }
 {
+    let supplies = supplies_for(alloc, call)?;
     let mut frames = Vec::new(alloc);
     let parameters = call.parameters.share()?;
     frames.push(Frame::Start(call.target.copy(alloc)?, call.node, parameters))?;
     Ok(Run {
         room,
-        supplies: supplies_for(alloc, call),
+        supplies,
         waiting: Waiting::Nothing,
         frames,
         going: Going::new(alloc),
     })
 }
 
-/// What is at hand for a call. Takes no memory.
-fn supplies_for(alloc: Global, call: &Call) -> Supplies
-    ensures { supplies_of result ≡ progress.supplies_for (call_of call.now) }
+/// What is at hand for a call.
+fn supplies_for(alloc: Global, call: &Call) -> Result<Supplies, Memory>
+    ensures { IfOk result (λ s. supplies_of s ≡ progress.supplies_for (call_of call.now)) }
 {
-    Supplies {
+    let rule = current_by(alloc, &call.ruling)?;
+    Ok(Supplies {
         position: call.position.unwrap_or(1),
         size: call.size.unwrap_or(1),
+        rule,
         globals: Vec::new(alloc),
+    })
+}
+
+/// The current template rule of what is entered. The rule of what enters it has taken the place of `Same` by then.
+fn current_by(alloc: Global, ruling: &Ruling) -> Result<Option<CurrentRule>, Memory>
+    ensures { IfOk result (λ r. option_map current_of r ≡ current_by (ruling_of ruling.now)) }
+{
+    match ruling {
+        Ruling::Same => Ok(None),
+        Ruling::Is(rule) => copy_rule_if(alloc, rule),
     }
 }
 

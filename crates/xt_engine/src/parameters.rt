@@ -165,6 +165,7 @@ fn pass<W: World>(
                 parameters,
                 position: call.position,
                 size: call.size,
+                ruling: call.ruling,
                 by: call.by,
             };
             Ok(Next::Want(call, depth))

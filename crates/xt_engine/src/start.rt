@@ -96,7 +96,8 @@ fn share_unit(unit: &Rc<ResolvedUnit>) -> Result<Rc<ResolvedUnit>, Memory>
     Ok(unit.clone()?)
 }
 
-/// Where a unit stands at the level of its instantiation for this node. Takes no memory.
+/// Where a unit stands at the level of its instantiation for this node: there its template rule is the current one.
+/// Takes no memory.
 fn first_of(unit: Rc<ResolvedUnit>, node: NodeRef) -> Standing
     ensures here { here_of result ≡ here_in node (resolved_of unit.value) }
     ensures unit { result.unit ≡ unit }
@@ -109,6 +110,7 @@ fn first_of(unit: Rc<ResolvedUnit>, node: NodeRef) -> Standing
         },
         bindings: Bindings::Empty,
         depth: 0,
+        ruled: true,
         unit,
     }
 }

@@ -38,6 +38,7 @@ here_of s = record {
   size = s.focus.size;
   bindings = bindings_of s.bindings;
   depth = s.depth;
+  ruled = s.ruled;
   templates = map template_of s.unit.value.templates.items;
   sets = map sets_of s.unit.value.sets.items;
 }
@@ -80,7 +81,7 @@ application_left a parameters after =
 
 abbrev pub with_passed : List (Bound NodeRef) → Call NodeRef → Call NodeRef
 with_passed parameters c =
-    record { target = c.target; node = c.node; parameters = parameters; position = c.position; size = c.size; by = c.by }
+    record { target = c.target; node = c.node; parameters = parameters; position = c.position; size = c.size; ruling = c.ruling; by = c.by }
 
 -- what parameters are passed to
 abbrev pub passed_to : Passing → List (Bound NodeRef) → Plan NodeRef → Plan NodeRef
@@ -112,7 +113,7 @@ global_left _ h = End
 -- all of an instantiation that enters this for a node
 abbrev pub start_planned : Target → NodeRef → List (Bound NodeRef) → Plan NodeRef
 start_planned target node parameters =
-    plan_of (record { target = target_of target; node = node; parameters = parameters; position = None; size = None; by = plan.nowhere })
+    plan_of (record { target = target_of target; node = node; parameters = parameters; position = None; size = None; ruling = plan.SameRule; by = plan.nowhere })
 
 -- what is left of a frame, before what is left around it
 abbrev pub left_frame : Frame → Plan NodeRef → Plan NodeRef

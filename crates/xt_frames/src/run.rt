@@ -147,6 +147,7 @@ pub fn go_into(
         focus: here.focus,
         bindings: here.bindings,
         depth,
+        ruled: here.ruled,
         unit: here.unit,
     };
     push(

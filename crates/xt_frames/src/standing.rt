@@ -18,6 +18,9 @@ pub struct Standing {
     pub focus: Focus,
     pub bindings: Bindings,
     pub depth: u64,
+    /// Whether the template rule of the instantiation is the current one; in the content of an xsl:for-each there is
+    /// none (XSLT 1.0, section 5.6).
+    pub ruled: bool,
     pub unit: Rc<ResolvedUnit>,
 }
 
@@ -40,6 +43,7 @@ impl Standing {
             focus: self.focus,
             bindings,
             depth: self.depth,
+            ruled: self.ruled,
             unit,
         })
     }
@@ -58,6 +62,7 @@ impl Standing {
             focus: self.focus,
             bindings,
             depth: self.depth,
+            ruled: self.ruled,
             unit: self.unit,
         })
     }

@@ -6,3 +6,4 @@ pub mod Named
 pub mod Asked
 pub mod Written
 pub mod Held
+pub mod Ruled

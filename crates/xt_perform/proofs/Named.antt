@@ -32,6 +32,7 @@ no_copy (answers.Refused why) n = refl
 no_copy (answers.Nodes nodes) n = refl
 no_copy (answers.Text text) n = refl
 no_copy (answers.Named k name written) n = refl
+no_copy (answers.Chosen rule) n = refl
 no_copy (answers.Copied f) n = absurd (n f refl)
 no_copy (answers.Resolved unit) n = refl
 no_copy (answers.Passed v) n = refl
@@ -49,6 +50,7 @@ no_name (answers.Refused why) n = record { kind = refl; written = refl; uri = re
 no_name (answers.Nodes nodes) n = record { kind = refl; written = refl; uri = refl; local = refl }
 no_name (answers.Text text) n = record { kind = refl; written = refl; uri = refl; local = refl }
 no_name (answers.Named k name written) n = absurd (n k name written refl)
+no_name (answers.Chosen rule) n = record { kind = refl; written = refl; uri = refl; local = refl }
 no_name (answers.Copied f) n = record { kind = refl; written = refl; uri = refl; local = refl }
 no_name (answers.Resolved unit) n = record { kind = refl; written = refl; uri = refl; local = refl }
 no_name (answers.Passed v) n = record { kind = refl; written = refl; uri = refl; local = refl }

@@ -4,13 +4,14 @@ ghost use Rattle.spec_stylesheet.specs.Instruction as made;
 ghost use Rattle.spec_stylesheet.specs.Instruction.{instrs};
 ghost use Rattle.spec_meaning.specs.Question as question;
 ghost use Rattle.spec_meaning.specs.Stream.{Ended};
-ghost use Rattle.spec_run.specs.Plan.{Put};
+ghost use Rattle.spec_run.specs.Plan.{Put, SameRule, RuleIs};
 ghost use Rattle.spec_run.specs.Content as contents;
 ghost use Rattle.xp_syntax.specs.View.{expr_of};
 ghost use Rattle.xp_syntax.specs.PartView.{site_of};
 ghost use Rattle.xp_syntax.specs.InstrView.{instr_of, control_of, binding_of, branch_of, selection_of};
 ghost use Rattle.xt_tree.specs.declared.node_ref.NodeRef.{NodeRef};
 ghost use Rattle.xt_ask.specs.View.{template_of};
+ghost use Rattle.xt_run.specs.View.{ruling_of};
 ghost use Rattle.xt_frames.specs.declared.frame.Frame.TheVariants as Frame;
 ghost use Rattle.xt_frames.specs.View.{here_of, inside, after_body};
 ghost use Rattle.xt_frames.specs.Left.{left_in, Does, Performs};
@@ -23,11 +24,11 @@ use std::rc::Rc;
 use xp_syntax::{Binding, Branch, Control, Expr, Instr, Selection, Site};
 use xt_ask::{Bindings, NamedTemplate, World, copy_name_if, copy_place};
 use xt_frames::{
-    Application, Body, Branches, Came, Frame, Loop, Next, Passing, Run, lack, nodes, push,
-    share_content, truth,
+    Application, Body, Branches, Came, Frame, Loop, Next, Passing, Run, Standing, lack, nodes,
+    push, share_content, truth,
 };
 use xt_names::Expanded;
-use xt_run::{Call, Target};
+use xt_run::{Call, Ruling, Target};
 use xt_text::Memory;
 use xt_tree::NodeRef;
 
@@ -259,7 +260,19 @@ fn call_element(
         parameters: Bindings::Empty,
         position: focus.position,
         size: focus.size,
+        ruling: ruling_at(&body.here),
         by: copy_place(alloc, &site.place)?,
     };
     pass(run, bindings, Passing::Template(call, depth), body)
+}
+
+/// The current rule of a template that is called here: that of the instantiation where it is the current one.
+fn ruling_at(here: &Standing) -> Ruling
+    ensures { ruling_of result ≡ (if here.now.ruled then SameRule else RuleIs None) }
+{
+    if here.ruled {
+        Ruling::Same
+    } else {
+        Ruling::Is(None)
+    }
 }

@@ -1,4 +1,4 @@
-// Instructions without a content (XSLT 1.0, sections 7.2, 7.6.1 and 11.3).
+// Instructions without a content (XSLT 1.0, sections 5.6, 7.2, 7.6.1 and 11.3).
 ghost use Rattle.std.specs.Prelude.{◌≡◌, ◌<◌, ◌+◌, suc, length, map, IfOk};
 ghost use Rattle.spec_stylesheet.specs.Instruction as made;
 ghost use Rattle.spec_stylesheet.specs.Instruction.{instrs};
@@ -15,6 +15,7 @@ ghost use Rattle.xt_frames.specs.View.{here_of, inside, after_body};
 ghost use Rattle.xt_frames.specs.Left.{left_in, Does, Performs};
 
 use crate::copying::write_value;
+use crate::imports::apply_imports;
 use std::alloc::Global;
 use std::rc::Rc;
 use xp_syntax::{Expr, Instr, Site, WithoutContent};
@@ -84,7 +85,7 @@ pub(crate) fn without_content<W: World>(
         WithoutContent::ValueOf(select) => value_of(alloc, run, site, select, body, world),
         WithoutContent::CopyOf(select) => copy_of(alloc, run, site, select, body, world),
         WithoutContent::Number(_) => nothing(run, body),
-        WithoutContent::ApplyImports => nothing(run, body),
+        WithoutContent::ApplyImports => apply_imports(alloc, run, site, body, world),
         WithoutContent::Fallback => nothing(run, body),
     }
 }

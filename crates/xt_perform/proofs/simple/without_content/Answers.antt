@@ -16,7 +16,7 @@ returns-in-Number-clause-does g c =
 pub returns-in-ApplyImports-clause-does : goal.returns-in-ApplyImports-clause-does
 returns-in-ApplyImports-clause-does g c =
     let truth = (g.W.World.state c.args.world.now).truth in
-    if_ok c.nothing-in-ApplyImports.result c.nothing-in-ApplyImports.ensures (λ next h. rw c.in-ApplyImports.is (does_performs truth _ (frames.Body c.args.body) c.args.run.now c.nothing-in-ApplyImports.new.run next (h truth)))
+    if_ok c.apply_imports.result c.apply_imports.ensures.does (λ next h. rw c.in-ApplyImports.is (does_performs truth _ (frames.Body c.args.body) c.args.run.now c.apply_imports.new.run next h))
 
 pub returns-in-Fallback-clause-does : goal.returns-in-Fallback-clause-does
 returns-in-Fallback-clause-does g c =

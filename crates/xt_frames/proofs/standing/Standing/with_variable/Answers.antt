@@ -5,4 +5,4 @@ use Rattle.xt_frames.proofs.standing.Standing.with_variable.Goals as goal
 pub returns : goal.returns
 returns c =
     let s = c.args.self in
-    ap (λ bs. record { node = s.focus.node; position = s.focus.position; size = s.focus.size; bindings = bs; depth = s.depth; templates = map template_of s.unit.value.templates.items; sets = map sets_of s.unit.value.sets.items }) c.in_ok-bindings.ensures
+    ap (λ bs. record { node = s.focus.node; position = s.focus.position; size = s.focus.size; bindings = bs; depth = s.depth; ruled = s.ruled; templates = map template_of s.unit.value.templates.items; sets = map sets_of s.unit.value.sets.items }) c.in_ok-bindings.ensures

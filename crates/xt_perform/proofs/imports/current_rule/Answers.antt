@@ -1,0 +1,12 @@
+use Rattle.xp_syntax.specs.PartView.{site_of}
+use Rattle.xt_frames.specs.View.{here_of}
+use Rattle.xt_perform.proofs.Ruled.{none_is_current, one_is_current}
+use Rattle.xt_perform.proofs.imports.current_rule.Goals as goal
+
+pub returns-then-not-here-clause-passes : goal.returns-then-not-here-clause-passes
+returns-then-not-here-clause-passes c ask after =
+    none_is_current c.args.run.now (site_of c.args.site.now) (here_of c.args.here.now) after c.if-not-here.true
+
+pub returns-clause-passes : goal.returns-clause-passes
+returns-clause-passes c ask after =
+    one_is_current c.args.run.now (site_of c.args.site.now) (here_of c.args.here.now) after _ c.if-not-here.false c.in_ok-rule.ensures (rw (c.in_ok-place.ensures, c.in_ok-seen.ensures) at c.in_ok-note.ensures)

@@ -1,0 +1,149 @@
+// Template rules that were chosen, and xsl:apply-imports, which enters what the current one overrides (XSLT 1.0,
+// section 5.6).
+ghost use Rattle.std.specs.Prelude.{◌≡◌, ◌<◌, ℕ, suc, length, IfOk};
+ghost use Rattle.std.specs.Option.{option_map};
+ghost use Rattle.spec_stylesheet.specs.Instruction as made;
+ghost use Rattle.spec_meaning.specs.Question as question;
+ghost use Rattle.spec_run.specs.Plan.{Plan};
+ghost use Rattle.spec_run.specs.Passes.{Passes};
+ghost use Rattle.spec_run.specs.Content as contents;
+ghost use Rattle.xp_syntax.specs.PartView.{site_of};
+ghost use Rattle.xt_tree.specs.declared.node_ref.NodeRef.{NodeRef};
+ghost use Rattle.xt_ask.specs.View.{chosen_of, current_of};
+ghost use Rattle.xt_run.specs.View.{target_of, ruling_of};
+ghost use Rattle.xt_going.specs.View.{going_of};
+ghost use Rattle.xt_frames.specs.declared.run.Run as declared;
+ghost use Rattle.xt_frames.specs.View.{here_of, after_body};
+ghost use Rattle.xt_frames.specs.Left.{left_in, hand, Does, IsStill};
+
+use crate::simple::advanced;
+use spec_expression::DynCode;
+use std::alloc::Global;
+use xp_syntax::Site;
+use xt_ask::{
+    Bindings, Candidates, ChosenRule, CurrentRule, Given, Question, Wanted, World, copy_name_if,
+    copy_place, copy_rule_if,
+};
+use xt_frames::{Body, Frame, Next, Run, Standing, want};
+use xt_names::Expanded;
+use xt_run::{Call, Event, Refused, Ruling, Target};
+use xt_text::Memory;
+
+/// What this rule of a node in this mode enters; without one a built-in rule.
+pub fn target_of_rule(
+    alloc: Global,
+    mode: &Option<Expanded>,
+    rule: &Option<ChosenRule>,
+) -> Result<Target, Memory>
+    ensures { IfOk result (λ t. target_of t ≡ contents.target_by mode.now (option_map chosen_of rule.now)) }
+{
+    match rule {
+        None => Ok(Target::BuiltIn(copy_name_if(alloc, mode)?)),
+        Some(rule) => Ok(Target::Unit(rule.element)),
+    }
+}
+
+/// The rule, in this mode, as the current one of what it enters. A built-in rule is none.
+pub fn ruling_of_rule(
+    alloc: Global,
+    mode: &Option<Expanded>,
+    rule: &Option<ChosenRule>,
+) -> Result<Ruling, Memory>
+    ensures { IfOk result (λ r. ruling_of r ≡ contents.ruling_by mode.now (option_map chosen_of rule.now)) }
+{
+    match rule {
+        None => Ok(Ruling::Is(None)),
+        Some(rule) => Ok(Ruling::Is(Some(CurrentRule {
+            mode: copy_name_if(alloc, mode)?,
+            first: rule.first,
+            last: rule.last,
+        }))),
+    }
+}
+
+/// xsl:apply-imports: what the stylesheet of the current rule imports for the current node, in the mode of that
+/// rule. Refused where no rule is the current one.
+pub(crate) fn apply_imports<W: World>(
+    alloc: Global,
+    run: &mut Run,
+    site: &Site,
+    body: Body,
+    world: &mut W,
+) -> Result<Next, Memory>
+    requires { body.next < usize.MAX }
+    ensures does { IfOk result (Does (W.state world.old).truth (contents.planned_without (site_of site.now) (here_of body.here) made.ApplyImports (after_body body (left_in run.old))) (suc (length run.old.frames.items)) run.old run.new) }
+    ensures truth { (W.state world.new).truth ≡ (W.state world.old).truth }
+    ensures name { W.name world.new ≡ W.name world.old }
+{
+    match current_rule(alloc, run, site, &body.here)? {
+        None => refuse(alloc, site),
+        Some(rule) => apply_imported(alloc, run, site, rule, body, world),
+    }
+}
+
+/// The current rule where an instruction stands. Where that of the instantiation may be it, it is needed of the run.
+fn current_rule(
+    alloc: Global,
+    run: &mut Run,
+    site: &Site,
+    here: &Standing,
+) -> Result<Option<CurrentRule>, Memory>
+    ensures passes { IfOk result (λ rule. (ask : question.Question NodeRef → question.Answer NodeRef) → (after : Plan NodeRef) → Passes ask (hand run.old) run.old.room (contents.planned_without (site_of site.now) (here_of here.now) made.ApplyImports after) (going_of run.old.going) (contents.imports_applied (site_of site.now) (here_of here.now) (option_map current_of rule) after) (going_of run.new.going)) }
+    ensures still { IsStill run.old run.new }
+{
+    if !here.ruled {
+        return Ok(None);
+    }
+    let place = copy_place(alloc, &site.place)?;
+    let seen = copy_rule_if(alloc, &run.supplies.rule)?;
+    let rule = copy_rule_if(alloc, &run.supplies.rule)?;
+    run.going.note(Event::Saw(Wanted::Rule, here.depth, place, Given::Ruled(seen)))?;
+    Ok(rule)
+}
+
+/// The refusal of the element at this site, where no rule is the current one.
+fn refuse(alloc: Global, site: &Site) -> Result<Next, Memory>
+    ensures { IfOk result (λ next. (ask : question.Question NodeRef → question.Answer NodeRef) → (h : contents.Here NodeRef) → (after : Plan NodeRef) → (k : ℕ) → (run : declared.Run) → Does ask (contents.imports_applied (site_of site.now) h None after) k run run next) }
+{
+    let place = copy_place(alloc, &site.place)?;
+    Ok(Next::Halt(Refused {
+        code: DynCode::NoCurrentRule,
+        place,
+    }))
+}
+
+/// Enters what the stylesheet of this rule imports for the current node, before the rest of the body.
+fn apply_imported<W: World>(
+    alloc: Global,
+    run: &mut Run,
+    site: &Site,
+    rule: CurrentRule,
+    body: Body,
+    world: &mut W,
+) -> Result<Next, Memory>
+    requires { body.next < usize.MAX }
+    ensures does { IfOk result (Does (W.state world.old).truth (contents.imports_applied (site_of site.now) (here_of body.here) (Some (current_of rule)) (after_body body (left_in run.old))) (suc (length run.old.frames.items)) run.old run.new) }
+    ensures truth { (W.state world.new).truth ≡ (W.state world.old).truth }
+    ensures name { W.name world.new ≡ W.name world.old }
+{
+    let focus = body.here.focus;
+    let depth = body.here.depth;
+    let candidates = Candidates::Imported {
+        first: rule.first,
+        last: rule.last,
+    };
+    let mode = copy_name_if(alloc, &rule.mode)?;
+    let question = Question::Choice(focus.node, mode, candidates);
+    let answer = run.going.ask(alloc, world, question)?;
+    let chosen = answer.into_rule();
+    let call = Call {
+        target: target_of_rule(alloc, &rule.mode, &chosen)?,
+        node: focus.node,
+        parameters: Bindings::Empty,
+        position: focus.position,
+        size: focus.size,
+        ruling: ruling_of_rule(alloc, &rule.mode, &chosen)?,
+        by: copy_place(alloc, &site.place)?,
+    };
+    want(run, Frame::Body(advanced(body)), call, depth)
+}
