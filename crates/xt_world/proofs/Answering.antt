@@ -11,22 +11,27 @@ use Rattle.spec_document.specs.Order.{Entry, entries_of}
 use Rattle.spec_stylesheet.specs.Sheet.{Unit as Piece, Rule, Sheet}
 use Rattle.spec_stylesheet.specs.Sheet as sheets
 use Rattle.spec_meaning.specs.Question as question
-use Rattle.spec_meaning.specs.Question.{Question, Answer, SomeNodes, Candidates}
+use Rattle.spec_meaning.specs.Question.{Question, Answer, Chosen, Candidates, ChosenRule}
 use Rattle.spec_meaning.specs.Program.{Said, Gives, Refuses, Lacks, outcome_of}
-use Rattle.spec_meaning.specs.Truth.{answer_by, entry_named, told_of}
+use Rattle.spec_meaning.specs.Truth.{entry_named, told_of}
 use Rattle.spec_transform.specs.Choice.{context_for, chosen}
+use Rattle.spec_transform.specs.Key.{no_globals}
 use Rattle.spec_run.specs.Documents.{Parameters}
 use Rattle.spec_run.specs.World as definition
-use Rattle.spec_run.specs.World.{no_globals, element_of_unit, rule_by, rule_at}
+use Rattle.spec_run.specs.World.{rule_by, rule_at, source_by}
 use Rattle.xt_tree.specs.declared.node_ref.NodeRef.{NodeRef}
 use Rattle.xp_axes.specs.View.{ref_of, same_ref}
 use Rattle.xp_syntax.specs.SheetView.{rules_of}
-use Rattle.xt_ask.specs.View.{resolved_of}
+use Rattle.xt_ask.specs.View.{question_of, resolved_of}
+use Rattle.xt_ask.specs.declared.question.Question as code
+use Rattle.xt_ask.specs.declared.question.Question.TheVariants as questions
 use Rattle.xt_ask.specs.declared.answer.ResolvedUnit.{ResolvedUnit}
 use Rattle.xt_match.specs.Context.{unit_in, units_in}
 use Rattle.xt_world.specs.Numbered.{element_called, truth_by_numbers}
 use Rattle.xt_world.specs.Units.{called_among, resolved_among}
-use Rattle.xt_world.specs.View.{element_of, element_of_rule, rule_held, said_of, truth_in}
+use Rattle.xt_world.specs.KeyView.{keyed_in}
+use Rattle.xt_world.specs.SourceView.{source_in}
+use Rattle.xt_world.specs.View.{chosen_by, chosen_in, rule_held, said_of, truth_in, truth_over}
 use Rattle.xt_world.specs.declared.stylesheet.Stylesheet.{Stylesheet}
 use Rattle.xt_world.proofs.Turns.{unit_is}
 
@@ -51,36 +56,51 @@ units_are sheet s h =
     units_of s.units.items ∙ ap (map (λ (u : question.ResolvedUnit NodeRef). u.unit)) h.units ∙ unresolved sheet.units sheet.units
 
 -- ---- rules
-element_is : (us : List Piece) (o : Option Piece) → element_of (option_map (λ (u : Piece). element_called us u.site.place) o) ≡ element_of_unit (element_called us) o
-element_is us None = refl
-element_is us (Some u) = refl
+chosen_is : (us : List Piece) (rule : Rule) (o : Option Piece)
+    → chosen_in rule (option_map (λ (u : Piece). element_called us u.site.place) o) ≡ definition.chosen_in (element_called us) rule o
+chosen_is us rule None = refl
+chosen_is us rule (Some u) = refl
 
-rule_element : (sheet : Sheet) (s : Stylesheet) → IsOf sheet s → (o : Option Rule)
-    → element_of_rule s o ≡ definition.element_of_rule (element_called sheet.units) sheet.units o
-rule_element sheet s h None = refl
-rule_element sheet s h (Some rule) =
-    ap (λ (l : List NodeRef). element_of (slice_get l rule.unit)) h.elements
-    ∙ ap element_of (slice_get-map (λ (u : Piece). element_called sheet.units u.site.place) sheet.units rule.unit)
-    ∙ element_is sheet.units (slice_get sheet.units rule.unit)
+rule_called : (sheet : Sheet) (s : Stylesheet) → IsOf sheet s → (o : Option Rule)
+    → chosen_by s o ≡ definition.chosen_by (element_called sheet.units) sheet.units o
+rule_called sheet s h None = refl
+rule_called sheet s h (Some rule) =
+    ap (λ (l : List NodeRef). chosen_in rule (slice_get l rule.unit)) h.elements
+    ∙ ap (chosen_in rule) (slice_get-map (λ (u : Piece). element_called sheet.units u.site.place) sheet.units rule.unit)
+    ∙ chosen_is sheet.units rule (slice_get sheet.units rule.unit)
 
 rule_is : (sheet : Sheet) (s : Stylesheet) → IsOf sheet s → (said : Said (Option ℕ)) → rule_held s said ≡ rule_by (element_called sheet.units) sheet said
 rule_is sheet s h (Gives None) = refl
 rule_is sheet s h (Gives (Some number)) =
-    ap (λ (l : List NodeRef). SomeNodes l)
-    (rule_element sheet s h (slice_get (rules_of s.rules).rules number)
-    ∙ ap (λ (rules : sheets.Rules). definition.element_of_rule (element_called sheet.units) sheet.units (slice_get rules.rules number)) h.rules)
+    ap (λ (rule : Option (ChosenRule NodeRef)). Chosen rule)
+    (rule_called sheet s h (slice_get (rules_of s.rules).rules number)
+    ∙ ap (λ (rules : sheets.Rules). definition.chosen_by (element_called sheet.units) sheet.units (slice_get rules.rules number)) h.rules)
 rule_is sheet s h (Refuses why) = refl
 rule_is sheet s h (Lacks wanted) = refl
 
+-- ---- the source with its keys
+source_is : (sheet : Sheet) (s : Stylesheet) → IsOf sheet s → (document : Document ℕ) (q : Question NodeRef)
+    → source_in s document [] q ≡ source_by ref_of same_ref sheet (entries_of document) q
+source_is sheet s h document (question.Key name text) = ap (λ (units : List Piece). keyed_in units document name text) (units_are sheet s h)
+source_is sheet s h document (question.Step node axis test) = refl
+source_is sheet s h document (question.Text node) = refl
+source_is sheet s h document (question.Name node) = refl
+source_is sheet s h document (question.Place node) = refl
+source_is sheet s h document (question.Order nodes) = refl
+source_is sheet s h document (question.Choice node mode candidates) = refl
+source_is sheet s h document (question.Copy node) = refl
+source_is sheet s h document (question.Unit element) = refl
+source_is sheet s h document (question.External name) = refl
+
 choice_is : (sheet : Sheet) (s : Stylesheet) → IsOf sheet s → (document : Document ℕ) (node : NodeRef) (mode : Option Expanded) (candidates : Candidates)
-    → rule_held s (said_of s document node mode candidates)
-    ≡ rule_at (element_called sheet.units) same_ref sheet (answer_by ref_of same_ref (entries_of document)) node mode candidates
+    → rule_held s (said_of (source_in s document []) s node mode candidates)
+    ≡ rule_at (element_called sheet.units) same_ref sheet (source_by ref_of same_ref sheet (entries_of document)) node mode candidates
 choice_is sheet s h document node mode candidates =
     let units = units_are sheet s h in
     ap (rule_held s)
-    (λ i. outcome_of (answer_by ref_of same_ref (entries_of document)) no_globals
+    (λ i. outcome_of (λ q. source_is sheet s h document q i) no_globals
     (chosen same_ref (context_for (units i) node) node mode candidates (h.rules i).rules))
-    ∙ rule_is sheet s h (outcome_of (answer_by ref_of same_ref (entries_of document)) no_globals
+    ∙ rule_is sheet s h (outcome_of (source_by ref_of same_ref sheet (entries_of document)) no_globals
     (chosen same_ref (context_for sheet.units node) node mode candidates sheet.rules.rules))
 
 -- ---- all
@@ -91,10 +111,26 @@ truth_is sheet s h parameters document (question.Text node) = refl
 truth_is sheet s h parameters document (question.Name node) = refl
 truth_is sheet s h parameters document (question.Place node) = refl
 truth_is sheet s h parameters document (question.Order nodes) = refl
-truth_is sheet s h parameters document (question.Key name value) = refl
+truth_is sheet s h parameters document (question.Key name value) = source_is sheet s h document (question.Key name value)
 truth_is sheet s h parameters document (question.Choice node mode candidates) =
     ap (λ (a : Answer NodeRef). told_of (λ (e : Entry ℕ). a) (entry_named ref_of same_ref (entries_of document) node))
     (choice_is sheet s h document node mode candidates)
 truth_is sheet s h parameters document (question.Copy node) = refl
 truth_is sheet s h parameters document (question.Unit element) = unit_is sheet.units element s.elements.items s.units.items h.elements h.units
 truth_is sheet s h parameters document (question.External name) = refl
+
+-- what the source answers, among the questions of the program
+pub others_so : (source : Question NodeRef → Answer NodeRef) (s : Stylesheet) (parameters : Parameters) (document : Document ℕ) (q : code.Question)
+    → ((node : _) (mode : _) (candidates : _) → q ≡ questions.Choice node mode candidates → ⊥) → ((node : _) → q ≡ questions.Copy node → ⊥)
+    → ((element : _) → q ≡ questions.Unit element → ⊥) → ((name : _) → q ≡ questions.External name → ⊥)
+    → source (question_of q) ≡ truth_over source s parameters document (question_of q)
+others_so source s parameters document (questions.Step node axis test) a b c d = refl
+others_so source s parameters document (questions.Text node) a b c d = refl
+others_so source s parameters document (questions.Name node) a b c d = refl
+others_so source s parameters document (questions.Place node) a b c d = refl
+others_so source s parameters document (questions.Order nodes) a b c d = refl
+others_so source s parameters document (questions.Key name value) a b c d = refl
+others_so source s parameters document (questions.Choice node mode candidates) a b c d = absurd (a node mode candidates refl)
+others_so source s parameters document (questions.Copy node) a b c d = absurd (b node refl)
+others_so source s parameters document (questions.Unit element) a b c d = absurd (c element refl)
+others_so source s parameters document (questions.External name) a b c d = absurd (d name refl)

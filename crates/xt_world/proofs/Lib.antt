@@ -2,6 +2,8 @@ pub mod Answering
 pub mod Choosing
 pub mod Elements
 pub mod Globals
+pub mod Holding
+pub mod Keyed
 pub mod Keys
 pub mod Listed
 pub mod Turns

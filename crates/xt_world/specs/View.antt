@@ -1,5 +1,5 @@
 -- What a world of a stylesheet and a source answers, by what it holds.
-use Rattle.std.specs.Prelude.{◌≡◌, ℕ, List, [], ◌∷◌, Option, None, Some, Result, Ok, Err, slice_get, if◌then◌else◌}
+use Rattle.std.specs.Prelude.{◌≡◌, ℕ, [], Option, None, Some, Result, Ok, Err, slice_get, if◌then◌else◌}
 use Rattle.std.specs.declared.rc.Rc.{Rc}
 use Rattle.std.specs.Global.{Global}
 use Rattle.spec_document.specs.Name.{Expanded}
@@ -7,13 +7,13 @@ use Rattle.spec_document.specs.Forest.{Document}
 use Rattle.spec_document.specs.Order.{entries_of}
 use Rattle.spec_stylesheet.specs.Sheet.{Rule}
 use Rattle.spec_meaning.specs.Question as question
-use Rattle.spec_meaning.specs.Question.{Question, Answer, Gone, SomeNodes, Copied, Resolved, Passed, Candidates}
+use Rattle.spec_meaning.specs.Question.{Question, Answer, Gone, Chosen, Copied, Resolved, Passed, Candidates, ChosenRule}
 use Rattle.spec_meaning.specs.Program.{Said, Gives, outcome_of}
-use Rattle.spec_meaning.specs.Truth.{answer_by, entry_named, told_of}
+use Rattle.spec_meaning.specs.Truth.{entry_named, told_of}
 use Rattle.spec_transform.specs.Choice.{context_for, chosen}
+use Rattle.spec_transform.specs.Key.{no_globals}
 use Rattle.spec_run.specs.Documents.{Parameters}
 use Rattle.spec_run.specs.Copy.{copy_of}
-use Rattle.spec_run.specs.World.{no_globals}
 use Rattle.xt_tree.specs.declared.node_ref.NodeRef.{NodeRef}
 use Rattle.xp_axes.specs.View.{ref_of, same_ref}
 use Rattle.xp_syntax.specs.SheetView.{rules_of}
@@ -22,6 +22,7 @@ use Rattle.xt_ask.specs.declared.answer.ResolvedUnit.{ResolvedUnit}
 use Rattle.xt_ask.specs.declared.fault.EvalFault.{EvalFault}
 use Rattle.xt_ask.specs.declared.fault.EvalFault.TheVariants as faults
 use Rattle.xt_match.specs.Context.{units_in}
+use Rattle.xt_world.specs.SourceView.{source_in}
 use Rattle.xt_world.specs.declared.stylesheet.Stylesheet.{Stylesheet}
 
 -- the unit of this turn, where its element is called so
@@ -33,18 +34,22 @@ unit_called element (Some name) (Some unit) = if same_ref element name then Reso
 abbrev pub unit_held : Stylesheet → NodeRef → Answer NodeRef
 unit_held s element = unit_called element (slice_get s.elements.items element.node.number) (slice_get s.units.items element.node.number)
 
-abbrev pub element_of : Option NodeRef → List NodeRef
-element_of None = []
-element_of (Some element) = element ∷ []
+-- a rule, by the element of its unit, with what its stylesheet imports
+abbrev pub chosen_in : Rule → Option NodeRef → Option (ChosenRule NodeRef)
+chosen_in rule None = None
+chosen_in rule (Some element) = Some (record { element = element; first = rule.imported; last = rule.precedence })
 
--- the element of a rule's unit
-abbrev pub element_of_rule : Stylesheet → Option Rule → List NodeRef
-element_of_rule s None = []
-element_of_rule s (Some rule) = element_of (slice_get s.elements.items rule.unit)
+abbrev pub chosen_by : Stylesheet → Option Rule → Option (ChosenRule NodeRef)
+chosen_by s None = None
+chosen_by s (Some rule) = chosen_in rule (slice_get s.elements.items rule.unit)
+
+abbrev pub rule_numbered : Stylesheet → Option ℕ → Option (ChosenRule NodeRef)
+rule_numbered s None = None
+rule_numbered s (Some number) = chosen_by s (slice_get (rules_of s.rules).rules number)
 
 abbrev pub rule_held : Stylesheet → Said (Option ℕ) → Answer NodeRef
-rule_held s (Gives (Some number)) = SomeNodes (element_of_rule s (slice_get (rules_of s.rules).rules number))
-rule_held s _ = SomeNodes []
+rule_held s (Gives number) = Chosen (rule_numbered s number)
+rule_held s _ = Chosen None
 
 -- the number of a choice that is made: a refusal chooses no rule
 abbrev pub GivesNumber : Result (Option ℕ) EvalFault → Option ℕ → Type 0
@@ -53,25 +58,28 @@ GivesNumber (Err (faults.Refused why)) number = number ≡ None
 GivesNumber (Err (faults.Wants name)) number = number ≡ None
 GivesNumber (Err faults.Memory) number = ⊥
 
--- which rule is chosen for a node
-abbrev pub said_of : Stylesheet → Document ℕ → NodeRef → Option Expanded → Candidates → Said (Option ℕ)
-said_of s document node mode candidates =
-    outcome_of (answer_by ref_of same_ref (entries_of document)) no_globals
-    (chosen same_ref (context_for (units_in s.units.items) node) node mode candidates (rules_of s.rules).rules)
+-- which rule is chosen for a node, where these are the answers of the source
+abbrev pub said_of : (Question NodeRef → Answer NodeRef) → Stylesheet → NodeRef → Option Expanded → Candidates → Said (Option ℕ)
+said_of source s node mode candidates =
+    outcome_of source no_globals (chosen same_ref (context_for (units_in s.units.items) node) node mode candidates (rules_of s.rules).rules)
 
 -- a copy of a node of the source
 abbrev pub copy_in : Document ℕ → NodeRef → Answer NodeRef
 copy_in document node = told_of (λ e. Copied (copy_of e.item)) (entry_named ref_of same_ref (entries_of document) node)
 
--- the element of the rule of a node of the source
-abbrev pub choice_in : Stylesheet → Document ℕ → NodeRef → Option Expanded → Candidates → Answer NodeRef
-choice_in s document node mode candidates =
-    told_of (λ e. rule_held s (said_of s document node mode candidates)) (entry_named ref_of same_ref (entries_of document) node)
+-- the rule of a node of the source
+abbrev pub choice_by : (Question NodeRef → Answer NodeRef) → Stylesheet → Document ℕ → NodeRef → Option Expanded → Candidates → Answer NodeRef
+choice_by source s document node mode candidates =
+    told_of (λ e. rule_held s (said_of source s node mode candidates)) (entry_named ref_of same_ref (entries_of document) node)
 
+-- all, where these are the answers of the source with its keys
+abbrev pub truth_over : (Question NodeRef → Answer NodeRef) → Stylesheet → Parameters → Document ℕ → Question NodeRef → Answer NodeRef
+truth_over source s parameters document (question.Copy node) = copy_in document node
+truth_over source s parameters document (question.Choice node mode candidates) = choice_by source s document node mode candidates
+truth_over source s parameters document (question.Unit element) = unit_held s element
+truth_over source s parameters document (question.External name) = Passed (parameters name)
+truth_over source s parameters document q = source q
+
+-- before any keys are found
 abbrev pub truth_in : Stylesheet → Parameters → Document ℕ → Question NodeRef → Answer NodeRef
-truth_in s parameters document (question.Copy node) = copy_in document node
-truth_in s parameters document (question.Choice node mode candidates) = choice_in s document node mode candidates
-truth_in s parameters document (question.Unit element) = unit_held s element
-truth_in s parameters document (question.Key name text) = SomeNodes []
-truth_in s parameters document (question.External name) = Passed (parameters name)
-truth_in s parameters document q = answer_by ref_of same_ref (entries_of document) q
+truth_in s parameters document = truth_over (source_in s document []) s parameters document

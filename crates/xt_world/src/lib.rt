@@ -1,17 +1,20 @@
-//! The world of a stylesheet and a source, which keeps nothing that it was asked: it answers truly what is asked
-//! of the source's tree, for copies of its nodes, for their template rules, for the units of the stylesheet and for
-//! the values that parameters are given from outside. Keys do not run yet.
+//! The world of a stylesheet and a source: it answers truly what is asked of the source's tree and of its keys, for
+//! copies of its nodes, for their template rules, for the units of the stylesheet and for the values that
+//! parameters are given from outside. Of what it was asked it keeps the keys alone: all keys of a name are found
+//! for all nodes when a first value is asked for.
 //!
 //! ```text
 //! let stylesheet = Stylesheet::new(alloc, sheet)?;
-//! let mut world = SheetWorld { alloc, document: &source, stylesheet: &stylesheet, parameters: &parameters };
+//! let mut world = SheetWorld::new(alloc, &source, &stylesheet, &parameters);
 //! ```
 #![tactic(auto)]
 
 mod called;
+mod found;
 mod laws;
 mod parameters;
 mod resolve;
+mod source;
 mod stylesheet;
 mod world;
 

@@ -1,5 +1,6 @@
 // What the names that stand in a unit name, and which global of a name counts.
 ghost use Rattle.std.specs.Prelude.{◌≡◌, ◌++◌, None, map, IfOk, OnOk};
+ghost use Rattle.std.specs.List.{list_any};
 ghost use Rattle.std.specs.Option.{option_map};
 ghost use Rattle.spec_run.specs.World as definition;
 ghost use Rattle.xp_syntax.specs.PartView.{place_of};
@@ -70,6 +71,18 @@ fn is_global(name: &Expanded, declared: &Declared) -> bool
         Declared::Global(global) => global.binding.name.same(name),
         _ => false,
     }
+}
+
+/// Whether one of these units is a global of this name.
+pub fn has_global(units: &[Rc<Unit>], name: &Expanded) -> bool
+    ensures { result ≡ list_any (λ unit. definition.is_global name.now unit.declared) (plain_units units.now) }
+{
+    for other in units {
+        if is_global(name, &other.declared) {
+            return true;
+        }
+    }
+    false
 }
 
 /// The place of the last template of this name.
@@ -145,14 +158,15 @@ fn is_last(place: &Place, last: Option<&Place>) -> bool
     }
 }
 
-fn name_of(global: &GlobalBinding) -> &Expanded
+/// The name of a global.
+pub fn name_of(global: &GlobalBinding) -> &Expanded
     ensures { result.now ≡ (global_of global.now).binding.name }
 {
     &global.binding.name
 }
 
 /// Of a global, whether it is the one of its name that counts.
-pub fn counts(units: &[Rc<Unit>], unit: &Unit) -> bool
+fn counts(units: &[Rc<Unit>], unit: &Unit) -> bool
     ensures { result ≡ definition.counts (plain_units units.now) (unit_of unit.now) }
 {
     match &unit.declared {

@@ -1,5 +1,5 @@
 // A stylesheet that can be run.
-ghost use Rattle.std.specs.Prelude.{◌≡◌, ◌++◌, ℕ, map, IfOk, OnOk};
+ghost use Rattle.std.specs.Prelude.{◌≡◌, ◌++◌, ◌∷◌, [], ℕ, map, IfOk, OnOk};
 ghost use Rattle.spec_document.specs.Forest.{Document};
 ghost use Rattle.spec_meaning.specs.Question.{Question};
 ghost use Rattle.spec_run.specs.Documents.{Parameters};
@@ -10,14 +10,15 @@ ghost use Rattle.xt_ask.specs.View.{resolved_of};
 ghost use Rattle.xt_tree.specs.declared.node_ref.NodeRef.{NodeRef};
 ghost use Rattle.xt_world.specs.Numbered.{element_called, truth_by_numbers};
 ghost use Rattle.xt_run.specs.View.{named_of};
-ghost use Rattle.xt_world.specs.Units.{called_among, global_by, globals_among, plain_units, resolved_among};
+ghost use Rattle.xt_world.specs.Units.{called_among, global_before, globals_among, plain_units, resolved_among};
 ghost use Rattle.xt_world.specs.View.{truth_in};
 
-use crate::resolve::{counts, element_called, resolve};
+use crate::resolve::{element_called, has_global, name_of, resolve};
 use std::alloc::Global;
 use std::rc::Rc;
 use xp_syntax::{Declared, Rules, Sheet, Unit};
 use xt_ask::{ResolvedUnit, copy_name};
+use xt_names::Expanded;
 use xt_run::NamedGlobal;
 use xt_text::Memory;
 use xt_tree::NodeRef;
@@ -31,7 +32,7 @@ pub struct Stylesheet {
     pub units: Vec<Rc<ResolvedUnit>>,
     /// What the element of each unit is called.
     pub elements: Vec<NodeRef>,
-    /// The globals that count, in the order of the stylesheet.
+    /// The globals that count, each once, in the order of the stylesheet.
     pub globals: Vec<NamedGlobal>,
 }
 
@@ -77,38 +78,54 @@ fn elements(alloc: Global, units: &[Rc<Unit>]) -> Result<Vec<NodeRef>, Memory>
     Ok(elements)
 }
 
-/// The globals that count.
+/// The globals that count. Where a module is imported twice its units stand there twice, so that a global counts
+/// where it stands last.
 fn globals(alloc: Global, units: &[Rc<Unit>]) -> Result<Vec<NamedGlobal>, Memory>
     ensures { IfOk result (λ list. map named_of list.items ≡ globals_among (plain_units units.now) (plain_units units.now)) }
 {
     let mut list = Vec::new(alloc);
-    for unit in units {
-        add_global(alloc, units, unit, &mut list)?;
+    let mut left = units;
+    while let Some((unit, later)) = left.split_first() {
+        add_global(alloc, units, unit, later, &mut list)?;
+        left = later;
     }
     Ok(list)
 }
 
-// Adds the unit, if it is a global that counts.
+// Adds the unit, if it is a global and none of the later ones is one of its name.
 fn add_global(
     alloc: Global,
     units: &[Rc<Unit>],
-    unit: &Rc<Unit>,
+    unit: &Unit,
+    later: &[Rc<Unit>],
     list: &mut Vec<NamedGlobal>,
 ) -> Result<(), Memory>
-    ensures { OnOk result (map named_of list.new.items ≡ map named_of list.old.items ++ global_by (plain_units units.now) (unit_of unit.now.value)) }
+    ensures { OnOk result (map named_of list.new.items ≡ map named_of list.old.items ++ global_before (plain_units units.now) (unit_of unit.now) (plain_units later.now)) }
 {
-    if !counts(units, unit) {
-        return Ok(());
-    }
     match &unit.declared {
         Declared::Global(global) => {
-            let name = copy_name(alloc, &global.binding.name)?;
+            let name = name_of(global);
+            if has_global(later, name) {
+                return Ok(());
+            }
             let element = element_called(units, &unit.site.place);
-            list.push(NamedGlobal { name, element })?;
-            Ok(())
+            add_named(alloc, name, element, list)
         }
         _ => Ok(()),
     }
+}
+
+fn add_named(
+    alloc: Global,
+    name: &Expanded,
+    element: NodeRef,
+    list: &mut Vec<NamedGlobal>,
+) -> Result<(), Memory>
+    ensures { OnOk result (map named_of list.new.items ≡ map named_of list.old.items ++ (record { name = name.now; element = element }) ∷ []) }
+{
+    let name = copy_name(alloc, name)?;
+    list.push(NamedGlobal { name, element })?;
+    Ok(())
 }
 
 /// The units with what their names name.

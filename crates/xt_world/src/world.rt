@@ -1,38 +1,69 @@
 // A world of a stylesheet and a source.
 ghost use Rattle.std.specs.Prelude.{◌≡◌, IfOk};
+ghost use Rattle.std.specs.Option.{option_map};
 ghost use Rattle.spec_meaning.specs.Program.{Gives};
 ghost use Rattle.spec_meaning.specs.Question as question;
-ghost use Rattle.xt_ask.specs.View.{answer_of, candidates_of, question_of};
-ghost use Rattle.xt_plain.specs.View.{truth_of};
+ghost use Rattle.xt_ask.specs.View.{answer_of, candidates_of, chosen_of, question_of};
 ghost use Rattle.xt_world.specs.ParameterView.{parameters_of};
-ghost use Rattle.xt_world.specs.View.{GivesNumber, choice_in, copy_in, rule_held, said_of, truth_in, unit_held};
+ghost use Rattle.xt_world.specs.SourceView.{source_of};
+ghost use Rattle.xt_world.specs.View.{GivesNumber, choice_by, copy_in, rule_held, rule_numbered, said_of, truth_over, unit_held};
 
+use crate::source::Source;
 use crate::{Parameters, Stylesheet};
 use std::alloc::Global;
-use xp_eval::Eval;
-use xt_ask::{Answer, Candidates, EvalFault, Given, Question, Supplies, Wanted, World};
+use xt_ask::{Answer, Candidates, ChosenRule, EvalFault, Given, Question, Supplies, Wanted, World};
 use xt_copy::copy_of;
 use xt_match::choose;
 use xt_names::Expanded;
-use xt_plain::PlainWorld;
 use xt_text::{Memory, Text};
 use xt_tree::{Doc, NodeRef};
 
-/// A stylesheet, a source, and the values that parameters are given.
+/// A stylesheet, a source, and the values that parameters are given. Of what it is asked it keeps the keys alone.
 #[derive(Drop)]
 pub struct SheetWorld<'a> {
-    pub alloc: Global,
-    pub document: &'a Doc,
-    pub stylesheet: &'a Stylesheet,
-    pub parameters: &'a Parameters,
+    alloc: Global,
+    document: &'a Doc,
+    stylesheet: &'a Stylesheet,
+    parameters: &'a Parameters,
+    source: Source<'a>,
+}
+
+impl<'a> SheetWorld<'a> {
+    ghost use Rattle.std.specs.Prelude.{◌≡◌};
+    ghost use Rattle.xt_world.specs.ParameterView.{parameters_of};
+    ghost use Rattle.xt_world.specs.View.{truth_in};
+    ghost use Rattle.xt_world.specs.WorldView.{truth_at};
+
+    /// The world of these, in which no keys were found yet. Takes no memory.
+    pub fn new(
+        alloc: Global,
+        document: &'a Doc,
+        stylesheet: &'a Stylesheet,
+        parameters: &'a Parameters,
+    ) -> SheetWorld<'a>
+        ensures { truth_at result ≡ truth_in stylesheet.now (parameters_of parameters.now) document.now }
+    {
+        let source = Source {
+            alloc,
+            document,
+            stylesheet,
+            keys: Vec::new(alloc),
+        };
+        SheetWorld {
+            alloc,
+            document,
+            stylesheet,
+            parameters,
+            source,
+        }
+    }
 }
 
 impl<'a> World for SheetWorld<'a> {
     ghost use Rattle.std.specs.Prelude.{[], None};
-    ghost use Rattle.xt_world.specs.ParameterView.{parameters_of};
-    ghost use Rattle.xt_world.specs.View.{truth_in};
+    ghost use Rattle.xt_world.specs.WorldView.{truth_at};
 
-    ghost state = { λ w. record { truth = truth_in w.stylesheet.now (parameters_of w.parameters.now) w.document.now; reads = None } };
+    ghost state = { λ w. record { truth = truth_at w; reads = None } };
 
     ghost name = { λ w. [] };
 
@@ -42,6 +73,7 @@ impl<'a> World for SheetWorld<'a> {
             self.document,
             self.stylesheet,
             self.parameters,
+            &mut self.source,
             question,
         )
     }
@@ -52,33 +84,40 @@ impl<'a> World for SheetWorld<'a> {
 }
 
 /// The true answer.
-fn answer(
+fn answer<'a>(
     alloc: Global,
     document: &Doc,
     stylesheet: &Stylesheet,
     parameters: &Parameters,
+    source: &mut Source<'a>,
     question: &Question,
 ) -> Result<Answer, Memory>
-    ensures { IfOk result (λ a. answer_of a ≡ truth_in stylesheet.now (parameters_of parameters.now) document.now (question_of question.now)) }
+    ensures answer { IfOk result (λ a. answer_of a ≡ truth_over (source_of source.old) stylesheet.now (parameters_of parameters.now) document.now (question_of question.now)) }
+    ensures same { source_of source.new ≡ source_of source.old }
 {
     match question {
         Question::Copy(node) => copied(alloc, document, node),
-        Question::Choice(node, mode, candidates) => {
-            chosen(alloc, document, stylesheet, *node, mode, *candidates)
-        }
+        Question::Choice(node, mode, candidates) => chosen(
+            alloc,
+            document,
+            stylesheet,
+            source,
+            *node,
+            mode,
+            *candidates,
+        ),
         Question::Unit(element) => unit(stylesheet, element),
-        Question::Key(_, _) => Ok(Answer::Nodes(Vec::new(alloc))),
         Question::External(name) => passed(alloc, parameters, name),
-        _ => plain(alloc, document, question),
+        _ => of_source(source, question),
     }
 }
 
-// The answer of the source's tree by itself.
-fn plain(alloc: Global, document: &Doc, question: &Question) -> Result<Answer, Memory>
-    ensures { IfOk result (λ a. answer_of a ≡ truth_of document.now (question_of question.now)) }
+// The answer of the source with its keys.
+fn of_source<'a>(source: &mut Source<'a>, question: &Question) -> Result<Answer, Memory>
+    ensures answer { IfOk result (λ a. answer_of a ≡ source_of source.old (question_of question.now)) }
+    ensures same { source_of source.new ≡ source_of source.old }
 {
-    let mut world = PlainWorld { alloc, document };
-    world.ask(question)
+    source.ask(question)
 }
 
 fn copied(alloc: Global, document: &Doc, node: &NodeRef) -> Result<Answer, Memory>
@@ -118,47 +157,48 @@ fn unit(stylesheet: &Stylesheet, element: &NodeRef) -> Result<Answer, Memory>
     }
 }
 
-fn chosen(
+fn chosen<'a>(
     alloc: Global,
     document: &Doc,
     stylesheet: &Stylesheet,
+    source: &mut Source<'a>,
     node: NodeRef,
     mode: &Option<Expanded>,
     candidates: Candidates,
 ) -> Result<Answer, Memory>
-    ensures { IfOk result (λ a. answer_of a ≡ choice_in stylesheet.now document.now node mode.now (candidates_of candidates)) }
+    ensures answer { IfOk result (λ a. answer_of a ≡ choice_by (source_of source.old) stylesheet.now document.now node mode.now (candidates_of candidates)) }
+    ensures same { source_of source.new ≡ source_of source.old }
 {
     document.distinct_numbers();
     if !document.has(alloc, &node)? {
         return Ok(Answer::Gone);
     }
-    let rule = rule(alloc, document, stylesheet, node, mode, candidates)?;
-    rule_element(alloc, stylesheet, rule)
+    let number = rule(alloc, stylesheet, source, node, mode, candidates)?;
+    Ok(Answer::Chosen(rule_numbered(stylesheet, number)))
 }
 
 /// The number of the rule for a node; none where it is a built-in rule.
-fn rule(
+fn rule<'a>(
     alloc: Global,
-    document: &Doc,
     stylesheet: &Stylesheet,
+    source: &mut Source<'a>,
     node: NodeRef,
     mode: &Option<Expanded>,
     candidates: Candidates,
 ) -> Result<Option<u64>, Memory>
-    ensures { IfOk result (λ number. rule_held stylesheet.now (said_of stylesheet.now document.now node mode.now (candidates_of candidates)) ≡ rule_held stylesheet.now (Gives number)) }
+    ensures number { IfOk result (λ number. rule_held stylesheet.now (said_of (source_of source.old) stylesheet.now node mode.now (candidates_of candidates)) ≡ rule_held stylesheet.now (Gives number)) }
+    ensures same { source_of source.new ≡ source_of source.old }
 {
     let supplies = Supplies {
         position: 1,
         size: 1,
+        rule: None,
         globals: Vec::new(alloc),
-    };
-    let mut world = Eval {
-        world: PlainWorld { alloc, document },
     };
     let rules = &stylesheet.rules;
     let units = stylesheet.units.as_slice();
     let chosen = choose(
-        alloc, rules, units, node, mode, candidates, &supplies, &mut world,
+        alloc, rules, units, node, mode, candidates, &supplies, source,
     );
     number_of(chosen)
 }
@@ -175,21 +215,15 @@ fn number_of(chosen: Result<Option<u64>, EvalFault>) -> Result<Option<u64>, Memo
     }
 }
 
-/// The element of the template of a rule.
-fn rule_element(
-    alloc: Global,
-    stylesheet: &Stylesheet,
-    number: Option<u64>,
-) -> Result<Answer, Memory>
-    ensures { IfOk result (λ a. answer_of a ≡ rule_held stylesheet.now (Gives number)) }
+/// The rule of this number, by the element of its template, with what its stylesheet imports.
+fn rule_numbered(stylesheet: &Stylesheet, number: Option<u64>) -> Option<ChosenRule>
+    ensures { option_map chosen_of result ≡ rule_numbered stylesheet.now number }
 {
-    let mut nodes = Vec::new(alloc);
-    if let Some(number) = number {
-        if let Some(rule) = stylesheet.rules.rules.get(number as usize) {
-            if let Some(element) = stylesheet.elements.get(rule.unit as usize) {
-                nodes.push(*element)?;
-            }
-        }
-    }
-    Ok(Answer::Nodes(nodes))
+    let rule = stylesheet.rules.rules.get(number? as usize)?;
+    let element = stylesheet.elements.get(rule.unit as usize)?;
+    Some(ChosenRule {
+        element: *element,
+        first: rule.imported,
+        last: rule.precedence,
+    })
 }

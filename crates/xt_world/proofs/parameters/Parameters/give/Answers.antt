@@ -1,4 +1,4 @@
-use Rattle.std.proofs.Common.{◌≡◌, List, ℕ, ap, string_bytes, sym, ◌∙◌}
+use Rattle.std.proofs.Common.{◌≡◌, ap, string_bytes, sym, ◌∙◌}
 use Rattle.std.specs.Str.{chars}
 use Rattle.xt_world.specs.ParameterView.{values_in, with_value}
 use Rattle.xt_world.proofs.Keys.{values-insert}

@@ -1,4 +1,4 @@
-use Rattle.std.proofs.Common.{◌≡◌, bytes_eq, string_bytes, ap, sym, ◌∙◌}
+use Rattle.std.proofs.Common.{bytes_eq, string_bytes, ap, sym, ◌∙◌}
 use Rattle.std.specs.Prelude.{is_some}
 use Rattle.std.specs.Map.{lookup, remove_entry}
 use Rattle.std.specs.String.{string_eq}

@@ -1,0 +1,10 @@
+-- What a world answers, by what it holds.
+use Rattle.spec_meaning.specs.Question.{Question, Answer}
+use Rattle.xt_tree.specs.declared.node_ref.NodeRef.{NodeRef}
+use Rattle.xt_world.specs.ParameterView.{parameters_of}
+use Rattle.xt_world.specs.SourceView.{source_of}
+use Rattle.xt_world.specs.View.{truth_over}
+use Rattle.xt_world.specs.declared.world.SheetWorld.{SheetWorld}
+
+abbrev pub truth_at : SheetWorld → Question NodeRef → Answer NodeRef
+truth_at w = truth_over (source_of w.source) w.stylesheet.now (parameters_of w.parameters.now) w.document.now
