@@ -1,3 +1,4 @@
+pub mod First
 pub mod Opened
 pub mod Placed
 pub mod Rank

@@ -86,11 +86,3 @@ CheckedAs checked (Err faults.NoMain) = ⊥
 
 pub record IsChecked (checked : Result spec_sheet.Sheet spec.Refusal) (result : Result Sheet SheetFault) : Type 0 where
   pub so : CheckedAs checked result
-
--- a module is refused at the first of its faults of the first pass and of one more
-pub record IsRefusedWith (modules : Modules) (name : List ℕ) (other : structure.Fault) (refusal : spec.Refusal) : Type 0 where
-  pub answer : Result (List unit.TopLevel) structure.Fault
-  pub read : IsRead modules name answer
-  pub fault : structure.Fault
-  pub first : spec.earlier_of (spec.fault_in answer) (Some other) ≡ Some fault
-  pub is : refusal ≡ spec.refusal_at name fault

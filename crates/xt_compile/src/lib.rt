@@ -26,4 +26,4 @@ mod stock;
 
 pub use compiled::sheet;
 pub use fault::{SheetFault, StaticRefusal};
-pub use first::refused_with;
+pub use first::refusal_with;
