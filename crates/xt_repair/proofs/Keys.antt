@@ -36,6 +36,11 @@ pub map-copied : {X Y : Type 0} (f : X → Y) (o : Option (Bor X)) → option_ma
 map-copied f None = refl
 map-copied f (Some r) = refl
 
+-- the module of these characters, as it is found by its text
+pub looked_up : (es : List (String Global × Document ℕ)) (text : List ℕ) → IsUtf8 text → (name : List ℕ) → chars text ≡ name → (found : Option (Bor (Document ℕ)))
+    → option_copied found ≡ lookup (λ key. bytes_eq text (string_bytes key)) es → plain_in found ≡ modules_in es name
+looked_up es text utf8 name same found e = map-copied plain_of found ∙ ap (option_map plain_of) (e ∙ by_characters text utf8 es) ∙ ap (modules_in es) same
+
 main_is_utf8 : IsUtf8 (codes "main")
 unfolding is_utf8 chars encode
 main_is_utf8 = IsUtf8-from_is_utf8 (codes "main") refl
@@ -44,4 +49,4 @@ main_is_utf8 = IsUtf8-from_is_utf8 (codes "main") refl
 pub is_main : (es : List (String Global × Document ℕ)) (found : Option (Bor (Document ℕ)))
     → option_copied found ≡ lookup (λ key. bytes_eq (codes "main") (string_bytes key)) es → plain_in found ≡ modules_in es main_name
 unfolding chars
-is_main es found e = map-copied plain_of found ∙ ap (option_map plain_of) (e ∙ by_characters (codes "main") main_is_utf8 es)
+is_main es found e = looked_up es (codes "main") main_is_utf8 main_name refl found e

@@ -5,3 +5,5 @@ pub mod Stylesheets
 pub mod Coming
 pub mod Giving
 pub mod Keeping
+pub mod Dropping
+pub mod Dropped

@@ -9,7 +9,7 @@ use Rattle.spec_run.specs.Documents.{Parameters, main_name}
 use Rattle.spec_run.specs.Outcome.{IsStylesheet}
 use Rattle.spec_run.specs.World.{globals_of}
 use Rattle.xt_tree.specs.declared.node_ref.NodeRef.{NodeRef}
-use Rattle.xp_syntax.specs.SheetView.{sheet_of}
+use Rattle.xp_syntax.specs.SheetView.{sheet_of, space_rules_of}
 use Rattle.xp_syntax.specs.declared.sheet.Sheet.{Sheet}
 use Rattle.xt_compile.specs.View.{refusal_in}
 use Rattle.xt_compile.specs.declared.fault.SheetFault.{SheetFault}
@@ -25,15 +25,19 @@ use Rattle.xt_repair.specs.declared.stylesheet.Compiled.TheVariants.{Stylesheet,
 abbrev pub with_one : List ℕ → Plain → Modules → Modules
 with_one name nodes modules = λ other. if bytes_eq other name then Some nodes else modules other
 
--- a call gives the stylesheet that modules are whose principal one is this, or their refusal. Of want of memory it says nothing
-abbrev pub IsSheetSo : Modules → Plain → Result Sheet SheetFault → Type 0
-IsSheetSo modules main (Ok sheet) = IsStylesheet modules main_name main (Ok (sheet_of sheet))
-IsSheetSo modules main (Err (faults.Refused why)) = IsStylesheet modules main_name main (Err (refusal_in why))
-IsSheetSo modules main (Err faults.NoMain) = ⊥
-IsSheetSo modules main (Err faults.Memory) = Unit {0}
+-- the modules without this one
+abbrev pub without_one : List ℕ → Modules → Modules
+without_one name modules = λ other. if bytes_eq other name then None else modules other
 
-pub record IsSheetOf (modules : Modules) (main : Plain) (result : Result Sheet SheetFault) : Type 0 where
-  pub so : IsSheetSo modules main result
+-- a call gives the stylesheet that modules are, or their refusal. Of want of memory it says nothing
+abbrev pub IsSheetSo : Modules → Result Sheet SheetFault → Type 0
+IsSheetSo modules (Ok sheet) = IsStylesheet modules main_name (Ok (sheet_of sheet))
+IsSheetSo modules (Err (faults.Refused why)) = IsStylesheet modules main_name (Err (refusal_in why))
+IsSheetSo modules (Err faults.NoMain) = modules main_name ≡ None
+IsSheetSo modules (Err faults.Memory) = Unit {0}
+
+pub record IsSheetOf (modules : Modules) (result : Result Sheet SheetFault) : Type 0 where
+  pub so : IsSheetSo modules result
 
 -- in the world of any source, with any parameters, it answers as this stylesheet does, and it has the globals of that
 pub record AnswersAs (held : world.Stylesheet) (sheet : plain.Sheet) : Type 0 where
@@ -42,13 +46,14 @@ pub record AnswersAs (held : world.Stylesheet) (sheet : plain.Sheet) : Type 0 wh
   pub globals : map named_of held.globals.items ≡ globals_of (element_called sheet.units) sheet.units
 
 abbrev pub Holds : Compiled → Result plain.Sheet compile.Refusal → Type 0
-Holds (Stylesheet held method) result = (sheet : plain.Sheet) × (result ≡ Ok sheet) × AnswersAs held sheet × (method ≡ sheet.method)
+Holds (Stylesheet held rules method) result =
+    (sheet : plain.Sheet) × (result ≡ Ok sheet) × AnswersAs held sheet × (space_rules_of rules ≡ sheet.space_rules) × (method ≡ sheet.method)
 Holds (Refused why) result = result ≡ Err (refusal_in why)
 
--- it is what modules are whose principal one is this
-pub record IsCompiledFrom (modules : Modules) (main : Plain) (compiled : Compiled) : Type 0 where
+-- it is what modules are
+pub record IsCompiledFrom (modules : Modules) (compiled : Compiled) : Type 0 where
   pub result : Result plain.Sheet compile.Refusal
-  pub is : IsStylesheet modules main_name main result
+  pub is : IsStylesheet modules main_name result
   pub holds : Holds compiled result
 
 -- there is something where there is a principal module
@@ -56,7 +61,7 @@ abbrev pub AreCompiledBy : Modules → Option Plain → Option Compiled → Type
 AreCompiledBy modules None None = Unit {0}
 AreCompiledBy modules None (Some compiled) = ⊥
 AreCompiledBy modules (Some main) None = ⊥
-AreCompiledBy modules (Some main) (Some compiled) = IsCompiledFrom modules main compiled
+AreCompiledBy modules (Some main) (Some compiled) = IsCompiledFrom modules compiled
 
 pub record AreCompiled (modules : Modules) (compiled : Option Compiled) : Type 0 where
   pub so : AreCompiledBy modules (modules main_name) compiled

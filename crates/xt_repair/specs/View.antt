@@ -9,7 +9,7 @@ use Rattle.std.specs.declared.string.String.{String}
 use Rattle.spec_document.specs.Fault.{Fault}
 use Rattle.spec_document.specs.Forest.{Plain, Document, size}
 use Rattle.spec_edit.specs.Edit.{Edit, Edited, edited_document}
-use Rattle.spec_run.specs.Documents.{Documents, with_source, with_module, with_parameter, parameter_fault}
+use Rattle.spec_run.specs.Documents.{Documents, with_source, with_module, without_module, with_parameter, parameter_fault}
 use Rattle.spec_run.specs.Outcome as spec
 use Rattle.spec_run.specs.Outcome.{IsOutcome}
 use Rattle.xt_base.specs.Code.{edit_number}
@@ -21,6 +21,7 @@ use Rattle.xt_edit.specs.declared.fault.EditFault.TheVariants as faults
 use Rattle.xt_import.specs.View.{is_name, modules_in, plain_of}
 use Rattle.xt_world.specs.ParameterView.{HasRoomForOne, parameters_of}
 use Rattle.xt_repair.specs.OutcomeView.{outcome_of}
+use Rattle.xt_repair.specs.Refusal.{IsThere}
 use Rattle.xt_repair.specs.StylesheetView.{AreCompiled}
 use Rattle.xt_repair.specs.declared.held.Held.{Held}
 use Rattle.xt_repair.specs.declared.name.DocName.{DocName}
@@ -89,12 +90,14 @@ edit_fault_of (builds.Refused fault) = faults.Refused fault.code fault.line
 abbrev pub changed_by : Change → Documents → Documents
 changed_by (changes.Source document) old = with_source (plain_of document) old
 changed_by (changes.Module name document compiled) old = with_module (chars (string_bytes name)) (plain_of document) old
+changed_by (changes.Dropped name compiled) old = without_module name old
 changed_by (changes.Parameter name value) old = with_parameter (chars (string_bytes name)) value old
 
 -- what is held of what the modules are, once it is adopted
 abbrev pub next_compiled : Change → Held → Option Compiled
 next_compiled (changes.Source document) held = held.compiled
 next_compiled (changes.Module name document compiled) held = compiled
+next_compiled (changes.Dropped name compiled) held = compiled
 next_compiled (changes.Parameter name value) held = held.compiled
 
 -- what is held once it is adopted
@@ -111,12 +114,14 @@ next_outcome ready = outcome_of ready.outcome
 abbrev pub HasRoom : Change → Held → Type 0
 HasRoom (changes.Source document) held = Unit {0}
 HasRoom (changes.Module name document compiled) held = 0 < spare held.modules
+HasRoom (changes.Dropped name compiled) held = Unit {0}
 HasRoom (changes.Parameter name value) held = HasRoomForOne held.parameters
 
 -- the numbers of the document that changes are below this one
 abbrev pub IsBelow : ℕ → Change → Type 0
 IsBelow first (changes.Source document) = AreBelow first document
 IsBelow first (changes.Module name document compiled) = AreBelow first document
+IsBelow first (changes.Dropped name compiled) = Unit {0}
 IsBelow first (changes.Parameter name value) = Unit {0}
 
 -- it was made from what is held: its outcome is that of the documents that will be held, the modules are what will be held of that, and the next
@@ -156,6 +161,12 @@ PreparesEdit name edit held (Ok ready) =
 PreparesEdit name edit held (Err (faults.Refused code line)) =
     edited_document (made_of held) edit (document_named name (documents_of held)) ≡ Err (record { number = edit_number code; line = line })
 PreparesEdit name edit held (Err faults.Memory) = Unit {0}
+
+-- where the module of this name is to be dropped, which makes no node: 5 where there is none
+abbrev pub PreparesDrop : (name : List ℕ) → Held → Result Ready EditFault → Type 0
+PreparesDrop name held (Ok ready) = IsThere (documents_of held).modules name × IsReady (without_module name) (made_of held) held ready
+PreparesDrop name held (Err (faults.Refused code line)) = ((documents_of held).modules name ≡ None) × (edit_number code ≡ 5) × (line ≡ 0)
+PreparesDrop name held (Err faults.Memory) = Unit {0}
 
 -- where a parameter of this name is to be given this value, which makes no node
 abbrev pub PreparesParameter : (name value : List ℕ) → Held → Result Ready EditFault → Type 0

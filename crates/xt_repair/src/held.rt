@@ -8,20 +8,20 @@ ghost use Rattle.spec_document.specs.Document.{document_of};
 ghost use Rattle.spec_document.specs.Forest.{size};
 ghost use Rattle.spec_document.specs.Scope.{root_scope};
 ghost use Rattle.spec_edit.specs.Edit.{edited_or_missing};
-ghost use Rattle.spec_run.specs.Documents.{no_documents, with_module, with_parameter, with_source};
+ghost use Rattle.spec_run.specs.Documents.{no_documents, with_module, with_parameter, with_source, without_module};
 ghost use Rattle.xt_build.specs.View.{Builds, document_in};
 ghost use Rattle.xt_edit.specs.View.{AreBelow, EditsPlain, edit_of};
 ghost use Rattle.xt_import.specs.View.{is_name, plain_of};
 ghost use Rattle.xt_world.specs.ParameterView.{HasRoomForOne};
 ghost use Rattle.xt_repair.specs.OutcomeView.{outcome_of, plain_in};
-ghost use Rattle.xt_repair.specs.View.{HasBelow, HasRoom, IsBelow, IsCurrent, IsKept, IsMadeFrom, IsReady, Prepares, PreparesEdit, PreparesParameter, changed_by, document_named, documents_of, edit_fault_of, made_of, next_compiled, next_documents, next_made, next_outcome, numbered_document, outcome_in, with_document};
+ghost use Rattle.xt_repair.specs.View.{HasBelow, HasRoom, IsBelow, IsCurrent, IsKept, IsMadeFrom, IsReady, Prepares, PreparesDrop, PreparesEdit, PreparesParameter, changed_by, document_named, documents_of, edit_fault_of, made_of, next_compiled, next_documents, next_made, next_outcome, numbered_document, outcome_in, with_document};
 
 use crate::name::DocName;
 use crate::outcome::{Outcome, at_no_element, outcome_of};
 use crate::parameter::{TriedParameter, outcome_with, parameter_fault};
 use crate::ready::{Change, Ready};
 use crate::stylesheet::Compiled;
-use crate::tried::{Tried, compiled_with};
+use crate::tried::{Tried, compiled_with, compiled_without};
 use crate::unread::unread_line;
 use indexmap::IndexMap;
 use spec_expression::StaticCode;
@@ -91,6 +91,22 @@ impl Held {
         match self.built(alloc, body) {
             Ok(Built { document, next }) => Ok(self.module_ready(alloc, name, document, next)?),
             Err(fault) => Err(edit_fault(fault)),
+        }
+    }
+
+    /// Makes ready that there is no module of this name any more: 5 where there is none. Nothing is changed but that room
+    /// is made, and the order of the modules, which does not matter.
+    pub fn drop_module(&mut self, alloc: Global, name: &Text) -> Result<Ready, EditFault>
+        requires { IsCurrent self.old }
+        ensures answer { PreparesDrop name.now self.new result }
+        ensures kept { IsKept self.old self.new }
+    {
+        match self.module(name.as_str()) {
+            None => Err(EditFault::Refused {
+                code: EditCode::NoDocument,
+                line: 0,
+            }),
+            Some(_) => Ok(self.drop_ready(alloc, name)?),
         }
     }
 
@@ -273,6 +289,23 @@ impl Held {
         })
     }
 
+    // What is removed takes no memory, so that `adopt` wants no room.
+    fn drop_ready(&mut self, alloc: Global, name: &Text) -> Result<Ready, Memory>
+        requires { IsCurrent self.old }
+        ensures ok { IfOk result (λ ready. IsReady (without_module name.now) (made_of self.new) self.new ready) }
+        ensures kept { IsKept self.old self.new }
+    {
+        let dropped = name.copy(alloc)?;
+        let compiled = compiled_without(alloc, &mut self.modules, name)?;
+        let source = self.source.as_ref();
+        let outcome = outcome_of(alloc, compiled.as_ref(), &self.parameters, source)?;
+        Ok(Ready {
+            change: Change::Dropped(dropped, compiled),
+            next: self.next,
+            outcome,
+        })
+    }
+
     // There is room for one parameter more afterwards, so that `adopt` takes no memory.
     fn parameter_ready(&mut self, alloc: Global, name: &Text, value: &Text) -> Result<Ready, Memory>
         requires { IsCurrent self.old }
@@ -303,6 +336,7 @@ impl Held {
         match change {
             Change::Source(document) => self.put_source(document),
             Change::Module(name, document, compiled) => self.put_module(name, document, compiled),
+            Change::Dropped(name, compiled) => self.take_module(&name, compiled),
             Change::Parameter(name, value) => self.put_parameter(name, value),
         }
     }
@@ -323,6 +357,15 @@ impl Held {
         ensures below { (first : ℕ) → HasBelow first self.old → AreBelow first document → HasBelow first self.new }
     {
         let _ = self.modules.insert(name, document);
+        self.compiled = compiled;
+    }
+
+    fn take_module(&mut self, name: &Text, compiled: Option<Compiled>)
+        ensures documents { documents_of self.new ≡ without_module name.now (documents_of self.old) }
+        ensures compiled { self.new.compiled ≡ compiled }
+        ensures below { (first : ℕ) → HasBelow first self.old → HasBelow first self.new }
+    {
+        let _ = self.modules.shift_remove(name.as_str());
         self.compiled = compiled;
     }
 

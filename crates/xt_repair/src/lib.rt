@@ -12,6 +12,7 @@
 //! held.adopt(ready);                                 // takes no memory
 //! let ready = held.edit(alloc, name, &edit)?;        // a document by its name, edited by path
 //! let ready = held.set_param(alloc, name, value)?;   // the same for a parameter
+//! let ready = held.drop_module(alloc, name)?;        // a module taken away
 //! ```
 #![tactic(auto)]
 
@@ -20,6 +21,7 @@ mod name;
 mod outcome;
 mod parameter;
 mod ready;
+mod refusal;
 mod stylesheet;
 mod tried;
 mod unread;

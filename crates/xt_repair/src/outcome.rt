@@ -11,6 +11,8 @@ ghost use Rattle.spec_run.specs.Outcome as spec;
 ghost use Rattle.spec_run.specs.Outcome.{Comes, document_of, outcome_by, refused_static};
 ghost use Rattle.spec_run.specs.Plan.{nowhere};
 ghost use Rattle.spec_run.specs.World.{setting_of};
+ghost use Rattle.spec_seen.specs.Seen.{seen as seen_of};
+ghost use Rattle.xp_syntax.specs.SheetView.{space_rules_of};
 ghost use Rattle.xt_compile.specs.View.{refusal_in};
 ghost use Rattle.xt_drive.specs.View.{whole_of};
 ghost use Rattle.xt_import.specs.View.{plain_of};
@@ -20,14 +22,16 @@ ghost use Rattle.xt_repair.specs.StylesheetView.{AnswersAs, AreCompiled, IsCompi
 
 use crate::stylesheet::{Compiled, copy_method};
 use spec_expression::StaticCode;
+use spec_seen::labels_do_not_matter;
 use std::alloc::Global;
-use xp_syntax::Method;
+use xp_syntax::{Method, SpaceRules};
 use xt_ask::copy_place;
 use xt_base::{Code, Place};
 use xt_compile::StaticRefusal;
 use xt_drive::{Whole, run};
 use xt_engine::Runner;
 use xt_result::{ResultTree, shape};
+use xt_strip::seen;
 use xt_text::{Memory, Path, Text};
 use xt_tree::{Doc, NodeRef};
 use xt_world::{Parameters, SheetWorld, Stylesheet, same_run};
@@ -95,12 +99,12 @@ fn transformed(
     parameters: &Parameters,
     source: &Doc,
 ) -> Result<Outcome, Memory>
-    ensures { (modules : Modules) (main : Plain) → IsCompiledFrom modules main compiled.now
+    ensures { (modules : Modules) (main : Plain) → IsCompiledFrom modules compiled.now
         → IfOk result (λ outcome. Comes modules (parameters_of parameters.now) (Some main) (Some (plain_of source.now)) (outcome_of outcome)) }
 {
     match compiled {
-        Compiled::Stylesheet(stylesheet, method) => {
-            let whole = whole(alloc, stylesheet, parameters, source)?;
+        Compiled::Stylesheet(stylesheet, space_rules, method) => {
+            let whole = whole_of_seen(alloc, stylesheet, space_rules, parameters, source)?;
             let method = copy_method(alloc, method)?;
             ended(method, whole)
         }
@@ -120,7 +124,23 @@ fn refused(alloc: Global, refusal: &StaticRefusal) -> Result<Outcome, Memory>
     })
 }
 
-// The run of the stylesheet on the source, in a world that looks everything up.
+// The run of the stylesheet on what it sees of the source (XSLT 1.0, section 3.4).
+fn whole_of_seen(
+    alloc: Global,
+    stylesheet: &Stylesheet,
+    space_rules: &SpaceRules,
+    parameters: &Parameters,
+    source: &Doc,
+) -> Result<Whole, Memory>
+    ensures { (sheet : plain.Sheet) → AnswersAs stylesheet.now sheet → space_rules_of space_rules.now ≡ sheet.space_rules
+        → IfOk result (λ whole. whole_of whole ≡ run_of (setting_of sheet (parameters_of parameters.now) (seen_of sheet.space_rules.rules (document_of (plain_of source.now))))) }
+{
+    labels_do_not_matter();
+    let seen = seen(alloc, source, space_rules.rules.as_slice())?;
+    whole(alloc, stylesheet, parameters, &seen)
+}
+
+// The run of the stylesheet on this source, in a world of its own.
 fn whole(
     alloc: Global,
     stylesheet: &Stylesheet,
@@ -133,12 +153,7 @@ fn whole(
     same_run();
     source.distinct_numbers();
     let root = NodeRef::of(source.root());
-    let mut world = SheetWorld {
-        alloc,
-        document: source,
-        stylesheet,
-        parameters,
-    };
+    let mut world = SheetWorld::new(alloc, source, stylesheet, parameters);
     let mut engine = Runner::new();
     run(
         alloc,

@@ -19,6 +19,8 @@ pub(crate) enum Change {
     Source(Doc),
     /// This document becomes the module of this name, with which the modules are this.
     Module(String, Doc, Option<Compiled>),
+    /// There is no module of this name any more, and the modules are this.
+    Dropped(Text, Option<Compiled>),
     /// The parameter of this name has this value.
     Parameter(String, Text),
 }

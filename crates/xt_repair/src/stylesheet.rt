@@ -1,16 +1,17 @@
 // The stylesheet that modules are.
-ghost use Rattle.std.specs.Prelude.{◌≡◌, IfOk, Ok, Some};
+ghost use Rattle.std.specs.Prelude.{◌≡◌, IfOk, Ok};
 ghost use Rattle.spec_run.specs.Documents.{main_name};
 ghost use Rattle.xp_syntax.specs.SheetView.{sheet_of};
-ghost use Rattle.xt_import.specs.View.{modules_in, plain_of};
+ghost use Rattle.xt_import.specs.View.{modules_in};
+ghost use Rattle.xt_repair.specs.Refusal.{IsThere};
 ghost use Rattle.xt_repair.specs.StylesheetView.{AreCompiled, Holds, IsCompiledFrom, IsSheetOf};
 
+use crate::refusal::refusal_before;
 use indexmap::IndexMap;
 use std::alloc::Global;
-use xp_syntax::{Method, Sheet};
+use xp_syntax::{Method, Sheet, SpaceRules};
 use xt_ask::copy_name;
-use xt_compile::{SheetFault, StaticRefusal, refused_with, sheet};
-use xt_not_yet::not_yet;
+use xt_compile::{SheetFault, StaticRefusal, sheet};
 use xt_text::{Memory, Text};
 use xt_tree::Doc;
 use xt_world::Stylesheet;
@@ -21,8 +22,8 @@ pub(crate) const MAIN: &str = "main";
 /// What modules are.
 #[derive(Drop)]
 pub(crate) enum Compiled {
-    /// A stylesheet, with its output method.
-    Stylesheet(Stylesheet, Option<Method>),
+    /// A stylesheet, with its rules on the white space of the source and its output method.
+    Stylesheet(Stylesheet, SpaceRules, Option<Method>),
     /// None: this is their first static refusal.
     Refused(StaticRefusal),
 }
@@ -36,20 +37,16 @@ pub(crate) fn compile(
 {
     match modules.get(MAIN) {
         None => Ok(None),
-        Some(main) => Ok(Some(compiled_main(alloc, modules, main)?)),
+        Some(_) => Ok(Some(compiled_main(alloc, modules)?)),
     }
 }
 
-// What the modules are, of which `main` is this document.
-fn compiled_main(
-    alloc: Global,
-    modules: &IndexMap<String, Doc>,
-    main: &Doc,
-) -> Result<Compiled, Memory>
-    requires { modules_in modules.now.entries main_name ≡ Some (plain_of main.now) }
-    ensures { IfOk result (λ compiled. IsCompiledFrom (modules_in modules.now.entries) (plain_of main.now) compiled) }
+// What the modules are, of which one is `main`.
+fn compiled_main(alloc: Global, modules: &IndexMap<String, Doc>) -> Result<Compiled, Memory>
+    requires { IsThere (modules_in modules.now.entries) main_name }
+    ensures { IfOk result (λ compiled. IsCompiledFrom (modules_in modules.now.entries) compiled) }
 {
-    match sheet_of_main(alloc, modules, main) {
+    match sheet_of_main(alloc, modules) {
         Ok(sheet) => runnable(alloc, sheet),
         Err(SheetFault::Refused(refusal)) => Ok(Compiled::Refused(refusal)),
         Err(SheetFault::NoMain) => unreachable!(),
@@ -57,30 +54,41 @@ fn compiled_main(
     }
 }
 
-// The stylesheet of the modules, of which `main` is this document. What is not run yet is a fault of `main` beside
-// those of the first pass.
-fn sheet_of_main(
-    alloc: Global,
-    modules: &IndexMap<String, Doc>,
-    main: &Doc,
-) -> Result<Sheet, SheetFault>
-    requires { modules_in modules.now.entries main_name ≡ Some (plain_of main.now) }
-    ensures { IsSheetOf (modules_in modules.now.entries) (plain_of main.now) result }
+// The stylesheet of the modules. What is not run yet is a fault of the first pass of the module in which it stands.
+fn sheet_of_main(alloc: Global, modules: &IndexMap<String, Doc>) -> Result<Sheet, SheetFault>
+    ensures { IsSheetOf (modules_in modules.now.entries) result }
 {
-    let name = Text::from_str(alloc, MAIN)?;
-    match not_yet(alloc, main)? {
-        None => sheet(alloc, modules, &name),
-        Some(fault) => Err(SheetFault::Refused(refused_with(alloc, modules, &name, main, fault)?)),
+    match refusal_before(alloc, modules)? {
+        None => {
+            let main = Text::from_str(alloc, MAIN)?;
+            sheet(alloc, modules, &main)
+        }
+        Some(refusal) => Err(SheetFault::Refused(refusal)),
     }
 }
 
-// The stylesheet made ready to be run.
+// The stylesheet made ready to be run. The run asks neither for its rules of white space nor for its method.
 fn runnable(alloc: Global, sheet: Sheet) -> Result<Compiled, Memory>
     ensures { IfOk result (λ compiled. Holds compiled (Ok (sheet_of sheet))) }
 {
-    let method = copy_method(alloc, &sheet.method)?;
-    let stylesheet = Stylesheet::new(alloc, sheet)?;
-    Ok(Compiled::Stylesheet(stylesheet, method))
+    let Sheet {
+        units,
+        rules,
+        space_rules,
+        method,
+        aliases,
+    } = sheet;
+    let asked = Sheet {
+        units,
+        rules,
+        space_rules: SpaceRules {
+            rules: Vec::new(alloc),
+        },
+        method: None,
+        aliases,
+    };
+    let stylesheet = Stylesheet::new(alloc, asked)?;
+    Ok(Compiled::Stylesheet(stylesheet, space_rules, method))
 }
 
 /// The same output method, in memory of its own.

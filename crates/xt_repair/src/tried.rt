@@ -1,10 +1,12 @@
-// What modules would be with another document among them.
-ghost use Rattle.std.specs.Prelude.{◌≡◌, IfOk, IsSome, Ok, Some, bytes_eq, string_bytes};
+// What modules would be with another document among them, or without one.
+ghost use Rattle.std.specs.Prelude.{◌≡◌, ◌<◌, IfOk, IsSome, Ok, Some, bytes_eq, string_bytes};
+ghost use Rattle.std.specs.HashMap.{spare};
 ghost use Rattle.std.specs.Map.{lookup, remove_entry};
 ghost use Rattle.std.specs.String.{string_eq};
 ghost use Rattle.indexmap.specs.IndexMap.{insert_entry};
 ghost use Rattle.xt_import.specs.View.{modules_in, plain_of};
-ghost use Rattle.xt_repair.specs.StylesheetView.{AreCompiled, with_one};
+ghost use Rattle.xt_repair.specs.StylesheetView.{AreCompiled, with_one, without_one};
+ghost use Rattle.xt_repair.specs.Tried.{AreSame};
 
 use crate::stylesheet::{Compiled, compile};
 use indexmap::IndexMap;
@@ -44,6 +46,34 @@ pub(crate) fn compiled_with(
             with_document(compiled, document)
         }
     }
+}
+
+/// What the modules are without that of this name. Afterwards they are as before, but for their order.
+pub(crate) fn compiled_without(
+    alloc: Global,
+    modules: &mut IndexMap<String, Doc>,
+    name: &Text,
+) -> Result<Option<Compiled>, Memory>
+    ensures compiled { IfOk result (λ compiled. AreCompiled (without_one name.now (modules_in modules.old.entries)) compiled) }
+    ensures kept { AreSame modules.old.entries modules.new.entries }
+{
+    modules.reserve(1)?;
+    match modules.shift_remove_entry(name.as_str()) {
+        None => compile(alloc, modules),
+        Some((name, document)) => {
+            let compiled = compile(alloc, modules);
+            put_again(modules, name, document);
+            compiled
+        }
+    }
+}
+
+// The module of this name is among them again. There is room, so the insertion does not fail.
+fn put_again(modules: &mut IndexMap<String, Doc>, name: String, document: Doc)
+    requires { 0 < spare modules.old }
+    ensures { modules.new.entries ≡ insert_entry string_eq modules.old.entries name document }
+{
+    let _ = modules.insert(name, document);
 }
 
 fn with_document(compiled: Result<Option<Compiled>, Memory>, document: Doc) -> Result<Tried, Memory>

@@ -8,12 +8,12 @@ use Rattle.spec_document.specs.Name.{Expanded}
 use Rattle.spec_edit.specs.Edit.{Edit, Edited, edited_document}
 use Rattle.spec_stylesheet.specs.declared.method.Method.{Method}
 use Rattle.spec_stylesheet.specs.declared.method.Method.TheVariants as method
-use Rattle.spec_run.specs.Documents.{Documents, with_parameter}
+use Rattle.spec_run.specs.Documents.{Documents, with_parameter, without_module}
 use Rattle.spec_run.specs.Outcome.{Outcome, IsOutcome}
 use Rattle.spec_session.specs.Command.{Command}
 use Rattle.spec_session.specs.Machine.{State, Changes, ShowsResult, WritesResult, ShowsMessages, ShowsDocument, Refuses, kept_in, kept_by}
 use Rattle.spec_session.specs.Machine.{document_named, with_document, edited_by, edited_in}
-use Rattle.spec_session.specs.Machine.{shows, given_by, change_reply, result_reply, written_by, written_reply, messages_reply, answer_by, answer_to, Gives, Step}
+use Rattle.spec_session.specs.Machine.{shows, dropped_by, given_by, change_reply, result_reply, written_by, written_reply, messages_reply, answer_by, answer_to, Gives, Step}
 use Rattle.spec_session.specs.Request.{DocumentName, Request, request_of}
 use Rattle.spec_session.specs.Reply.{Reply, No, Shown, Written, reply_text}
 use Rattle.xt_base.specs.Code.{edit_number}
@@ -31,6 +31,10 @@ use Rattle.xt_session.specs.Turn.{GivesReply, GivesText}
 -- what is held once the parameter has this value
 abbrev pub given : (name value : List ℕ) → State → State
 given name value old = record { documents = with_parameter name value old.documents; made = old.made }
+
+-- and once there is no module of this name
+abbrev pub dropped : (name : List ℕ) → State → State
+dropped name old = record { documents = without_module name old.documents; made = old.made }
 
 -- what holds of the value of an `Ok`
 pub if_ok_map : {T E : Type 0} (P Q : T → Type 0) (r : Result T E) → ((x : T) → P x → Q x) → IfOk r P → IfOk r Q
@@ -158,6 +162,21 @@ pub gives_not_given : (name value : List ℕ) (old : State) (fault : Option ℕ)
     → fault ≡ Some number → text ≡ reply_text (No number) → GivesText old (given_by name value old fault) text old
 gives_not_given name value old fault number text some is =
     subst (λ (o : Option ℕ). GivesText old (given_by name value old o) text old) (sym some) (gives_refusal old number text is)
+
+-- of a module that is to be dropped: it is there no more, after what changed nothing, or there is none
+pub gives_dropped : (name : List ℕ) (first : State) (tree : Plain) {old next new : State} {text : List ℕ} → old ≡ first → old.documents.modules name ≡ Some tree
+    → GivesText old (Changes next) text new → next ≡ dropped name old → GivesText first (dropped_by name first (first.documents.modules name)) text new
+gives_dropped name first tree {old = old} {next = next} {new = new} {text = text} same some gives is =
+    let held : GivesText old (Changes (dropped name old)) text new = subst (λ (s : State). GivesText old (Changes s) text new) is gives in
+    subst (λ (s : State). GivesText s (dropped_by name s (s.documents.modules name)) text new) same
+    (subst (λ (o : Option Plain). GivesText old (dropped_by name old o) text new) (sym some) held)
+
+pub gives_not_dropped : (name : List ℕ) (first : State) (number : ℕ) {old : State} {text : List ℕ} → old ≡ first → old.documents.modules name ≡ None → number ≡ 5
+    → text ≡ reply_text (No number) → GivesText first (dropped_by name first (first.documents.modules name)) text old
+gives_not_dropped name first number {old = old} {text = text} same none five is =
+    let number_is : text ≡ reply_text (No 5) = is ∙ ap (λ (n : ℕ). reply_text (No n)) five in
+    subst (λ (s : State). GivesText s (dropped_by name s (s.documents.modules name)) text old) same
+    (subst (λ (o : Option Plain). GivesText old (dropped_by name old o) text old) (sym none) (gives_refusal old 5 text number_is))
 
 -- a command, by its line and the lines of its body
 pub command_is : (command : Command) (line : List ℕ) (body : List (List ℕ)) → line ≡ command.line → body ≡ command.body

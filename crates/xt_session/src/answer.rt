@@ -8,7 +8,7 @@ ghost use Rattle.xt_wire.specs.View.{asked_of, name_of};
 ghost use Rattle.xt_session.specs.State.{state_of};
 ghost use Rattle.xt_session.specs.Turn.{GivesReply, GivesText};
 
-use crate::changes::{edit, set_module, set_parameter, set_source};
+use crate::changes::{drop_module, edit, set_module, set_parameter, set_source};
 use crate::command::Command;
 use crate::messages::messages_reply;
 use crate::names::doc_name;
@@ -44,6 +44,7 @@ fn carry_out(alloc: Global, held: &mut Held, asked: xt_wire::Command) -> Result<
     match asked {
         xt_wire::Command::SetSource(body) => set_source(alloc, held, body.as_slice()),
         xt_wire::Command::SetModule(name, body) => set_module(alloc, held, &name, body.as_slice()),
+        xt_wire::Command::DropModule(name) => drop_module(alloc, held, &name),
         xt_wire::Command::Show => show(alloc, held),
         xt_wire::Command::Dump(name) => dump(alloc, held, &name),
         xt_wire::Command::Write => write(alloc, held),

@@ -3,7 +3,7 @@ ghost use Rattle.std.specs.Prelude.{◌≡◌, IfOk, OnErr};
 ghost use Rattle.spec_document.specs.Document.{document_of};
 ghost use Rattle.spec_document.specs.Scope.{root_scope};
 ghost use Rattle.spec_run.specs.Documents.{parameter_fault, with_module, with_source};
-ghost use Rattle.spec_session.specs.Machine.{edited_in, given_by, kept_by, Changes};
+ghost use Rattle.spec_session.specs.Machine.{dropped_by, edited_in, given_by, kept_by, Changes};
 ghost use Rattle.xt_edit.specs.View.{edit_of};
 ghost use Rattle.xt_repair.specs.View.{IsCurrent, IsMadeFrom, next_documents, next_made};
 ghost use Rattle.xt_wire.specs.View.{name_of};
@@ -45,6 +45,20 @@ pub(crate) fn set_module(
     ensures current { IsCurrent held.new }
 {
     match held.set_module(alloc, name, body) {
+        Ok(ready) => adopt(alloc, held, ready),
+        Err(EditFault::Refused { code, .. }) => text_of(alloc, Reply::No(code)),
+        Err(EditFault::Memory) => Err(Memory),
+    }
+}
+
+/// Drops the module of this name, unless there is none.
+pub(crate) fn drop_module(alloc: Global, held: &mut Held, name: &Text) -> Result<Text, Memory>
+    requires { IsCurrent held.old }
+    ensures ok { IfOk result (λ text. GivesText (state_of held.old) (dropped_by name.now (state_of held.old) ((state_of held.old).documents.modules name.now)) text (state_of held.new)) }
+    ensures err { OnErr result (state_of held.new ≡ state_of held.old) }
+    ensures current { IsCurrent held.new }
+{
+    match held.drop_module(alloc, name) {
         Ok(ready) => adopt(alloc, held, ready),
         Err(EditFault::Refused { code, .. }) => text_of(alloc, Reply::No(code)),
         Err(EditFault::Memory) => Err(Memory),

@@ -1,5 +1,5 @@
 -- What the types of this crate stand for.
-use Rattle.std.specs.Prelude.{ℕ, ◌≡◌, List, Option, Result, Ok, Err}
+use Rattle.std.specs.Prelude.{ℕ, ◌≡◌, List, Option, None, Some, Result, Ok, Err}
 use Rattle.std.specs.Option.{option_map}
 use Rattle.std.specs.Str.{chars}
 use Rattle.spec_stylesheet.specs.Place as stylesheet
@@ -12,7 +12,7 @@ use Rattle.xt_base.specs.declared.codes.EditCode.{EditCode}
 use Rattle.xt_base.specs.declared.codes.EditCode.TheVariants as edit
 use Rattle.xt_base.specs.declared.place.Place.{Place}
 use Rattle.xt_wire.specs.declared.command.Command.{Command}
-use Rattle.xt_wire.specs.declared.command.Command.TheVariants.{SetSource, SetModule, Show, Dump, Write, SetParameter, Messages}
+use Rattle.xt_wire.specs.declared.command.Command.TheVariants.{SetSource, SetModule, DropModule, Show, Dump, Write, SetParameter, Messages}
 use Rattle.xt_wire.specs.declared.command.Command.TheVariants.{Insert, Delete, SetText, SetAttribute, RemoveAttribute, Rename}
 use Rattle.xt_wire.specs.declared.document.DocumentName.{DocumentName}
 use Rattle.xt_wire.specs.declared.document.DocumentName.TheVariants.{Source, Module}
@@ -51,6 +51,7 @@ target_in target = record { document = name_of target.document; path = target.pa
 abbrev pub asked_of : Command → Request
 asked_of (SetSource body) = spec.SetSource body.items
 asked_of (SetModule name body) = spec.SetModule name body.items
+asked_of (DropModule name) = spec.DropModule name
 asked_of Show = spec.Show
 asked_of (Dump document) = spec.Dump (name_of document)
 asked_of Write = spec.Write
@@ -74,6 +75,14 @@ Reads (Err variant.BadArguments) answer = answer ≡ Err 4
 -- the same where the word is a command: what its arguments ask, or that they do not have its form
 abbrev pub HasForm : Result Command WireFault → Option Request → Type 0
 HasForm result asked = Reads result (or_number asked 4)
+
+-- the call gives this document and path, or that the arguments do not have the form. Want of memory is free
+abbrev pub FindsTarget : Result Target WireFault → Option spec.Target → Type 0
+FindsTarget (Ok target) found = Some (target_in target) ≡ found
+FindsTarget (Err variant.Memory) found = Unit {0}
+FindsTarget (Err variant.BadArguments) found = None ≡ found
+FindsTarget (Err variant.NotUtf8) found = ⊥
+FindsTarget (Err variant.UnknownCommand) found = ⊥
 
 abbrev pub code_of_fault : WireFault → EditCode
 code_of_fault variant.Memory = edit.Memory

@@ -2,7 +2,7 @@
 ghost use Rattle.std.specs.Prelude.{◌≡◌, []};
 ghost use Rattle.std.specs.List.{list_all};
 ghost use Rattle.std.specs.Str.{chars, is_utf8};
-ghost use Rattle.spec_session.specs.Request.{dump_form, module_form, parameter_form, request_by, request_of, source_form, word_form};
+ghost use Rattle.spec_session.specs.Request.{drop_form, dump_form, module_form, parameter_form, request_by, request_of, source_form, word_form};
 ghost use Rattle.xt_wire.specs.View.{HasForm, Reads, asked_of, rest_of};
 
 use crate::WireFault;
@@ -23,6 +23,9 @@ pub enum Command {
     /// `module NAME` and a body: the module of this name, of these lines. The name is one or more characters
     /// without a space, and not `source`.
     SetModule(Text, Vec<Line>),
+    /// `drop NAME`: the module of this name goes. The name is one or more characters without a space, and not
+    /// `source`.
+    DropModule(Text),
     /// `show`: the result.
     Show,
     /// `dump DOC`: the lines of a document.
@@ -105,6 +108,7 @@ fn read_words(
         "attr" => read_set_attribute(alloc, rest),
         "unattr" => read_remove_attribute(alloc, rest),
         "rename" => read_rename(alloc, rest),
+        "drop" => read_drop(alloc, rest),
         // Alone it ends the session and is no command.
         "quit" => Err(WireFault::BadArguments),
         _ => Err(WireFault::UnknownCommand),
@@ -127,6 +131,15 @@ fn read_module(alloc: Global, rest: Option<&str>, body: Vec<Line>) -> Result<Com
         return Err(WireFault::BadArguments);
     };
     Ok(Command::SetModule(Text::from_str(alloc, name)?, body))
+}
+
+fn read_drop(alloc: Global, rest: Option<&str>) -> Result<Command, WireFault>
+    ensures { HasForm result (drop_form (rest_of rest.entry) []) }
+{
+    let Some(dropped) = module_name(rest) else {
+        return Err(WireFault::BadArguments);
+    };
+    Ok(Command::DropModule(Text::from_str(alloc, dropped)?))
 }
 
 // A command of one word.

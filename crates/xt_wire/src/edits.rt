@@ -19,16 +19,11 @@ pub(crate) fn read_insert(
 ) -> Result<Command, WireFault>
     ensures { HasForm result (insert_form (rest_of rest.entry) body.items) }
 {
-    let Some(
-        Target {
-            document,
-            path,
-            rest,
-        },
-    ) = read_target(alloc, rest)?
-    else {
-        return Err(WireFault::BadArguments);
-    };
+    let Target {
+        document,
+        path,
+        rest,
+    } = read_target(alloc, rest)?;
     if rest.is_some() {
         return Err(WireFault::BadArguments);
     }
@@ -39,16 +34,11 @@ pub(crate) fn read_insert(
 pub(crate) fn read_delete(alloc: Global, rest: Option<&str>) -> Result<Command, WireFault>
     ensures { HasForm result (delete_form (rest_of rest.entry) []) }
 {
-    let Some(
-        Target {
-            document,
-            path,
-            rest,
-        },
-    ) = read_target(alloc, rest)?
-    else {
-        return Err(WireFault::BadArguments);
-    };
+    let Target {
+        document,
+        path,
+        rest,
+    } = read_target(alloc, rest)?;
     if rest.is_some() {
         return Err(WireFault::BadArguments);
     }
@@ -59,16 +49,11 @@ pub(crate) fn read_delete(alloc: Global, rest: Option<&str>) -> Result<Command, 
 pub(crate) fn read_set_text(alloc: Global, rest: Option<&str>) -> Result<Command, WireFault>
     ensures { HasForm result (text_form (rest_of rest.entry) []) }
 {
-    let Some(
-        Target {
-            document,
-            path,
-            rest,
-        },
-    ) = read_target(alloc, rest)?
-    else {
-        return Err(WireFault::BadArguments);
-    };
+    let Target {
+        document,
+        path,
+        rest,
+    } = read_target(alloc, rest)?;
     let value = read_value(alloc, rest)?;
     Ok(Command::SetText(document, path, value))
 }
@@ -77,16 +62,11 @@ pub(crate) fn read_set_text(alloc: Global, rest: Option<&str>) -> Result<Command
 pub(crate) fn read_set_attribute(alloc: Global, rest: Option<&str>) -> Result<Command, WireFault>
     ensures { HasForm result (attribute_form (rest_of rest.entry) []) }
 {
-    let Some(
-        Target {
-            document,
-            path,
-            rest,
-        },
-    ) = read_target(alloc, rest)?
-    else {
-        return Err(WireFault::BadArguments);
-    };
+    let Target {
+        document,
+        path,
+        rest,
+    } = read_target(alloc, rest)?;
     let Some(words) = next_word(rest) else {
         return Err(WireFault::BadArguments);
     };
@@ -99,16 +79,11 @@ pub(crate) fn read_set_attribute(alloc: Global, rest: Option<&str>) -> Result<Co
 pub(crate) fn read_remove_attribute(alloc: Global, rest: Option<&str>) -> Result<Command, WireFault>
     ensures { HasForm result (unattribute_form (rest_of rest.entry) []) }
 {
-    let Some(
-        Target {
-            document,
-            path,
-            rest,
-        },
-    ) = read_target(alloc, rest)?
-    else {
-        return Err(WireFault::BadArguments);
-    };
+    let Target {
+        document,
+        path,
+        rest,
+    } = read_target(alloc, rest)?;
     let Some(name) = only_word(rest) else {
         return Err(WireFault::BadArguments);
     };
@@ -120,16 +95,11 @@ pub(crate) fn read_remove_attribute(alloc: Global, rest: Option<&str>) -> Result
 pub(crate) fn read_rename(alloc: Global, rest: Option<&str>) -> Result<Command, WireFault>
     ensures { HasForm result (rename_form (rest_of rest.entry) []) }
 {
-    let Some(
-        Target {
-            document,
-            path,
-            rest,
-        },
-    ) = read_target(alloc, rest)?
-    else {
-        return Err(WireFault::BadArguments);
-    };
+    let Target {
+        document,
+        path,
+        rest,
+    } = read_target(alloc, rest)?;
     let Some(name) = only_word(rest) else {
         return Err(WireFault::BadArguments);
     };

@@ -1,14 +1,13 @@
 // Documents and places in them, as edits name them.
-ghost use Rattle.std.specs.Prelude.{◌≡◌, IfOk};
-ghost use Rattle.std.specs.Option.{option_map};
 ghost use Rattle.spec_session.specs.Request as spec;
-ghost use Rattle.xt_wire.specs.View.{rest_of, target_in};
+ghost use Rattle.xt_wire.specs.View.{FindsTarget, rest_of};
 
 use crate::document::{DocumentName, read_document};
+use crate::fault::WireFault;
 use crate::path::read_path;
 use crate::word::next_word;
 use std::alloc::Global;
-use xt_text::{Memory, Path};
+use xt_text::Path;
 
 /// A document and a path in it, and what stands behind them.
 #[derive(Drop)]
@@ -19,23 +18,23 @@ pub(crate) struct Target<'a> {
     pub(crate) rest: Option<&'a str>,
 }
 
-/// The document and the path that the next two words write. None where one of the words is missing, or the
-/// second writes no path.
-pub(crate) fn read_target(alloc: Global, rest: Option<&str>) -> Result<Option<Target<'_>>, Memory>
-    ensures { IfOk result (λ target. option_map target_in target ≡ spec.target_of (rest_of rest.entry)) }
+/// The document and the path that the next two words write. `BadArguments` where one of the words is missing, or
+/// the second writes no path.
+pub(crate) fn read_target(alloc: Global, rest: Option<&str>) -> Result<Target<'_>, WireFault>
+    ensures { FindsTarget result (spec.target_of (rest_of rest.entry)) }
 {
     let Some(document) = next_word(rest) else {
-        return Ok(None);
+        return Err(WireFault::BadArguments);
     };
     let Some(place) = next_word(document.rest) else {
-        return Ok(None);
+        return Err(WireFault::BadArguments);
     };
     let Some(path) = read_path(alloc, place.first)? else {
-        return Ok(None);
+        return Err(WireFault::BadArguments);
     };
-    Ok(Some(Target {
+    Ok(Target {
         document: read_document(alloc, document.first)?,
         path,
         rest: place.rest,
-    }))
+    })
 }

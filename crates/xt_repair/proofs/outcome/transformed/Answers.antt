@@ -6,6 +6,6 @@ use Rattle.xt_repair.proofs.outcome.transformed.Goals as goal
 
 pub returns-in_ok-method-in-Stylesheet : goal.returns-in_ok-method-in-Stylesheet
 returns-in_ok-method-in-Stylesheet c modules main h =
-    runs_so modules (parameters_of c.args.parameters.now) main (plain_of c.args.source.now) c.args.compiled.now c.in-Stylesheet.stylesheet c.in-Stylesheet.method c.in_ok-method-in-Stylesheet.method
-    (whole_of c.in_ok-whole-in-Stylesheet.whole) c.ended.result c.in-Stylesheet.is c.in_ok-method-in-Stylesheet.ensures
-    c.in_ok-whole-in-Stylesheet.ensures c.ended.ensures h
+    runs_so modules (parameters_of c.args.parameters.now) main (plain_of c.args.source.now) c.args.compiled.now c.in-Stylesheet.stylesheet c.in-Stylesheet.space_rules
+    c.in-Stylesheet.method c.in_ok-method-in-Stylesheet.method (whole_of c.in_ok-whole-in-Stylesheet.whole) c.ended.result c.in-Stylesheet.is
+    c.in_ok-method-in-Stylesheet.ensures c.in_ok-whole-in-Stylesheet.ensures c.ended.ensures h

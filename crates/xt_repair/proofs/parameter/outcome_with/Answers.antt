@@ -1,5 +1,4 @@
-use Rattle.std.proofs.Common.{◌≡◌, subst, ◌∙◌, ap, sym}
-use Rattle.std.specs.Prelude.{IfOk, Result}
+use Rattle.std.proofs.Common.{subst}
 use Rattle.spec_run.specs.Documents.{Parameters, main_name}
 use Rattle.spec_run.specs.Outcome.{Comes}
 use Rattle.xt_repair.specs.OutcomeView.{outcome_of, plain_in}
