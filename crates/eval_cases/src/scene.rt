@@ -35,6 +35,7 @@ fn no_supplies(alloc: Global) -> Supplies {
     Supplies {
         position: 7,
         size: 9,
+        rule: None,
         globals: Vec::new(alloc),
     }
 }

@@ -54,6 +54,7 @@ impl Scene {
             supplies: Supplies {
                 position: 7,
                 size: 9,
+                rule: None,
                 globals: Vec::new(alloc),
             },
         })

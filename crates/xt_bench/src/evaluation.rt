@@ -39,6 +39,7 @@ fn evaluated(alloc: Global, document: &Doc, tree: &Expr, scope: Scope) -> Result
     let supplies = Supplies {
         position: 1,
         size: 1,
+        rule: None,
         globals: Vec::new(alloc),
     };
     let focus = Focus {

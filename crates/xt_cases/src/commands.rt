@@ -48,6 +48,10 @@ fn push_command(out: &mut Text, command: &Command) -> Result<(), Memory> {
             push_text(out, name)?;
             push_body(out, body.as_slice())
         }
+        Command::DropModule(name) => {
+            push_part(out, "drop")?;
+            push_text(out, name)
+        }
         Command::SetParameter(name, value) => {
             push_part(out, "param")?;
             push_text(out, name)?;
