@@ -21,7 +21,7 @@ use Rattle.spec_change.proofs.Changing.{IsChanged, changes}
 here-once : (n : ℕ) → one_if (n == n) ≡ 1
 here-once n = ap one_if (eq-eqb n n refl)
 
-some-among : (n : ℕ) (ns : List ℕ) → 1 ≤ occurs (λ m. m == n) ns → is_among ns n ≡ true
+pub some-among : (n : ℕ) (ns : List ℕ) → 1 ≤ occurs (λ m. m == n) ns → is_among ns n ≡ true
 some-among n ns h = by (is_among ns n) refl
   where
     by : (b : Bool) → is_among ns n ≡ b → is_among ns n ≡ true

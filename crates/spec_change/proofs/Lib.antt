@@ -1,3 +1,5 @@
 pub mod Branches
 pub mod Changing
 pub mod Gone
+pub mod Agreeing
+pub mod Sparing

@@ -1,5 +1,5 @@
 // Attributes and namespace declarations of an element by their written names.
-ghost use Rattle.std.specs.Prelude.{◌≡◌, map, bytes_eq, codes, IfOk};
+ghost use Rattle.std.specs.Prelude.{◌≡◌, [], ◌∷◌, ◌++◌, map, bytes_eq, codes, IfOk, OnOk};
 ghost use Rattle.std.specs.List.{list_all, list_any};
 ghost use Rattle.std.specs.Str.{chars};
 ghost use Rattle.spec_document.specs.Character as characters;
@@ -58,9 +58,19 @@ pub(crate) fn attributes_with(
         list.push(set_in(alloc, attribute, name, value)?)?;
     }
     if !has_attribute(attributes, name) {
-        list.push(written(alloc, name, value)?)?;
+        add_last(alloc, &mut list, name, value)?;
     }
     Ok(list)
+}
+
+// Adds an attribute or declaration behind the others.
+#[tactic(auto, using(crate::proofs::Named::map_last))]
+fn add_last(alloc: Global, list: &mut Vec<Written>, name: &Text, value: &Text) -> Result<(), Memory>
+    ensures { OnOk result (map written_of list.new.items ≡ map written_of list.old.items ++ record { name = name.now; value = value.now } ∷ []) }
+{
+    let added = written(alloc, name, value)?;
+    list.push(added)?;
+    Ok(())
 }
 
 // The attribute, with this value if it has this written name.
