@@ -1,5 +1,5 @@
 // Calls that a driver makes.
-ghost use Rattle.std.specs.Prelude.{◌≡◌, [], IfOk, None};
+ghost use Rattle.std.specs.Prelude.{◌≡◌, [], IfOk, None, OnOk};
 ghost use Rattle.std.specs.Option.{option_map, option_or};
 ghost use Rattle.spec_meaning.specs.Question.{AllRules};
 ghost use Rattle.spec_meaning.specs.Question as asked;
@@ -27,40 +27,27 @@ fn or_outer(inner: Option<u64>, outer: Option<u64>) -> Option<u64>
     }
 }
 
-// The current rule of what is entered: its own, where it has said one.
-fn ruling_in(alloc: Global, outer: &Ruling, inner: Ruling) -> Result<Ruling, Memory>
-    ensures { IfOk result (λ r. ruling_of r ≡ ruling_in (ruling_of outer.now) (ruling_of inner)) }
+// Gives what is entered this current rule, where it has said none.
+fn settle_ruling(alloc: Global, outer: &Ruling, inner: &mut Ruling) -> Result<(), Memory>
+    ensures { OnOk result (ruling_of inner.new ≡ ruling_in (ruling_of outer.now) (ruling_of inner.old)) }
 {
     match inner {
-        Ruling::Same => outer.copy(alloc),
-        Ruling::Is(rule) => Ok(Ruling::Is(rule)),
+        Ruling::Same => {
+            *inner = outer.copy(alloc)?;
+            Ok(())
+        }
+        Ruling::Is(_) => Ok(()),
     }
 }
 
-/// The call as it is entered from another one, which gives it the position, the size and the current rule that it
-/// has not said.
-pub fn settled(alloc: Global, outer: &Call, inner: Call) -> Result<Call, Memory>
-    ensures { IfOk result (λ c. call_of c ≡ settled (call_of outer.now) (call_of inner)) }
+/// Gives a call that is entered from another one the position, the size and the current rule of that where it has
+/// said none. It is changed in its place, since calls are large and stay there while what they enter is run.
+pub fn settle(alloc: Global, outer: &Call, inner: &mut Call) -> Result<(), Memory>
+    ensures { OnOk result (call_of inner.new ≡ settled (call_of outer.now) (call_of inner.old)) }
 {
-    let Call {
-        target,
-        node,
-        parameters,
-        position,
-        size,
-        ruling,
-        by,
-    } = inner;
-    let ruling = ruling_in(alloc, &outer.ruling, ruling)?;
-    Ok(Call {
-        target,
-        node,
-        parameters,
-        position: or_outer(position, outer.position),
-        size: or_outer(size, outer.size),
-        ruling,
-        by,
-    })
+    inner.position = or_outer(inner.position, outer.position);
+    inner.size = or_outer(inner.size, outer.size);
+    settle_ruling(alloc, &outer.ruling, &mut inner.ruling)
 }
 
 /// The call of a global, from this element. No template rule is the current one there (XSLT 1.0, section 5.6).

@@ -8,7 +8,7 @@ ghost use Rattle.xt_run.specs.Progress.{started};
 ghost use Rattle.xt_drive.specs.View.{IsStreamed, IsTaken};
 ghost use Rattle.xt_drive.specs.Steps.{Steps};
 
-use crate::calls::settled;
+use crate::calls::settle;
 use crate::outcome::{Outcome, streamed};
 use std::alloc::Global;
 use std::rc::Rc;
@@ -88,9 +88,10 @@ pub fn advance<E: Engine, W: World>(
     let given = standing.given.take();
     match engine.resume(alloc, &mut standing.run, given, world) {
         Ok(Turn::Want(wanted, depth)) => {
-            let inner = settled(alloc, call, wanted)?;
+            let mut inner = Box::new(alloc, wanted)?;
+            settle(alloc, call, &mut inner)?;
             let left = below.saturating_sub(depth);
-            Ok(Step::Enter(Box::new(alloc, inner)?, left))
+            Ok(Step::Enter(inner, left))
         }
         Ok(Turn::WantGlobal(name, depth, place)) => {
             let left = below.saturating_sub(depth);
