@@ -51,7 +51,6 @@ static_small fixed.SelectAndContent = omega arith
 static_small fixed.BarredReference = omega arith
 static_small fixed.Extension = omega arith
 static_small fixed.BadValueTemplate = omega arith
-static_small fixed.NotYet = omega arith
 
 dynamic_small : (code : DynCode) → dynamic_number code < 100
 dynamic_small dynamic.Fraction = omega arith

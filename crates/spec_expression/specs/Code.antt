@@ -38,7 +38,6 @@ static_number fixed.SelectAndContent = 23
 static_number fixed.BarredReference = 24
 static_number fixed.Extension = 25
 static_number fixed.BadValueTemplate = 26
-static_number fixed.NotYet = 90
 
 -- `DN`
 abbrev pub dynamic_number : DynCode → ℕ

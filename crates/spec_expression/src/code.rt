@@ -59,12 +59,10 @@ pub enum StaticCode {
     Extension = 25,
     /// A value template has a brace without its partner (XSLT 1.0, 7.6.2).
     BadValueTemplate = 26,
-    /// The stylesheet uses a part of XSLT that is not there yet.
-    NotYet = 90,
 }
 
 impl StaticCode {
-    /// The number in the reply, from 1 to 26, or 90.
+    /// The number in the reply, from 1 to 26.
     pub fn number(self) -> u8
         ensures { result ≡ static_number self }
     {

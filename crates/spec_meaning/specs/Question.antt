@@ -29,11 +29,13 @@ pub record NamedSets (N : Type 0) : Type 0 where
   pub name : Expanded
   pub elements : List N
 
--- a unit with the named templates and the attribute sets that it names; of a global, whether it is the one of its name that counts
+-- a unit with the named templates and the attribute sets that it names, and the aliases of the stylesheet; of a global, whether it is the one of
+-- its name that counts
 pub record ResolvedUnit (N : Type 0) : Type 0 where
   pub unit : sheet.Unit
   pub templates : List (NamedTemplate N)
   pub sets : List (NamedSets N)
+  pub aliases : List sheet.Alias
   pub counts : Bool
 
 -- a template rule: the element of its template, and what its stylesheet imports, which are the import precedences from the first on and below

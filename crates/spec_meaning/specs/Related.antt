@@ -35,9 +35,10 @@ pub data Sets {N M : Type 0} (R : N → M → Type 0) : NamedSets N → NamedSet
       → Sets R (record { name = name; elements = ns }) (record { name = name; elements = ms })
 
 pub data Units {N M : Type 0} (R : N → M → Type 0) : ResolvedUnit N → ResolvedUnit M → Type 0 where
-  resolved : {unit : sheet.Unit} {counts : Bool} {ts : List (NamedTemplate N)} {us : List (NamedTemplate M)} {ss : List (NamedSets N)} {rs : List (NamedSets M)}
+  resolved : {unit : sheet.Unit} {aliases : List sheet.Alias} {counts : Bool} {ts : List (NamedTemplate N)} {us : List (NamedTemplate M)} {ss : List (NamedSets N)} {rs : List (NamedSets M)}
       → Each (Templates R) ts us → Each (Sets R) ss rs
-      → Units R (record { unit = unit; templates = ts; sets = ss; counts = counts }) (record { unit = unit; templates = us; sets = rs; counts = counts })
+      → Units R (record { unit = unit; templates = ts; sets = ss; aliases = aliases; counts = counts })
+      (record { unit = unit; templates = us; sets = rs; aliases = aliases; counts = counts })
 
 pub data Rules {N M : Type 0} (R : N → M → Type 0) : ChosenRule N → ChosenRule M → Type 0 where
   rule : {first last : ℕ} {n : N} {m : M} → R n m

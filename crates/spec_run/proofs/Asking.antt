@@ -1,23 +1,25 @@
 -- What asks and needs never looks at the name of a node: strings, truths and names come to the same at related nodes.
-use Rattle.std.proofs.Common.{◌≡◌, ℕ, List, [], ◌∷◌, Bool, true, false, cond, not, Option, None, Some, refl, subst}
-use Rattle.std.specs.Prelude.{◌||◌}
+use Rattle.std.proofs.Common.{◌≡◌, ℕ, List, [], ◌∷◌, Bool, true, false, cond, not, Option, None, Some, Result, Ok, Err, refl, subst}
+use Rattle.std.specs.Prelude.{◌||◌, bytes_eq, codes}
 use Rattle.spec_document.specs.Name.{QName, Expanded, is_ncname, qname_of}
 use Rattle.spec_document.specs.Scope.{Scope}
 use Rattle.spec_document.specs.Declaration.{element_name, attribute_name, is_reserved_target}
+use Rattle.spec_expression.specs.Number.{Number, Fault, number_of}
 use Rattle.spec_expression.specs.Syntax.{Expr}
 use Rattle.spec_stylesheet.specs.ValueTemplate as template
 use Rattle.spec_stylesheet.specs.ValueTemplate.{Avt, AvtPart}
-use Rattle.spec_stylesheet.specs.Instruction.{MadeName}
+use Rattle.spec_stylesheet.specs.Instruction.{MadeName, SortKey}
 use Rattle.spec_meaning.specs.Value.{Value}
 use Rattle.spec_meaning.specs.Question.{Answer, nodes_in, rule_in, text_in, local_in}
 use Rattle.spec_meaning.specs.Program.{Program, Given, current_in, then}
 use Rattle.spec_meaning.specs.Context.{Context}
-use Rattle.spec_meaning.specs.Convert.{first_text, to_text, to_boolean, to_nodes}
+use Rattle.spec_meaning.specs.Convert.{given, first_text, to_text, to_boolean, to_nodes}
 use Rattle.spec_meaning.specs.Related.{Each, none, more, Both, neither, Rules, texts, Givens, counted, ruled, valued}
 use Rattle.spec_meaning.specs.Related.{Answers, gone, refused, some_nodes, some_text, named, chosen, copied, some_unit, passed}
 use Rattle.spec_meaning.specs.Related.{Values, number, text, boolean, nodes, fragment, Contexts, context, Match, gives, refuses, asks}
 use Rattle.spec_meaning.proofs.Matching.{Same, then_match, meaning_match}
 use Rattle.spec_transform.specs.Expansion.{part_text, joined}
+use Rattle.spec_transform.specs.Sorted.{Criterion, second_of, data_type_meant, order_meant, criterion_meant, key_of_text, key_meant}
 use Rattle.spec_run.specs.Names.{namespace_meant, element_in, element_called, is_barred, element_meant, attribute_in, has_xmlns, attribute_called, attribute_meant}
 use Rattle.spec_run.specs.Names.{instruction_meant}
 use Rattle.spec_run.specs.Content.{text_meant, nodes_meant, truth_meant}
@@ -174,3 +176,31 @@ pub instruction_meant_match : {N M : Type 0} {R : N → M → Type 0} (target : 
     → Match R Same (instruction_meant target c) (instruction_meant target d)
 instruction_meant_match target h =
     then_same (joined_match target.parts h) (λ name. either_match (not (is_ncname name) || is_reserved_target name) refuses (gives refl))
+
+-- ---- sorting
+second_match : {N M : Type 0} {R : N → M → Type 0} (first second word : List ℕ) → Match R Same (second_of first second word) (second_of first second word)
+second_match first second word = either_match (bytes_eq word first) (gives refl) (either_match (bytes_eq word second) (gives refl) refuses)
+
+data_type_match : {N M : Type 0} {R : N → M → Type 0} (key : SortKey) {c : Context N} {d : Context M} → Contexts R c d
+    → Match R Same (data_type_meant key c) (data_type_meant key d)
+data_type_match key h = then_same (joined_match key.data_type.parts h) (λ t. second_match (codes "text") (codes "number") t)
+
+order_match : {N M : Type 0} {R : N → M → Type 0} (key : SortKey) {c : Context N} {d : Context M} → Contexts R c d
+    → Match R Same (order_meant key c) (order_meant key d)
+order_match key h = then_same (joined_match key.order.parts h) (λ t. second_match (codes "ascending") (codes "descending") t)
+
+pub criterion_meant_match : {N M : Type 0} {R : N → M → Type 0} (key : SortKey) {c : Context N} {d : Context M} → Contexts R c d
+    → Match R Same (criterion_meant key c) (criterion_meant key d)
+criterion_meant_match key h = then_same (data_type_match key h) (λ n. then_same (order_match key h) (λ descends. gives refl))
+
+given_match : {N M : Type 0} {R : N → M → Type 0} (r : Result Number Fault) → Match R Same (given r) (given r)
+given_match (Ok n) = gives refl
+given_match (Err fault) = refuses
+
+key_text_match : {N M : Type 0} {R : N → M → Type 0} (is_number : Bool) (t : List ℕ) → Match R Same (key_of_text is_number t) (key_of_text is_number t)
+key_text_match is_number t = either_match is_number (then_same (given_match (number_of t)) (λ n. gives refl)) (gives refl)
+
+pub key_meant_match : {N M : Type 0} {R : N → M → Type 0} (key : SortKey) (criterion : Criterion) {c : Context N} {d : Context M} → Contexts R c d
+    → Match R Same (key_meant key criterion c) (key_meant key criterion d)
+key_meant_match key criterion h =
+    then_match (meaning_match key.select h) (λ v w k. then_same (to_text_match k) (λ t. key_text_match criterion.is_number t))

@@ -62,7 +62,7 @@ is_kept_match : {N M : Type 0} {R : N → M → Type 0} (predicate : Expr) {c : 
 is_kept_match predicate (context h own bs) size position k =
     caught_match (then_match (meaning_match predicate (context {position = Some position} {size = Some size} k own bs)) (λ v w e. gives (keeps_match e position)))
 
-either_each : {A B : Type 0} {R : A → B → Type 0} (b : Bool) {p q : List A} {x y : List B} → Each R p x → Each R q y → Each R (cond b p q) (cond b x y)
+pub either_each : {A B : Type 0} {R : A → B → Type 0} (b : Bool) {p q : List A} {x y : List B} → Each R p x → Each R q y → Each R (cond b p q) (cond b x y)
 either_each true h g = h
 either_each false h g = g
 

@@ -3,11 +3,12 @@ pub mod Fill
 pub mod Trails
 pub mod More
 pub mod Cuts
-pub mod Related
 pub mod Asking
+pub mod Chosen
+pub mod Numbered
+pub mod Related
 pub mod Alike
 pub mod Meanings
-pub mod Chosen
 pub mod Copies
 pub mod Keyed
 pub mod Truths

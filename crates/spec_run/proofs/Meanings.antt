@@ -19,6 +19,7 @@ use Rattle.spec_run.specs.Meaning.{meaning, Whole, refusal_of, after_turn, value
 use Rattle.spec_run.proofs.Related.{units_of, Calls, calls, Plans, yields, stops, inquires, uses, puts, begins, wraps, takes, deepens, enters}
 use Rattle.spec_run.proofs.Related as related
 use Rattle.spec_run.proofs.Related.{Supplies, both_know, both_fail, Endings, finished, gave, halted, Come, come, Globals, global, Pasts, pasts}
+use Rattle.spec_run.proofs.Chosen.{TellAlike}
 use Rattle.spec_run.proofs.Alike.{either_both, plan_of_alike, rule_call_alike}
 
 -- ---- one instantiation
@@ -103,9 +104,10 @@ abbrev Means : {N M : Type 0} → (N → M → Type 0) → (Past N → ℕ → C
 Means {N = N} {M = M} R means also =
     (p : Past N) (q : Past M) → Pasts R p q → (depth : ℕ) (c : Call N) (d : Call M) → Calls R c d → Come R (means p depth c) (also q depth d)
 
--- settings whose worlds answer related questions alike, with related roots and globals
+-- settings whose worlds answer related questions alike and tell names apart alike, with related roots and globals
 pub record Settings {N M : Type 0} (R : N → M → Type 0) (s : Setting N) (t : Setting M) : Type 0 where
   pub worlds : Worlds R s.ask t.ask
+  pub told : TellAlike R s.same t.same
   pub roots : R s.root t.root
   pub globals : Each (Globals R) s.globals t.globals
 
@@ -145,7 +147,7 @@ meaning_alike {s = s} {t = t} settings (suc room) p q past zero c d call =
     direct_alike _ s.ask t.ask _ _ _ _ room settings.worlds
     (supplied_alike call (referred_alike settings (meaning_alike settings room) past))
     (λ depth e f inner. meaning_alike settings room p q past depth (settled c e) (settled d f) (settled_alike call inner))
-    _ _ (plan_of_alike call) stream.Ended []
+    _ _ (plan_of_alike s.same t.same settings.told call) stream.Ended []
 meaning_alike settings (suc room) p q past (suc depth) c d call = meaning_alike settings room p q past depth c d call
 
 -- ---- the run

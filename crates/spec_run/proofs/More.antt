@@ -94,15 +94,15 @@ same_one {N = N} s room left past c l h f =
     let there = supplied c (referred s (meaning s left) past) in
     let nested : ℕ → Call N → Outcome N = λ d inner. meaning s room past d (settled c inner) in
     let among : ℕ → Call N → Outcome N = λ d inner. meaning s left past d (settled c inner) in
-    let o = own s.ask supply nested room (plan_of c) at_start in
-    let is = filled_whole s.ask supply nested room (plan_of c) in
+    let o = own s.ask supply nested room (plan_of s.same c) at_start in
+    let is = filled_whole s.ask supply nested room (plan_of s.same c) in
     let G : Outcome N → Type 0 = λ q. GoesOn q.ending in
-    let m = own_went s.ask supply nested room (plan_of c) at_start (subst G (sym is) h) (omega arith) in
+    let m = own_went s.ask supply nested room (plan_of s.same c) at_start (subst G (sym is) h) (omega arith) in
     let fits = m.fits in
     let k = still s.ask supply there nested among (referred_still s (meaning s room) (meaning s left) f past c) (λ d inner. f past d (settled c inner)) [] m.trail m.hold in
     let goes = trail_goes s.ask there among left [] m.trail refl k.hold (omega (arith, fits, l)) in
     let streams : came among m.events ≡ o.going.streams = k.came_so ∙ sym m.streams in
-    sym (filled_whole s.ask there among left (plan_of c)) ∙ ap whole (goes ∙ ap (λ x. owned (over x o.going) o.ending) streams) ∙ is
+    sym (filled_whole s.ask there among left (plan_of s.same c)) ∙ ap whole (goes ∙ ap (λ x. owned (over x o.going) o.ending) streams) ∙ is
 
 -- what came to its end with so many levels left comes to it in the same way with more
 pub more_room : {N : Type 0} (s : Setting N) (room more : ℕ) (past : Past N) (depth below : ℕ) (c : Call N)

@@ -2,6 +2,7 @@
 use Rattle.std.specs.Prelude.{ℕ, Bool, List, Option}
 use Rattle.spec_document.specs.Name.{Expanded}
 use Rattle.spec_stylesheet.specs.Place.{Place}
+use Rattle.spec_stylesheet.specs.Sheet.{Alias}
 use Rattle.spec_meaning.specs.Stream.{Stream}
 use Rattle.spec_meaning.specs.Value.{Value}
 use Rattle.spec_meaning.specs.Question.{Question, Answer, NamedTemplate, NamedSets}
@@ -14,6 +15,7 @@ use Rattle.spec_run.specs.Direct as direct
 use Rattle.spec_run.specs.Direct.{Supplied, Ending, Outcome}
 use Rattle.spec_run.specs.Content.{Here}
 use Rattle.spec_run.specs.Meaning.{NamedGlobal, Past}
+use Rattle.spec_run.proofs.Chosen.{TellAlike}
 
 pub data Targets {N M : Type 0} (R : N → M → Type 0) : Target N → Target M → Type 0 where
   units_of : {n : N} {m : M} → R n m → Targets R (plan.UnitOf n) (plan.UnitOf m)
@@ -45,9 +47,11 @@ pub data Plans {N M : Type 0} (R : N → M → Type 0) : Plan N → Plan M → T
 pub data Heres {N M : Type 0} (R : N → M → Type 0) : Here N → Here M → Type 0 where
   heres : {n : N} {m : M} {position size : Option ℕ} {bs : List (Bound N)} {ds : List (Bound M)} {depth : ℕ} {ruled : Bool}
       {ts : List (NamedTemplate N)} {us : List (NamedTemplate M)} {ss : List (NamedSets N)} {rs : List (NamedSets M)}
-      → R n m → Each (Bindings R) bs ds → Each (Templates R) ts us → Each (Sets R) ss rs
-      → Heres R (record { node = n; position = position; size = size; bindings = bs; depth = depth; ruled = ruled; templates = ts; sets = ss })
-      (record { node = m; position = position; size = size; bindings = ds; depth = depth; ruled = ruled; templates = us; sets = rs })
+      {aliases : List Alias} {same : N → N → Bool} {like : M → M → Bool}
+      → R n m → Each (Bindings R) bs ds → Each (Templates R) ts us → Each (Sets R) ss rs → TellAlike R same like
+      → Heres R
+      (record { node = n; position = position; size = size; bindings = bs; depth = depth; ruled = ruled; templates = ts; sets = ss; aliases = aliases; same = same })
+      (record { node = m; position = position; size = size; bindings = ds; depth = depth; ruled = ruled; templates = us; sets = rs; aliases = aliases; same = like })
 
 pub data Supplies {N M : Type 0} (R : N → M → Type 0) : Supplied N → Supplied M → Type 0 where
   both_know : {x : Given N} {y : Given M} → Givens R x y → Supplies R (direct.Known x) (direct.Known y)

@@ -22,7 +22,7 @@ use Rattle.spec_meaning.proofs.Named.{worlds}
 use Rattle.spec_transform.specs.Choice as choice
 use Rattle.spec_transform.specs.Choice.{context_for}
 use Rattle.spec_transform.specs.Key.{no_globals, keys_named}
-use Rattle.spec_run.specs.World.{last_element, template_by, templates_called, is_template, called_in_unit, unit_by, unit_at, keyed_at, chosen_in}
+use Rattle.spec_run.specs.World.{last_element, template_by, templates_called, is_template, called_in_unit, is_set, sets_used, used_in_unit, unit_by, unit_at, keyed_at, chosen_in}
 use Rattle.spec_run.specs.World.{chosen_by, rule_by, rule_at, is_global, global_in, global_by, globals_of, source_by, truth_by}
 use Rattle.spec_run.specs.Documents.{Parameters}
 use Rattle.spec_run.proofs.Related.{Globals, global}
@@ -210,9 +210,26 @@ module _ {L M K J : Type 0} (key : Entry L → K) (same : K → K → Bool) (nam
       each_append (template_alike name (last_element (is_template name) None s.units) (last_of_unit s.units (is_template name) None s.units (λ p h. h) (λ p e. absurd (cc))))
       (templates_alike wanted)
 
-  unit_alike : (o : Option Piece) → Answers One (unit_by naming s.units o) (unit_by calling s.units o)
+  -- the elements of some units
+  picked_unit : (b : Bool) (u : Piece) (us : List Piece) → OfUnit s.units u.site.place
+      → Each One (map (λ v. naming v.site.place) us) (map (λ v. calling v.site.place) us)
+      → Each One (map (λ v. naming v.site.place) (cond b (u ∷ us) us)) (map (λ v. calling v.site.place) (cond b (u ∷ us) us))
+  picked_unit true u us h k = more (in_module h) k
+  picked_unit false u us h k = k
+
+  units_picked : (test : Declared → Bool) (us : List Piece) → ((p : Place) → OfUnit us p → OfUnit s.units p)
+      → Each One (map (λ u. naming u.site.place) (filter (λ u. test u.declared) us)) (map (λ u. calling u.site.place) (filter (λ u. test u.declared) us))
+  units_picked test [] h = none
+  units_picked test (u ∷ us) h =
+      picked_unit (test u.declared) u (filter (λ v. test v.declared) us) (h _ this) (units_picked test us (λ p k. h p (that k)))
+
+  sets_alike : (wanted : List Expanded) → Each (Sets One) (sets_used naming s.units wanted) (sets_used calling s.units wanted)
+  sets_alike [] = none
+  sets_alike (name ∷ wanted) = more (sets (units_picked (is_set name) s.units (λ p h. h))) (sets_alike wanted)
+
+  unit_alike : (o : Option Piece) → Answers One (unit_by naming s.aliases s.units o) (unit_by calling s.aliases s.units o)
   unit_alike None = gone
-  unit_alike (Some u) = some_unit (resolved (templates_alike (called_in_unit u.declared)) none)
+  unit_alike (Some u) = some_unit (resolved (templates_alike (called_in_unit u.declared)) (sets_alike (used_in_unit u.declared)))
 
   -- ---- globals
   -- that of a unit, unless one of those after it is one of its name too
@@ -267,6 +284,17 @@ module _ {L M K J : Type 0} (key : Entry L → K) (same : K → K → Bool) (nam
   tell_alike a b c d g h =
       at_names key also (λ x y. same x b ≡ like y d)
       (λ e f i. at_names key also (λ x y. same (key e) x ≡ like (also f) y) (λ v w j. told_alike key same also like apart apart_too i j) h) g
+
+  -- no element is a node of the source
+  pub all_told : TellAlike One same like
+  all_told a b c d (in_source n) (in_source o) = tell_alike a b c d n o
+  all_told a _ c _ (in_source n) (in_module {p = p} h) =
+      at_names key also (λ x y. same x (naming p) ≡ like y (calling p))
+      (λ e f i. (stranger key same naming s.units strangers i p h).1 ∙ sym (stranger also like calling s.units strangers_too (turned i) p h).1) n
+  all_told _ b _ d (in_module {p = p} h) (in_source n) =
+      at_names key also (λ x y. same (naming p) x ≡ like (calling p) y)
+      (λ e f i. (stranger key same naming s.units strangers i p h).0 ∙ sym (stranger also like calling s.units strangers_too (turned i) p h).0) n
+  all_told _ _ _ _ (in_module {p = p} h) (in_module {p = q} k) = told p q h k
 
   pub keyed_alike : (name : Expanded) (text : List ℕ)
       → Answers OneNode (keyed_at same s.units (answer_by key same es) (map key es) name text) (keyed_at like s.units (answer_by also like fs) (map also fs) name text)
@@ -334,19 +362,19 @@ module _ {L M K J : Type 0} (key : Entry L → K) (same : K → K → Bool) (nam
       (λ e f b. rw (found key same apart b, found also like apart_too (turned b)) (copy_alike (beside_alike copied_alike b).copies)) n
   truths _ _ (copies (in_module {p = p} h)) = no_entry p h _ _
   truths _ _ (units (in_source n)) =
-      at_names key also (λ x y. Answers One (unit_at naming same s.units x) (unit_at calling like s.units y))
+      at_names key also (λ x y. Answers One (unit_at naming same s.aliases s.units x) (unit_at calling like s.aliases s.units y))
       (λ e f b. rw (
         no_unit (λ p. same (key e) (naming p)) s.units (λ p h. (stranger key same naming s.units strangers b p h).1),
         no_unit (λ p. like (also f) (calling p)) s.units (λ p h. (stranger also like calling s.units strangers_too (turned b) p h).1),
       ) gone) n
   truths _ _ (units (in_module {p = p} h)) =
-      subst (λ o. Answers One (unit_at naming same s.units (naming p)) (unit_by calling s.units o))
+      subst (λ o. Answers One (unit_at naming same s.aliases s.units (naming p)) (unit_by calling s.aliases s.units o))
       (same_unit (λ q. same (naming p) (naming q)) (λ q. like (calling p) (calling q)) s.units (λ q k. told p q h k))
       (unit_alike (find (λ u. same (naming p) (naming u.site.place)) s.units))
   truths _ _ externals = passed
 
   -- settings of these worlds, with roots of one name and the globals of the stylesheet
   pub settings : {k : K} {j : J} → One k j
-      → Settings One (record { ask = truth_by key same naming s parameters es; root = k; globals = globals_of naming s.units })
-      (record { ask = truth_by also like calling s parameters fs; root = j; globals = globals_of calling s.units })
-  settings h = record { worlds = truths; roots = h; globals = globals_alike }
+      → Settings One (record { ask = truth_by key same naming s parameters es; same = same; root = k; globals = globals_of naming s.units })
+      (record { ask = truth_by also like calling s parameters fs; same = like; root = j; globals = globals_of calling s.units })
+  settings h = record { worlds = truths; told = all_told; roots = h; globals = globals_alike }

@@ -1,6 +1,7 @@
--- What contents plan (XSLT 1.0, sections 5 to 9, 11 and 13). Each plan goes before what comes after it. An instruction evaluates its
+-- What contents plan (XSLT 1.0, sections 5 to 11 and 13). Each plan goes before what comes after it. An instruction evaluates its
 -- attributes, then its content; a content of an element is one level below it.
-use Rattle.std.specs.Prelude.{ℕ, suc, Bool, true, false, ◌&&◌, List, [], ◌∷◌, ◌++◌, length, Option, None, Some, if◌then◌else◌}
+use Rattle.std.specs.Prelude.{ℕ, suc, Bool, true, false, ◌&&◌, List, [], ◌∷◌, ◌++◌, length, bytes_eq, Option, None, Some, if◌then◌else◌}
+use Rattle.std.specs.List.{flat_map}
 use Rattle.spec_document.specs.declared.axis.Axis.TheVariants as axis
 use Rattle.spec_document.specs.declared.kind.Kind.{Kind}
 use Rattle.spec_document.specs.declared.kind.Kind.TheVariants as kind
@@ -10,8 +11,9 @@ use Rattle.spec_expression.specs.declared.code.DynCode.TheVariants as code
 use Rattle.spec_expression.specs.Syntax.{Expr, OfType}
 use Rattle.spec_stylesheet.specs.Place.{Place, Site}
 use Rattle.spec_stylesheet.specs.Instruction as made
-use Rattle.spec_stylesheet.specs.Instruction.{LiteralAttribute, LiteralTag, Form, without_content, with_content, control, Control, for_each, conditional, choose, apply_templates, call_template, Instrs, no_instrs, instr, Branches, no_branches, branch, Bindings, no_bindings, binding, Binding}
+use Rattle.spec_stylesheet.specs.Instruction.{SortKey, LiteralAttribute, LiteralTag, Form, without_content, with_content, control, Control, for_each, conditional, choose, apply_templates, call_template, Instrs, no_instrs, instr, Branches, no_branches, branch, Bindings, no_bindings, binding, Binding}
 use Rattle.spec_stylesheet.specs.Sheet as sheet
+use Rattle.spec_stylesheet.specs.Sheet.{Alias}
 use Rattle.spec_meaning.specs.Stream as stream
 use Rattle.spec_meaning.specs.Stream.{Stream, filled}
 use Rattle.spec_meaning.specs.Value as value
@@ -24,13 +26,15 @@ use Rattle.spec_meaning.specs.Convert.{to_text, to_boolean, to_nodes}
 use Rattle.spec_meaning.specs.Meaning.{meaning}
 use Rattle.spec_result.specs.Shape.{with_prefix}
 use Rattle.spec_transform.specs.Expansion.{expanded}
-use Rattle.spec_run.specs.Plan.{Refused, nowhere, Target, UnitOf, BuiltIn, Ruling, SameRule, RuleIs, Call, AsElement, AsComment, AsMessage, Plan, End, Yield, Stop, Inquire, Use, Put, Begin, Wrap, Take, Deep, Enter, lift}
+use Rattle.spec_transform.specs.Sorted.{Criterion, KeyValue, Row, row, criterion_meant, key_meant, nodes_in_order}
+use Rattle.spec_transform.specs.Numbering.{number_meant}
+use Rattle.spec_run.specs.Plan.{Refused, nowhere, Wrapping, Target, UnitOf, BuiltIn, Ruling, SameRule, RuleIs, Call, AsElement, AsComment, AsMessage, Plan, End, Yield, Stop, Inquire, Use, Put, Begin, Wrap, Take, Deep, Enter, lift}
 use Rattle.spec_run.specs.Names.{element_meant, attribute_meant, instruction_meant}
 use Rattle.spec_run.specs.Copy.{stream_in, without_attributes}
 
 -- where an instruction stands: the current node, its position and the size of its list, where they are not those of the instantiation, the
--- local variables, innermost first, the depth below the level of the instantiation, whether its template rule is the current one, and what the
--- names of the unit name
+-- local variables, innermost first, the depth below the level of the instantiation, whether its template rule is the current one, what the names
+-- of the unit name, the aliases of the stylesheet, and whether two nodes are the same
 pub record Here (N : Type 0) : Type 0 where
   pub node : N
   pub position : Option ℕ
@@ -40,6 +44,8 @@ pub record Here (N : Type 0) : Type 0 where
   pub ruled : Bool
   pub templates : List (NamedTemplate N)
   pub sets : List (NamedSets N)
+  pub aliases : List Alias
+  pub same : N → N → Bool
 
 abbrev pub deeper : {N : Type 0} → Here N → Here N
 deeper h = record {
@@ -51,6 +57,8 @@ deeper h = record {
   ruled = h.ruled;
   templates = h.templates;
   sets = h.sets;
+  aliases = h.aliases;
+  same = h.same;
 }
 
 -- at one of the nodes of a loop, where no template rule is the current one (section 5.6)
@@ -64,6 +72,8 @@ at n p size h = record {
   ruled = false;
   templates = h.templates;
   sets = h.sets;
+  aliases = h.aliases;
+  same = h.same;
 }
 
 -- where one more local variable or parameter is in scope, which hides those of its name
@@ -77,6 +87,8 @@ with_variable name v h = record {
   ruled = h.ruled;
   templates = h.templates;
   sets = h.sets;
+  aliases = h.aliases;
+  same = h.same;
 }
 
 -- the context of an expression at an element
@@ -202,30 +214,116 @@ abbrev pub kind_in : {N : Type 0} → Answer N → Kind
 kind_in (question.Named kind name written) = kind
 kind_in _ = kind.Comment
 
+-- ---- Aliases (section 7.1.1): where a URI of the stylesheet has one, that one's prefix and URI stand in the result
+
+abbrev pub aliased_prefix : List Alias → (prefix uri : List ℕ) → List ℕ
+aliased_prefix [] prefix uri = prefix
+aliased_prefix (a ∷ more) prefix uri = if bytes_eq a.stylesheet uri then a.prefix else aliased_prefix more prefix uri
+
+abbrev pub aliased_uri : List Alias → (uri : List ℕ) → List ℕ
+aliased_uri [] uri = uri
+aliased_uri (a ∷ more) uri = if bytes_eq a.stylesheet uri then a.result else aliased_uri more uri
+
+abbrev pub is_no_uri : List ℕ → Bool
+is_no_uri [] = true
+is_no_uri (c ∷ cs) = false
+
+-- an attribute of no namespace has none
+abbrev pub for_attribute : (uri : List ℕ) → List Alias → List Alias
+for_attribute uri aliases = if is_no_uri uri then [] else aliases
+
+-- the namespace nodes, each as prefix and URI, in their order; one that becomes no namespace is left out
+abbrev pub namespaces_aliased : List Alias → List (List ℕ × List ℕ) → List (List ℕ × List ℕ)
+namespaces_aliased aliases [] = []
+namespaces_aliased aliases ((prefix, uri) ∷ more) =
+    let rest = namespaces_aliased aliases more in
+    if is_no_uri (aliased_uri aliases uri) then rest else (aliased_prefix aliases prefix uri, aliased_uri aliases uri) ∷ rest
+
+abbrev pub element_aliased : List Alias → LiteralTag → Wrapping
+element_aliased aliases tag =
+    AsElement (with_prefix (aliased_prefix aliases tag.prefix tag.name.uri) tag.name.local) (aliased_uri aliases tag.name.uri)
+    (namespaces_aliased aliases tag.namespaces)
+
+abbrev pub attribute_aliased : List Alias → LiteralAttribute → (text : List ℕ) → Stream
+attribute_aliased aliases a text =
+    let own = for_attribute a.name.uri aliases in
+    stream.Attribute (with_prefix (aliased_prefix own a.prefix a.name.uri) a.name.local) (aliased_uri own a.name.uri) (text_item text) stream.Ended
+
 -- ---- Literal result elements (section 7.1.1)
 
 abbrev pub attributes_put : {N : Type 0} → Site → Here N → List LiteralAttribute → Plan N → Plan N
 attributes_put site h [] after = after
 attributes_put site h (a ∷ more) after =
-    asked site h (expanded a.value) (λ t. Put (stream.Attribute (with_prefix a.prefix a.name.local) a.name.uri (text_item t) stream.Ended) (attributes_put site h more after))
+    asked site h (expanded a.value) (λ t. Put (attribute_aliased h.aliases a t) (attributes_put site h more after))
 
--- ---- Contents. What does not run yet is refused before, and puts nothing
+-- ---- Attribute sets (section 7.1.4): position, size and the current rule are those where they are used, and nothing is passed
+
+abbrev pub set_call : {N : Type 0} → Place → Here N → N → Call N
+set_call by h element = record {
+  target = UnitOf element;
+  node = h.node;
+  parameters = [];
+  position = h.position;
+  size = h.size;
+  ruling = if h.ruled then SameRule else RuleIs None;
+  by = by;
+}
+
+-- the xsl:attribute-sets of a name, in their order
+abbrev pub elements_named : {N : Type 0} → List (NamedSets N) → Expanded → List N
+elements_named [] name = []
+elements_named (s ∷ ss) name = if same_name s.name name then s.elements else elements_named ss name
+
+-- those that this element uses, name by name
+abbrev pub sets_entered : {N : Type 0} → Place → Here N → List N → Plan N → Plan N
+sets_entered by h [] after = after
+sets_entered by h (element ∷ more) after = Enter (set_call by h element) h.depth (sets_entered by h more after)
+
+abbrev pub sets_used : {N : Type 0} → Place → Here N → List Expanded → Plan N → Plan N
+sets_used by h names after = sets_entered by h (flat_map (elements_named h.sets) names) after
+
+-- ---- Sorting (section 10)
+
+-- how each key compares, asked where the instruction stands, after those before
+abbrev pub criteria_asked : {N : Type 0} → List SortKey → Here N → List Criterion → (List Criterion → Plan N) → Plan N
+criteria_asked [] h done k = k done
+criteria_asked (key ∷ more) h done k = asked key.site h (criterion_meant key) (λ c. criteria_asked more h (done ++ c ∷ []) k)
+
+-- the keys of one node, after those before
+abbrev pub keys_asked : {N : Type 0} → List SortKey → List Criterion → Here N → List KeyValue → (List KeyValue → Plan N) → Plan N
+keys_asked [] criteria h done k = k done
+keys_asked (key ∷ more) [] h done k = k done
+keys_asked (key ∷ more) (c ∷ cs) h done k = asked key.site h (key_meant key c) (λ v. keys_asked more cs h (done ++ v ∷ []) k)
+
+-- node by node, the next of which has this position in the list that is not sorted, after those before
+abbrev pub rows_asked : {N : Type 0} → List SortKey → List Criterion → (size : ℕ) → Here N → (position : ℕ) → List N → List (Row N) → (List (Row N) → Plan N) → Plan N
+rows_asked keys criteria size h position [] done k = k done
+rows_asked keys criteria size h position (n ∷ ns) done k =
+    keys_asked keys criteria (at n position size h) [] (λ vs. rows_asked keys criteria size h (suc position) ns (done ++ row n vs ∷ []) k)
+
+-- nodes in the order of their keys; without a key in document order
+abbrev pub sorted : {N : Type 0} → List SortKey → Here N → List N → (List N → Plan N) → Plan N
+sorted [] h ns k = k ns
+sorted (key ∷ more) h ns k =
+    criteria_asked (key ∷ more) h [] (λ cs. rows_asked (key ∷ more) cs (length ns) h 1 ns [] (λ rows. Put stream.Ended (k (nodes_in_order cs rows))))
+
+-- ---- Contents
 
 abbrev pub planned_without : {N : Type 0} → Site → Here N → made.WithoutContent → Plan N → Plan N
 planned_without site h (made.Text text) after = Put (text_item text) after
 planned_without site h (made.ValueOf e) after = asked site h (text_meant e) (λ t. Put (text_item t) after)
 planned_without site h (made.CopyOf e) after = asked site h (meaning e) (λ v. value_copied v after)
-planned_without site h (made.Number numbering) after = Put stream.Ended after
+planned_without site h (made.Number numbering) after = asked site h (number_meant h.same numbering) (λ t. Put (text_item t) after)
 planned_without site h made.ApplyImports after =
     if h.ruled then Use Rule h.depth site.place (λ g. imports_applied site h (current_in g) after) else imports_applied site h None after
 planned_without site h made.Fallback after = Put stream.Ended after
 
--- an xsl:copy of this node, of which this is its name, where `inside` is its content before what follows
-abbrev pub copied_as : {N : Type 0} → Here N → Answer N → (inside : Plan N → Plan N) → Plan N → Plan N
-copied_as h a inside after = elim (kind_in a) [
+-- an xsl:copy of this node, of which this is its name, where `inside` is its content before what follows; an element alone uses attribute sets
+abbrev pub copied_as : {N : Type 0} → Place → Here N → List Expanded → Answer N → (inside : Plan N → Plan N) → Plan N → Plan N
+copied_as by h sets a inside after = elim (kind_in a) [
   | kind.Root ↦ inside after
   | kind.Element ↦ Inquire (question.Step h.node axis.Namespace (OfType type.Node)) (λ ns. namespaces_read (nodes_in ns) []
-      (λ namespaces. Begin (inside (Wrap (AsElement (written_in a) (uri_in a) namespaces) after))))
+      (λ namespaces. Begin (sets_used by h sets (inside (Wrap (AsElement (written_in a) (uri_in a) namespaces) after)))))
   | kind.Attribute ↦ Inquire (question.Copy h.node) (λ c. Put (stream_in c) after)
   | kind.Namespace ↦ Inquire (question.Copy h.node) (λ c. Put (stream_in c) after)
   | kind.Text ↦ Inquire (question.Copy h.node) (λ c. Put (stream_in c) after)
@@ -243,12 +341,13 @@ unless_terminated terminates place after = if terminates then Stop (terminated p
 -- an instruction with a content, where `inside` is that content before what follows
 abbrev pub planned_with : {N : Type 0} → Site → Here N → made.WithContent → (inside : Plan N → Plan N) → Plan N → Plan N
 planned_with site h (made.Literal tag) inside after =
-    Begin (attributes_put site h tag.attributes (inside (Wrap (AsElement (with_prefix tag.prefix tag.name.local) tag.name.uri tag.namespaces) after)))
-planned_with site h (made.Element name sets) inside after = asked site h (element_meant name) (λ w. Begin (inside (Wrap w after)))
+    Begin (sets_used site.place h tag.sets (attributes_put site h tag.attributes (inside (Wrap (element_aliased h.aliases tag) after))))
+planned_with site h (made.Element name sets) inside after =
+    asked site h (element_meant name) (λ w. Begin (sets_used site.place h sets (inside (Wrap w after))))
 planned_with site h (made.Attribute name) inside after = asked site h (attribute_meant name) (λ w. Begin (inside (Wrap w after)))
 planned_with site h made.Comment inside after = Begin (inside (Wrap AsComment after))
 planned_with site h (made.ProcessingInstruction target) inside after = asked site h (instruction_meant target) (λ w. Begin (inside (Wrap w after)))
-planned_with site h (made.Copy sets) inside after = Inquire (question.Name h.node) (λ a. copied_as h a inside after)
+planned_with site h (made.Copy sets) inside after = Inquire (question.Name h.node) (λ a. copied_as site.place h sets a inside after)
 planned_with site h (made.Message terminates) inside after = Begin (inside (Wrap AsMessage (unless_terminated terminates site.place after)))
 -- a variable makes nothing of its content: it is what those see that follow it
 planned_with site h (made.Variable name select) inside after = Put stream.Ended after
@@ -293,14 +392,14 @@ abbrev mutual
 
   pub planned_control : {N : Type 0} → Site → Control → Here N → Plan N → Plan N
   planned_control site (for_each e keys is) h after =
-      asked site h (nodes_meant e) (λ ns. Put stream.Ended
-      (each (λ n p more. Deep (suc h.depth) site.place (planned is (deeper (at n p (length ns) h)) more)) 1 ns after))
+      asked site h (nodes_meant e) (λ ns. Put stream.Ended (sorted keys h ns
+      (λ ms. each (λ n p more. Deep (suc h.depth) site.place (planned is (deeper (at n p (length ms) h)) more)) 1 ms after)))
   planned_control site (conditional e is) h after =
       asked site h (truth_meant e) (λ b. if b then Deep (suc h.depth) site.place (planned is (deeper h) after) else Put stream.Ended after)
   planned_control site (choose bs) h after = planned_branches bs h after
   planned_control site (apply_templates s bs) h after =
       asked site h (nodes_meant s.select) (λ ns. Put stream.Ended
-      (passed bs h [] (λ parameters. applied_to site.place s.mode parameters h.depth ns after)))
+      (passed bs h [] (λ parameters. sorted s.keys h ns (λ ms. applied_to site.place s.mode parameters h.depth ms after))))
   planned_control site (call_template name bs) h after = called site h (λ k. passed bs h [] k) (template_called name h.templates) after
 
   -- the first branch whose test is true, or that has none
@@ -312,8 +411,19 @@ abbrev mutual
 
 -- ---- Instantiations
 
-abbrev pub here_in : {N : Type 0} → N → ResolvedUnit N → Here N
-here_in n u = record { node = n; position = None; size = None; bindings = []; depth = 0; ruled = true; templates = u.templates; sets = u.sets }
+abbrev pub here_in : {N : Type 0} → (N → N → Bool) → N → ResolvedUnit N → Here N
+here_in same n u = record {
+  node = n;
+  position = None;
+  size = None;
+  bindings = [];
+  depth = 0;
+  ruled = true;
+  templates = u.templates;
+  sets = u.sets;
+  aliases = u.aliases;
+  same = same;
+}
 
 -- the parameters of a template, each seen by those after it: what was passed, or its default
 abbrev pub with_parameters : {N : Type 0} → Bindings → (given : List (Bound N)) → Here N → (Here N → Plan N) → Plan N
@@ -322,10 +432,6 @@ with_parameters {N = N} (binding site name select is more) given h k =
     let rest : Value N → Plan N = λ v. with_parameters more given (with_variable name v h) k in
     unless_passed (binding_of name given)
     (valued site h select (is_empty is) (λ after. Deep (suc h.depth) site.place (planned is (deeper h) after)) rest) rest
-
-abbrev pub is_no_uri : List ℕ → Bool
-is_no_uri [] = true
-is_no_uri (c ∷ cs) = false
 
 -- what a global holds (section 11.4). Its content stands at its own level
 abbrev pub held : {N : Type 0} → Binding → Here N → Plan N
@@ -346,15 +452,16 @@ abbrev pub global_planned : {N : Type 0} → sheet.GlobalBinding → Here N → 
 global_planned g h =
     if may_be_given g then Inquire (question.External g.binding.name.local) (λ a. unless_given a (held g.binding h)) else held g.binding h
 
-abbrev pub declared_planned : {N : Type 0} → sheet.Declared → (given : List (Bound N)) → Here N → Plan N
-declared_planned (sheet.ATemplate t) given h = with_parameters t.parameters given h (λ here. planned t.content here End)
-declared_planned (sheet.AGlobal g) given h = global_planned g h
-declared_planned (sheet.ASet s) given h = End
-declared_planned (sheet.AKey k) given h = End
+-- an attribute set first uses those that it names, and its attributes stand at its own level
+abbrev pub declared_planned : {N : Type 0} → Place → sheet.Declared → (given : List (Bound N)) → Here N → Plan N
+declared_planned place (sheet.ATemplate t) given h = with_parameters t.parameters given h (λ here. planned t.content here End)
+declared_planned place (sheet.AGlobal g) given h = global_planned g h
+declared_planned place (sheet.ASet s) given h = sets_used place h s.sets (planned s.attributes h End)
+declared_planned place (sheet.AKey k) given h = End
 
-abbrev pub unit_planned : {N : Type 0} → N → (given : List (Bound N)) → Answer N → Plan N
-unit_planned n given (question.Resolved u) = declared_planned u.unit.declared given (here_in n u)
-unit_planned n given _ = End
+abbrev pub unit_planned : {N : Type 0} → (N → N → Bool) → N → (given : List (Bound N)) → Answer N → Plan N
+unit_planned same n given (question.Resolved u) = declared_planned u.unit.site.place u.unit.declared given (here_in same n u)
+unit_planned same n given _ = End
 
 -- built-in rules (section 5.8): a root and an element apply templates to their children in the same mode and pass nothing, a text and an
 -- attribute give their text, the others nothing
@@ -375,8 +482,8 @@ built_in mode n = Inquire (question.Name n) (λ a. elim (kind_in a) [
   | kind.Instruction ↦ End
 ])
 
-abbrev pub plan_of : {N : Type 0} → Call N → Plan N
-plan_of c = elim c.target [
-  | UnitOf element ↦ Inquire (question.Unit element) (λ a. unit_planned c.node c.parameters a)
+abbrev pub plan_of : {N : Type 0} → (N → N → Bool) → Call N → Plan N
+plan_of same c = elim c.target [
+  | UnitOf element ↦ Inquire (question.Unit element) (λ a. unit_planned same c.node c.parameters a)
   | BuiltIn mode ↦ built_in mode c.node
 ]

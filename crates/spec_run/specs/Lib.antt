@@ -5,7 +5,6 @@ pub mod Copy
 pub mod Content
 pub mod Meaning
 pub mod World
-pub mod NotYet
 pub mod Documents
 pub mod Outcome
 pub mod Going

@@ -24,9 +24,10 @@ pub record NamedGlobal (N : Type 0) : Type 0 where
   pub name : Expanded
   pub element : N
 
--- what a run is in: the answers of a world, the root of the source, and the globals in stylesheet order
+-- what a run is in: the answers of a world, whether two nodes are the same, the root of the source, and the globals in stylesheet order
 pub record Setting (N : Type 0) : Type 0 where
   pub ask : Question N → Answer N
+  pub same : N → N → Bool
   pub root : N
   pub globals : List (NamedGlobal N)
 
@@ -110,7 +111,7 @@ settled outer c = record {
 abbrev pub meaning : {N : Type 0} → Setting N → (levels : ℕ) → Past N → (depth : ℕ) → Call N → Outcome N
 meaning s zero past depth c = refused_deep c.by
 meaning s (suc room) past zero c =
-    direct s.ask (supplied c (referred s (meaning s room) past)) (λ depth inner. meaning s room past depth (settled c inner)) room (plan_of c) stream.Ended []
+    direct s.ask (supplied c (referred s (meaning s room) past)) (λ depth inner. meaning s room past depth (settled c inner)) room (plan_of s.same c) stream.Ended []
 meaning s (suc room) past (suc depth) c = meaning s room past depth c
 
 -- ---- The run

@@ -1,6 +1,6 @@
 -- What documents come to: the result of the stylesheet on the source, with the parameters, its output method and its messages, or why there is
 -- none, with the messages before it. Nothing but these bears on it: no number of a node, and nothing that was held before.
-use Rattle.std.specs.Prelude.{◌≡◌, ℕ, List, [], ◌∷◌, Option, None, Some, Result, Ok, Err}
+use Rattle.std.specs.Prelude.{◌≡◌, ℕ, List, [], Option, None, Some, Result, Ok, Err}
 use Rattle.spec_document.specs.Name.{Expanded}
 use Rattle.spec_document.specs.Forest.{Plain, Document}
 use Rattle.spec_expression.specs.declared.code.Code.{Code}
@@ -9,18 +9,15 @@ use Rattle.spec_expression.specs.declared.code.StaticCode.TheVariants.{NoMain, N
 use Rattle.spec_stylesheet.specs.declared.method.Method.{Method}
 use Rattle.spec_stylesheet.specs.Place.{Place}
 use Rattle.spec_stylesheet.specs.Sheet.{Sheet}
-use Rattle.spec_structure.specs.Structure.{Fault}
-use Rattle.spec_structure.specs.Modules.{Modules, AreInReadingOrder}
-use Rattle.spec_compile.specs.Unit.{TopLevel}
+use Rattle.spec_structure.specs.Modules.{Modules}
 use Rattle.spec_compile.specs.Sheet as compile
-use Rattle.spec_compile.specs.Sheet.{earlier_of, fault_in, IsRead, refusal_at, IsSheet}
+use Rattle.spec_compile.specs.Sheet.{IsSheet}
 use Rattle.spec_seen.specs.Seen.{seen}
 use Rattle.spec_result.specs.Shape.{shaped}
 use Rattle.spec_run.specs.Documents.{Parameters, Documents, main_name}
 use Rattle.spec_run.specs.Plan.{Refused, nowhere}
 use Rattle.spec_run.specs.Meaning.{Whole, run_of}
 use Rattle.spec_run.specs.World.{setting_of}
-use Rattle.spec_run.specs.NotYet.{not_yet_of}
 
 -- a code, and the element where it stands; at none where the place has no module
 pub record Refusal : Type 0 where
@@ -30,30 +27,6 @@ pub record Refusal : Type 0 where
 pub data Outcome : Type 0 where
   Done : (result : Plain) → (method : Option (Method Expanded)) → (messages : List (List ℕ)) → Outcome
   Failed : (why : Refusal) → (messages : List (List ℕ)) → Outcome
-
--- ---- The stylesheet: what is not run yet is a fault of the first pass of the module in which it stands
-
--- the first of the faults of a module, where what is not run yet is one
-pub record HasFault (modules : Modules) (name : List ℕ) (fault : Option Fault) : Type 0 where
-  pub tree : Plain
-  pub is : modules name ≡ Some tree
-  pub answer : Result (List TopLevel) Fault
-  pub reading : IsRead modules name answer
-  pub whole : fault ≡ earlier_of (fault_in answer) (not_yet_of 1 tree)
-
--- of modules in this order, the first that has one
-pub data FirstRefusal (modules : Modules) : List (List ℕ) → Option compile.Refusal → Type 0 where
-  none_left : FirstRefusal modules [] None
-  here : {name : List ℕ} {names : List (List ℕ)} {fault : Fault} → HasFault modules name (Some fault)
-      → FirstRefusal modules (name ∷ names) (Some (refusal_at name fault))
-  later : {name : List ℕ} {names : List (List ℕ)} {refusal : Option compile.Refusal} → HasFault modules name None
-      → FirstRefusal modules names refusal → FirstRefusal modules (name ∷ names) refusal
-
-pub data IsStylesheet (modules : Modules) (main : List ℕ) : Result Sheet compile.Refusal → Type 0 where
-  faulty : {order : List (List ℕ)} {why : compile.Refusal} → AreInReadingOrder modules main order → FirstRefusal modules order (Some why)
-      → IsStylesheet modules main (Err why)
-  well : {order : List (List ℕ)} {result : Result Sheet compile.Refusal} → AreInReadingOrder modules main order → FirstRefusal modules order None
-      → IsSheet modules main result → IsStylesheet modules main result
 
 -- ---- The outcome
 
@@ -89,7 +62,7 @@ abbrev pub Comes : Modules → Parameters → Option Plain → Option Plain → 
 Comes modules parameters None source outcome = outcome ≡ Failed no_main []
 Comes modules parameters (Some main) None outcome = outcome ≡ Failed no_source []
 Comes modules parameters (Some main) (Some source) outcome =
-    (result : Result Sheet compile.Refusal) × IsStylesheet modules main_name result × (outcome ≡ outcome_of parameters source result)
+    (result : Result Sheet compile.Refusal) × IsSheet modules main_name result × (outcome ≡ outcome_of parameters source result)
 
 -- the documents have this outcome
 abbrev pub IsOutcome : Documents → Outcome → Type 0

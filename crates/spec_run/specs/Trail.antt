@@ -1,6 +1,6 @@
 -- What is kept of an instantiation that was run to its end. It is a path through its plan that looks at no world, since each step that
 -- depends on one was noted: so it can be said of a part of what was done, and it never goes stale; only what was done may no longer hold.
-use Rattle.std.specs.Prelude.{◌≡◌, ℕ, ◌-◌, List, [], ◌∷◌, length}
+use Rattle.std.specs.Prelude.{◌≡◌, ℕ, ◌-◌, Bool, List, [], ◌∷◌, length}
 use Rattle.spec_stylesheet.specs.Place.{Place}
 use Rattle.spec_meaning.specs.Stream.{Stream, filled, holes}
 use Rattle.spec_meaning.specs.Value.{Value}
@@ -46,7 +46,7 @@ abbrev pub kept_as : {N : Type 0} → Call N → Going N → Ending N → Kept N
 kept_as call g ending = record { call = call; trace = g.trace; content = closed g; height = g.height; ending = ending }
 
 -- it goes along its plan
-pub record IsTrue {N : Type 0} (k : Kept N) : Type 0 where
+pub record IsTrue {N : Type 0} (same : N → N → Bool) (k : Kept N) : Type 0 where
   pub last : Going N
-  pub trail : Trail (plan_of k.call) at_start k.trace last k.ending
-  pub same : k ≡ kept_as k.call last k.ending
+  pub trail : Trail (plan_of same k.call) at_start k.trace last k.ending
+  pub is : k ≡ kept_as k.call last k.ending

@@ -1,17 +1,18 @@
 -- The true answers of a stylesheet and a source to all questions. The nodes of the source are named by a key of the reader's choice, and so
 -- are the elements of the stylesheet: by their places, or by their numbers.
 use Rattle.std.specs.Prelude.{ℕ, Bool, true, false, ◌&&◌, List, [], ◌∷◌, ◌++◌, map, Option, None, Some, slice_get, bytes_eq, if◌then◌else◌}
-use Rattle.std.specs.List.{find, flat_map, list_any}
+use Rattle.std.specs.List.{filter, find, flat_map, list_any}
 use Rattle.spec_document.specs.Name.{Expanded, same_name}
 use Rattle.spec_document.specs.Forest.{Document}
 use Rattle.spec_document.specs.Place as document
 use Rattle.spec_document.specs.Order.{Entry, entries_of, is_same_place}
 use Rattle.spec_stylesheet.specs.Place as stylesheet
+use Rattle.spec_stylesheet.specs.Instruction as made
 use Rattle.spec_stylesheet.specs.Instruction.{Form, without_content, with_content, control, Control, for_each, conditional, choose, apply_templates, call_template, Instrs, no_instrs, instr, Branches, no_branches, branch, Bindings, no_bindings, binding}
 use Rattle.spec_stylesheet.specs.Sheet as sheet
-use Rattle.spec_stylesheet.specs.Sheet.{Sheet, Rule}
+use Rattle.spec_stylesheet.specs.Sheet.{Alias, Sheet, Rule}
 use Rattle.spec_meaning.specs.Question as question
-use Rattle.spec_meaning.specs.Question.{Question, Answer, Gone, SomeNodes, Chosen, Copied, Resolved, Passed, Candidates, ChosenRule, NamedTemplate}
+use Rattle.spec_meaning.specs.Question.{Question, Answer, Gone, SomeNodes, Chosen, Copied, Resolved, Passed, Candidates, ChosenRule, NamedTemplate, NamedSets, ResolvedUnit}
 use Rattle.spec_meaning.specs.Program.{Said, Gives, outcome_of}
 use Rattle.spec_meaning.specs.Truth.{answer_by, entry_named, told_of}
 use Rattle.spec_transform.specs.Choice.{context_for, chosen}
@@ -62,6 +63,48 @@ called_in_unit (sheet.AGlobal g) = called_in g.binding.content
 called_in_unit (sheet.ASet s) = called_in s.attributes
 called_in_unit (sheet.AKey k) = []
 
+-- the attribute sets that a content uses by name, with those of what stands in it
+abbrev pub sets_by : made.WithContent → List Expanded
+sets_by (made.Literal tag) = tag.sets
+sets_by (made.Element name sets) = sets
+sets_by (made.Copy sets) = sets
+sets_by _ = []
+
+abbrev mutual
+  pub used_in : Instrs → List Expanded
+  used_in no_instrs = []
+  used_in (instr site form is) = used_by form ++ used_in is
+
+  pub used_by : Form → List Expanded
+  used_by (without_content what) = []
+  used_by (with_content what is) = sets_by what ++ used_in is
+  used_by (control c) = used_under c
+
+  pub used_under : Control → List Expanded
+  used_under (for_each e keys is) = used_in is
+  used_under (conditional e is) = used_in is
+  used_under (choose bs) = used_in_branches bs
+  used_under (apply_templates s bs) = used_in_bindings bs
+  used_under (call_template name bs) = used_in_bindings bs
+
+  pub used_in_branches : Branches → List Expanded
+  used_in_branches no_branches = []
+  used_in_branches (branch site test is more) = used_in is ++ used_in_branches more
+
+  pub used_in_bindings : Bindings → List Expanded
+  used_in_bindings no_bindings = []
+  used_in_bindings (binding site name select is more) = used_in is ++ used_in_bindings more
+
+abbrev pub used_in_unit : sheet.Declared → List Expanded
+used_in_unit (sheet.ATemplate t) = used_in_bindings t.parameters ++ used_in t.content
+used_in_unit (sheet.AGlobal g) = used_in g.binding.content
+used_in_unit (sheet.ASet s) = s.sets ++ used_in s.attributes
+used_in_unit (sheet.AKey k) = []
+
+abbrev pub is_set : Expanded → sheet.Declared → Bool
+is_set name (sheet.ASet s) = same_name s.name name
+is_set name _ = false
+
 abbrev pub is_template : Expanded → sheet.Declared → Bool
 is_template name (sheet.ATemplate t) = elim t.name [ None ↦ false | Some other ↦ same_name other name ]
 is_template name _ = false
@@ -85,6 +128,13 @@ templates_called named units names = flat_map (λ name. template_by named name (
 abbrev pub is_element : stylesheet.Place → Option stylesheet.Place → Bool
 is_element place None = false
 is_element place (Some other) = same_element other place
+
+-- all attribute sets of a name, by precedence and then in the order of the stylesheet
+abbrev pub sets_of_name : {K : Type 0} → (stylesheet.Place → K) → List sheet.Unit → Expanded → NamedSets K
+sets_of_name named units name = record { name = name; elements = map (λ u. named u.site.place) (filter (λ u. is_set name u.declared) units) }
+
+abbrev pub sets_used : {K : Type 0} → (stylesheet.Place → K) → List sheet.Unit → List Expanded → List (NamedSets K)
+sets_used named units names = map (sets_of_name named units) names
 
 -- of the globals of one name the last counts. A module that is imported twice stands in the stylesheet twice, and so does what it declares
 abbrev pub counts : List sheet.Unit → sheet.Unit → Bool
@@ -111,12 +161,22 @@ abbrev pub globals_of : {K : Type 0} → (stylesheet.Place → K) → List sheet
 globals_of named [] = []
 globals_of named (u ∷ us) = flat_map (global_by named u us) (global_in u.declared) ++ globals_of named us
 
-abbrev pub unit_by : {K : Type 0} → (stylesheet.Place → K) → List sheet.Unit → Option sheet.Unit → Answer K
-unit_by named units None = Gone
-unit_by named units (Some u) = Resolved (record { unit = u; templates = templates_called named units (called_in_unit u.declared); sets = []; counts = counts units u })
+-- a unit with what its names name, in a stylesheet of these units and aliases
+abbrev pub resolved_in : {K : Type 0} → (stylesheet.Place → K) → List Alias → List sheet.Unit → sheet.Unit → ResolvedUnit K
+resolved_in named aliases units u = record {
+  unit = u;
+  templates = templates_called named units (called_in_unit u.declared);
+  sets = sets_used named units (used_in_unit u.declared);
+  aliases = aliases;
+  counts = counts units u;
+}
 
-abbrev pub unit_at : {K : Type 0} → (stylesheet.Place → K) → (K → K → Bool) → List sheet.Unit → K → Answer K
-unit_at named same units element = unit_by named units (find (λ u. same element (named u.site.place)) units)
+abbrev pub unit_by : {K : Type 0} → (stylesheet.Place → K) → List Alias → List sheet.Unit → Option sheet.Unit → Answer K
+unit_by named aliases units None = Gone
+unit_by named aliases units (Some u) = Resolved (resolved_in named aliases units u)
+
+abbrev pub unit_at : {K : Type 0} → (stylesheet.Place → K) → (K → K → Bool) → List Alias → List sheet.Unit → K → Answer K
+unit_at named same aliases units element = unit_by named aliases units (find (λ u. same element (named u.site.place)) units)
 
 -- ---- Keys
 
@@ -160,7 +220,7 @@ abbrev pub truth_by : {L K : Type 0} → (Entry L → K) → (K → K → Bool) 
 truth_by key same named s parameters entries (question.Copy n) = told_of (λ e. Copied (copy_of e.item)) (entry_named key same entries n)
 truth_by key same named s parameters entries (question.Choice n mode candidates) =
     told_of (λ e. rule_at named same s (source_by key same s entries) n mode candidates) (entry_named key same entries n)
-truth_by key same named s parameters entries (question.Unit element) = unit_at named same s.units element
+truth_by key same named s parameters entries (question.Unit element) = unit_at named same s.aliases s.units element
 truth_by key same named s parameters entries (question.Key name text) = source_by key same s entries (question.Key name text)
 truth_by key same named s parameters entries (question.External name) = Passed (parameters name)
 truth_by key same named s parameters entries q = answer_by key same entries q
@@ -184,4 +244,4 @@ root_place = record { positions = []; ending = document.Itself }
 
 abbrev pub setting_of : {L : Type 0} → Sheet → Parameters → Document L → Setting Node
 setting_of s parameters document =
-    record { ask = truth_at_places s parameters document; root = InSource root_place; globals = globals_of InModule s.units }
+    record { ask = truth_at_places s parameters document; same = same_node; root = InSource root_place; globals = globals_of InModule s.units }

@@ -6,19 +6,12 @@ ghost use Rattle.spec_run.specs.Documents.{Documents};
 ghost use Rattle.spec_run.specs.Outcome.{IsOutcome, Outcome};
 
 use spec_compile::{no_want_of_sheet, one_sheet};
-use spec_expression::one_answer;
-use spec_static::{one_pattern, one_template};
-use spec_structure::modules_have_one_reading_order;
 
 /// Documents have one outcome.
 pub fn one_outcome()
     ensures { (documents : Documents) (one other : Outcome) → IsOutcome documents one → IsOutcome documents other → one ≡ other }
 {
     one_sheet();
-    one_answer();
-    one_pattern();
-    one_template();
-    modules_have_one_reading_order();
 }
 
 /// Documents do not lack an outcome, where the modules are finitely many, so where there are names among which each

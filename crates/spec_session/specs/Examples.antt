@@ -11,7 +11,8 @@ use Rattle.spec_session.specs.Request.{Request, SetSource, SetModule, DropModule
 use Rattle.spec_session.specs.Request.{SetParameter, Write, Messages, Dump, SourceName, ModuleName, words_of, asked_by, request_of, path_of}
 use Rattle.spec_run.specs.Documents.{Documents, no_documents, with_source, with_module, without_module, with_parameter}
 use Rattle.spec_structure.specs.Modules.{reads, no_link, no_fault}
-use Rattle.spec_run.specs.Outcome.{Failed, IsOutcome, here, faulty, no_main, no_source}
+use Rattle.spec_compile.specs.Sheet.{refused, faulty}
+use Rattle.spec_run.specs.Outcome.{Failed, IsOutcome, no_main, no_source}
 use Rattle.spec_expression.specs.declared.code.Code.TheVariants.{Static, Dynamic}
 use Rattle.spec_expression.specs.declared.code.StaticCode.TheVariants.{NoStylesheet}
 use Rattle.spec_expression.specs.declared.code.DynCode.TheVariants.{TooDeep}
@@ -184,14 +185,8 @@ pub other_main : IsOutcome (holding (Some (Node tt (Comment []) Empty Empty)) (S
     (Failed (record { code = Static NoStylesheet; place = record { module_name = Some (codes "main"); path = 2 ∷ [] } }) [])
 other_main = (
   _,
-  faulty (reads _ refl refl no_link)
-      (here (record {
-        tree = _;
-        is = refl;
-        answer = _;
-        reading = record { tree = _; is = refl; says = Ok []; reading = refl; link = None; links = no_fault; whole = refl };
-        whole = refl;
-      })),
+  refused (reads _ refl refl no_link)
+      (faulty (record { tree = _; is = refl; says = Ok []; reading = refl; link = None; links = no_fault; whole = refl })),
   refl,
 )
 

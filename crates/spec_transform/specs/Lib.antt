@@ -3,3 +3,5 @@ pub mod Match
 pub mod Choice
 pub mod Key
 pub mod Expansion
+pub mod Sorted
+pub mod Numbering

@@ -8,12 +8,16 @@
 //! | `web` | so many, each of which leads to the next ten |
 //! | `ring` | a `chain` whose last leads back to the first |
 //! | `templates` | one, with so many template rules and global variables |
+//! | `import-chain`, `include-chain` | so many with two templates each, each of which leads to the next |
+//! | `import-fan`, `include-fan` | a principal one that leads to so many others, all with templates; includes stand between its own |
+//! | `faulty-fan` | an `import-fan` whose last module calls so many templates that are not there |
 //!
 //! The bench `make` only makes the modules, `order` reads them, `tree` looks for the faults of their links, `fault` for
 //! those of the principal one, `sheets` puts the stylesheets of the import tree in their order, `structure` looks for
 //! the fault of structure of the principal module, and `compile` compiles all.
 #![tactic(auto)]
 
+mod linked;
 mod modules;
 mod templates;
 

@@ -1,5 +1,6 @@
 // The modules of a shape and a size.
 
+use crate::linked;
 use crate::templates::push_templates;
 use indexmap::IndexMap;
 use std::alloc::Global;
@@ -18,6 +19,13 @@ const HEAD: [&str; 3] = [
     "Axmlns:xsl http://www.w3.org/1999/XSL/Transform",
 ];
 
+/// How one module leads to another.
+#[derive(Clone, Copy)]
+pub enum Lead {
+    Import,
+    Include,
+}
+
 /// The modules of this shape and size, of which the principal one is `main`.
 pub fn modules_of(alloc: Global, shape: &str, size: u64) -> Result<IndexMap<String, Doc>, Memory> {
     let mut modules = IndexMap::new(alloc);
@@ -26,6 +34,11 @@ pub fn modules_of(alloc: Global, shape: &str, size: u64) -> Result<IndexMap<Stri
         "web" => add_linked(alloc, &mut modules, size, LINKS, 0)?,
         "ring" => add_linked(alloc, &mut modules, size, 1, size)?,
         "fan" => add_fan(alloc, &mut modules, size)?,
+        "import-chain" => linked::add_chain(alloc, &mut modules, Lead::Import, size)?,
+        "include-chain" => linked::add_chain(alloc, &mut modules, Lead::Include, size)?,
+        "import-fan" => linked::add_fan(alloc, &mut modules, Lead::Import, size)?,
+        "include-fan" => linked::add_fan(alloc, &mut modules, Lead::Include, size)?,
+        "faulty-fan" => linked::add_faulty_fan(alloc, &mut modules, size)?,
         _ => add_templates(alloc, &mut modules, size)?,
     }
     Ok(modules)
@@ -58,9 +71,9 @@ fn linked_lines(
     for step in 0..links {
         let target = number.saturating_add(step).saturating_add(1);
         if target < size {
-            push_link(alloc, &mut lines, number, target)?;
+            push_link(alloc, &mut lines, lead_of(number), target)?;
         } else if ring > 0 {
-            push_link(alloc, &mut lines, number, target % ring)?;
+            push_link(alloc, &mut lines, lead_of(number), target % ring)?;
         }
     }
     Ok(lines)
@@ -80,7 +93,7 @@ fn add_fan(alloc: Global, modules: &mut IndexMap<String, Doc>, size: u64) -> Res
 fn fan_lines(alloc: Global, size: u64) -> Result<Vec<Line>, Memory> {
     let mut lines = module_begun(alloc)?;
     for number in 1..size {
-        push_link(alloc, &mut lines, number, number)?;
+        push_link(alloc, &mut lines, lead_of(number), number)?;
     }
     Ok(lines)
 }
@@ -95,7 +108,17 @@ fn add_templates(
     add(alloc, modules, "main", lines)
 }
 
-fn module_begun(alloc: Global) -> Result<Vec<Line>, Memory> {
+// Modules lead to others by imports and includes in turn.
+fn lead_of(number: u64) -> Lead {
+    if number % 2 == 0 {
+        Lead::Import
+    } else {
+        Lead::Include
+    }
+}
+
+/// The lines that a module begins with.
+pub(crate) fn module_begun(alloc: Global) -> Result<Vec<Line>, Memory> {
     let mut lines = Vec::new(alloc);
     for line in HEAD {
         push_line(alloc, &mut lines, line)?;
@@ -103,13 +126,17 @@ fn module_begun(alloc: Global) -> Result<Vec<Line>, Memory> {
     Ok(lines)
 }
 
-// The link to the module of this number: an import or an include, as the other number is even or odd.
-fn push_link(alloc: Global, lines: &mut Vec<Line>, number: u64, target: u64) -> Result<(), Memory> {
+/// Adds the link to the module of this number.
+pub(crate) fn push_link(
+    alloc: Global,
+    lines: &mut Vec<Line>,
+    lead: Lead,
+    target: u64,
+) -> Result<(), Memory> {
     let href = href_line(alloc, target)?;
-    if number % 2 == 0 {
-        push_element(alloc, lines, "(xsl:import", href.as_str(), ")xsl:import")
-    } else {
-        push_element(alloc, lines, "(xsl:include", href.as_str(), ")xsl:include")
+    match lead {
+        Lead::Import => push_element(alloc, lines, "(xsl:import", href.as_str(), ")xsl:import"),
+        Lead::Include => push_element(alloc, lines, "(xsl:include", href.as_str(), ")xsl:include"),
     }
 }
 
@@ -132,7 +159,8 @@ fn href_line(alloc: Global, number: u64) -> Result<Text, Memory> {
     Ok(line)
 }
 
-fn module_name(alloc: Global, number: u64) -> Result<Text, Memory> {
+/// The name of the module of this number: the first is the principal one.
+pub(crate) fn module_name(alloc: Global, number: u64) -> Result<Text, Memory> {
     if number == 0 {
         return Text::from_str(alloc, "main");
     }
@@ -148,8 +176,8 @@ pub(crate) fn push_line(alloc: Global, lines: &mut Vec<Line>, text: &str) -> Res
     Ok(())
 }
 
-// Adds the module of this name, which has these lines and an end. A module that is refused is left out.
-fn add(
+/// Adds the module of this name, which has these lines and an end. A module that is refused is left out.
+pub(crate) fn add(
     alloc: Global,
     modules: &mut IndexMap<String, Doc>,
     name: &str,

@@ -74,6 +74,28 @@ const RULE: [&str; 64] = [
     ")xsl:template",
 ];
 
+/// The lines of a rule without a name, with the same marks.
+const MATCHING: [&str; 8] = [
+    "(xsl:template",
+    "Amatch r#",
+    "(xsl:call-template",
+    "Aname t~",
+    ")xsl:call-template",
+    "(xsl:apply-templates",
+    ")xsl:apply-templates",
+    ")xsl:template",
+];
+
+/// The lines of a template with a name.
+const NAMED: [&str; 6] = [
+    "(xsl:template",
+    "Aname t#",
+    "(xsl:value-of",
+    "Aselect @x + #",
+    ")xsl:value-of",
+    ")xsl:template",
+];
+
 /// Adds so many rules and global variables.
 pub fn push_templates(alloc: Global, lines: &mut Vec<Line>, size: u64) -> Result<(), Memory> {
     for number in 0..size {
@@ -91,8 +113,43 @@ fn other_of(number: u64, size: u64) -> u64 {
 }
 
 fn push_rule(alloc: Global, lines: &mut Vec<Line>, number: u64, other: u64) -> Result<(), Memory> {
-    for line in RULE {
-        let text = filled(alloc, line, number, other)?;
+    push_filled(alloc, lines, &RULE, number, other)
+}
+
+/// Adds a rule of this number, which calls the template of another one below the size.
+pub fn push_matching(
+    alloc: Global,
+    lines: &mut Vec<Line>,
+    number: u64,
+    size: u64,
+) -> Result<(), Memory> {
+    push_calling(alloc, lines, number, other_of(number, size))
+}
+
+/// Adds a rule of this number, which calls the template of the other number.
+pub fn push_calling(
+    alloc: Global,
+    lines: &mut Vec<Line>,
+    number: u64,
+    other: u64,
+) -> Result<(), Memory> {
+    push_filled(alloc, lines, &MATCHING, number, other)
+}
+
+/// Adds the template of this number.
+pub fn push_named(alloc: Global, lines: &mut Vec<Line>, number: u64) -> Result<(), Memory> {
+    push_filled(alloc, lines, &NAMED, number, number)
+}
+
+fn push_filled(
+    alloc: Global,
+    lines: &mut Vec<Line>,
+    forms: &[&str],
+    number: u64,
+    other: u64,
+) -> Result<(), Memory> {
+    for form in forms {
+        let text = filled(alloc, form, number, other)?;
         push_line(alloc, lines, text.as_str())?;
     }
     Ok(())

@@ -171,7 +171,7 @@ fn control(alloc: Global, kind: &str, rest: &str) -> Result<Control, Fault> {
         "for-each" => {
             let select = parsed(alloc, rest)?;
             let content = content(alloc)?;
-            Ok(Control::ForEach(select, Vec::new(alloc), content))
+            Ok(Control::ForEach(select, Rc::new(alloc, Vec::new(alloc))?, content))
         }
         "if" => {
             let test = parsed(alloc, rest)?;
@@ -210,7 +210,7 @@ fn branch(alloc: Global, test: Expr, content: Rc<Vec<Instr>>) -> Result<Branch, 
 fn apply_templates(alloc: Global, select: &str) -> Result<Control, Fault> {
     let parameters = Rc::new(alloc, Vec::new(alloc))?;
     let select = parsed(alloc, select)?;
-    let keys = one(alloc, sort_key(alloc)?)?;
+    let keys = Rc::new(alloc, one(alloc, sort_key(alloc)?)?)?;
     let selection = Selection {
         select,
         mode: None,

@@ -12,7 +12,7 @@ use Rattle.xp_syntax.specs.declared.instr.Branch.{Branch, Branch-F, fold-Branch}
 use Rattle.xp_syntax.specs.declared.instr.Binding.{Binding, Binding-F, fold-Binding}
 
 abbrev pub selection_of : Selection → tree.Selection
-selection_of s = record { select = expr_of s.select; mode = s.mode; keys = map sort_key_of s.keys.items }
+selection_of s = record { select = expr_of s.select; mode = s.mode; keys = map sort_key_of s.keys.value.items }
 
 -- one level, with what is below it seen already
 abbrev pub instr_step : Instr-F tree.Control tree.Form tree.Binding tree.Branch tree.Instr → tree.Instr
@@ -24,7 +24,7 @@ form_step (Form-F.WithContent i is) = tree.with_content (with_content_of i) (tre
 form_step (Form-F.Control c) = tree.control c
 
 abbrev pub control_step : Control-F tree.Control tree.Form tree.Binding tree.Branch tree.Instr → tree.Control
-control_step (Control-F.ForEach e keys is) = tree.for_each (expr_of e) (map sort_key_of keys.items) (tree.instrs is.value.items)
+control_step (Control-F.ForEach e keys is) = tree.for_each (expr_of e) (map sort_key_of keys.value.items) (tree.instrs is.value.items)
 control_step (Control-F.If e is) = tree.conditional (expr_of e) (tree.instrs is.value.items)
 control_step (Control-F.Choose bs) = tree.choose (tree.branches bs.value.items)
 control_step (Control-F.ApplyTemplates s bs) = tree.apply_templates (selection_of s) (tree.bindings bs.value.items)

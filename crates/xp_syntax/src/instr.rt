@@ -40,7 +40,7 @@ pub enum Form {
 #[derive(Drop)]
 pub enum Control {
     /// xsl:for-each, with what it selects, how that is sorted, and its content (XSLT 1.0, section 8).
-    ForEach(Expr, Vec<SortKey>, Rc<Vec<Instr>>),
+    ForEach(Expr, Rc<Vec<SortKey>>, Rc<Vec<Instr>>),
     /// xsl:if, with its test and its content (XSLT 1.0, section 9.1).
     If(Expr, Rc<Vec<Instr>>),
     /// xsl:choose, with at least one branch (XSLT 1.0, section 9.2).
@@ -77,7 +77,7 @@ pub struct Selection {
     /// Its default `node()` where it is missing.
     pub select: Expr,
     pub mode: Option<Expanded>,
-    pub keys: Vec<SortKey>,
+    pub keys: Rc<Vec<SortKey>>,
 }
 
 impl Selection {

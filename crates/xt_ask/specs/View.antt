@@ -7,7 +7,7 @@ use Rattle.spec_meaning.specs.Context as context
 use Rattle.spec_meaning.specs.Supplies as supplies
 use Rattle.xp_syntax.specs.View.{test_of}
 use Rattle.xp_syntax.specs.PartView.{place_of}
-use Rattle.xp_syntax.specs.SheetView.{unit_of}
+use Rattle.xp_syntax.specs.SheetView.{alias_of, unit_of}
 use Rattle.xt_tree.specs.ValueView.{value_of}
 use Rattle.xt_tree.specs.declared.node_ref.NodeRef.{NodeRef}
 use Rattle.xt_ask.specs.declared.question.Candidates.{Candidates}
@@ -67,7 +67,13 @@ abbrev pub sets_of : NamedSets → plain.NamedSets NodeRef
 sets_of s = record { name = s.name; elements = s.elements.items }
 
 abbrev pub resolved_of : ResolvedUnit → plain.ResolvedUnit NodeRef
-resolved_of u = record { unit = unit_of u.unit.value; templates = map template_of u.templates.items; sets = map sets_of u.sets.items; counts = u.counts }
+resolved_of u = record {
+  unit = unit_of u.unit.value;
+  templates = map template_of u.templates.items;
+  sets = map sets_of u.sets.items;
+  aliases = map alias_of u.aliases.value.items;
+  counts = u.counts;
+}
 
 abbrev pub chosen_of : ChosenRule → plain.ChosenRule NodeRef
 chosen_of r = record { element = r.element; first = r.first; last = r.last }

@@ -4,9 +4,12 @@ ghost use Rattle.std.specs.Bool.{Decides};
 ghost use Rattle.spec_meaning.specs.Question as plain;
 ghost use Rattle.xt_names.specs.View.{entry_of};
 ghost use Rattle.xt_tree.specs.declared.node_ref.NodeRef.{NodeRef};
+ghost use Rattle.spec_stylesheet.specs.Sheet as sheet;
+ghost use Rattle.xp_syntax.specs.SheetView.{alias_of};
 ghost use Rattle.xt_ask.specs.View.{template_of, sets_of};
 
 use crate::{NamedSets, NamedTemplate};
+use xp_syntax::Alias;
 use xt_names::{Expanded, Namespace};
 use xt_text::Text;
 use xt_tree::NodeRef;
@@ -104,5 +107,15 @@ impl Alike for NamedSets {
     fn alike(&self, other: &NamedSets) -> bool {
         self.name.same(&other.name)
             && same_nodes(self.elements.as_slice(), other.elements.as_slice())
+    }
+}
+
+impl Alike for Alias {
+    ghost Seen = { sheet.Alias };
+
+    ghost seen = { alias_of };
+
+    fn alike(&self, other: &Alias) -> bool {
+        self.same(other)
     }
 }

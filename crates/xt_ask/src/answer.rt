@@ -10,7 +10,7 @@ use crate::pieces::same_streams;
 use spec_document::Kind;
 use std::alloc::Global;
 use std::rc::Rc;
-use xp_syntax::Unit;
+use xp_syntax::{Alias, Unit};
 use xt_names::Expanded;
 use xt_text::{Memory, Text};
 use xt_tree::{Fragment, NodeRef};
@@ -29,24 +29,26 @@ pub struct NamedSets {
     pub elements: Vec<NodeRef>,
 }
 
-/// A unit of the stylesheet, with the templates and attribute sets that it names.
+/// A unit of the stylesheet, with the templates and attribute sets that it names and the aliases of the stylesheet.
 #[derive(Drop)]
 pub struct ResolvedUnit {
     pub unit: Rc<Unit>,
     pub templates: Vec<NamedTemplate>,
     pub sets: Vec<NamedSets>,
+    pub aliases: Rc<Vec<Alias>>,
     /// Of a global variable or parameter, whether it is the one of its name that counts.
     pub counts: bool,
 }
 
 impl ResolvedUnit {
-    /// Whether both are the same unit, with the same templates and attribute sets. Takes no memory.
+    /// Whether both are the same unit, with the same templates, attribute sets and aliases. Takes no memory.
     pub fn same(&self, other: &ResolvedUnit) -> bool
         ensures { Decides result (resolved_of self.now ≡ resolved_of other.now) }
     {
         self.unit.same(&other.unit)
             && all_alike(self.templates.as_slice(), other.templates.as_slice())
             && all_alike(self.sets.as_slice(), other.sets.as_slice())
+            && all_alike(self.aliases.as_slice(), other.aliases.as_slice())
             && self.counts == other.counts
     }
 }

@@ -105,7 +105,6 @@ fn static_code_more(name: &str) -> Option<StaticCode> {
         "BarredReference" => Some(StaticCode::BarredReference),
         "Extension" => Some(StaticCode::Extension),
         "BadValueTemplate" => Some(StaticCode::BadValueTemplate),
-        "NotYet" => Some(StaticCode::NotYet),
         _ => None,
     }
 }

@@ -10,3 +10,5 @@ pub mod Places
 pub mod Whole
 pub mod Found
 pub mod Putting
+pub mod Opening
+pub mod Faults

@@ -1,16 +1,15 @@
 -- The elements of stylesheets put in place, one part after another.
-use Rattle.std.proofs.Common.{◌≡◌, ℕ, ◌+◌, ◌-◌, ◌<◌, ◌≤◌, true, List, [], ◌∷◌, ◌++◌, map, length, take, drop, get_or, Option, None, Some, Result, Ok, Err, IfOk, IfSome, OnOk, bytes_eq, sym, ap, subst, ◌∙◌, append_assoc}
+use Rattle.std.proofs.Common.{◌≡◌, ℕ, ◌+◌, ◌-◌, ◌<◌, ◌≤◌, List, [], ◌∷◌, ◌++◌, map, length, take, drop, get_or, Result, Ok, Err, IfOk, OnOk, sym, ap, ◌∙◌, append_assoc}
 use Rattle.std.specs.declared.alloc.Global.{Global}
 use Rattle.std.specs.declared.vec.Vec.{Vec}
-use Rattle.std.specs.List.{filter, flat_map}
+use Rattle.std.specs.List.{flat_map}
 use Rattle.std.proofs.lemmas.Grind.{flat_map-append}
 use Rattle.std.proofs.lemmas.List.{append-nil, map-append, take_more, at_drop_more, at_drop_all}
-use Rattle.std.proofs.lemmas.Slice.Eq.{bytes_eq-Decides}
 use Rattle.spec_structure.specs.Modules.{Modules, Part, Stylesheet}
 use Rattle.spec_compile.specs.Scoping as plain
 use Rattle.spec_compile.specs.Unit as unit
 use Rattle.spec_compile.specs.Sheet as spec
-use Rattle.spec_compile.specs.Sheet.{Said, said_by, is_at}
+use Rattle.spec_compile.specs.Sheet.{Said}
 use Rattle.xt_import.specs.Parts.{part_in, stylesheet_in}
 use Rattle.xt_import.specs.declared.precedence.Stylesheet as program_sheet
 use Rattle.xt_import.specs.declared.precedence.Part as program
@@ -18,17 +17,10 @@ use Rattle.xt_scoping.specs.View.{ranked_in}
 use Rattle.xt_scoping.specs.declared.violation.Ranked.{Ranked}
 use Rattle.xt_units.specs.View.{top_levels_in, top_level_in}
 use Rattle.xt_units.specs.declared.top_level.TopLevel.{TopLevel}
-use Rattle.xt_compile.specs.Placed.{IsCurrent, IsPlacing, Places}
+use Rattle.xt_compile.specs.Placed.{IsPlacing, Places}
 use Rattle.xt_text.specs.declared.memory.Memory.{Memory}
-use Rattle.xt_compile.specs.Opened.{IsLeft}
 use Rattle.xt_compile.specs.Stock.{Says}
-use Rattle.xt_compile.specs.declared.placing.Current.{Current}
 use Rattle.xt_compile.specs.declared.placing.Placing.{Placing}
-
--- what is found in one module is the part of another of the same name
-pub same_module : (one other path : List ℕ) (said : List Said) (ts : List unit.TopLevel) → bytes_eq one other ≡ true → ts ≡ filter (is_at path) (said_by one said)
-    → ts ≡ filter (is_at path) (said_by other said)
-same_module one other path said ts e h = h ∙ ap (λ (n : List ℕ). filter (is_at path) (said_by n said)) ((bytes_eq-Decides one other).0 e)
 
 pub no_parts : (modules : Modules) (precedence imported : ℕ) (p : Placing) (rs : List Ranked) → Places modules precedence imported [] p p rs rs
 no_parts modules precedence imported p rs = record {
@@ -99,19 +91,7 @@ last_sheet said n sheets ranked all h whole =
     sym (append-nil (map ranked_in ranked))
     ∙ sym (at_drop_all (λ (ss : List program_sheet.Stylesheet). map ranked_in ranked ++ spec.ranked_from said n (map stylesheet_in ss)) sheets n h) ∙ whole
 
--- ---- The current module
-
-pub in_module : (r : Result (Option (Vec TopLevel Global)) Memory) (one other path : List ℕ) (old : List (Vec ℕ Global × Vec TopLevel Global)) → bytes_eq one other ≡ true
-    → IfOk r (λ o. IfSome o (λ ts. (all : List unit.TopLevel) → IsLeft all old → top_levels_in ts.items ≡ filter (is_at path) all))
-    → IfOk r (λ o. IfSome o (λ ts. (said : List Said) → IsLeft (said_by one said) old → top_levels_in ts.items ≡ filter (is_at path) (said_by other said)))
-in_module (Ok (Some ts)) one other path old e h = λ said left. same_module one other path said (top_levels_in ts.items) e (h (said_by one said) left)
-in_module (Ok None) one other path old e h = tt
-in_module (Err why) one other path old e h = tt
-
-pub stays_in : (r : Result (Option (Vec TopLevel Global)) Memory) (old new : Current) → OnOk r ((all : List unit.TopLevel) → IsLeft all old.opened.entries → IsLeft all new.opened.entries)
-    → OnOk r (new.name ≡ old.name) → OnOk r ((said : List Said) → IsCurrent said old → IsCurrent said new)
-stays_in (Ok o) old new h e = λ said left. subst (λ (n : List ℕ). IsLeft (said_by n said) new.opened.entries) (sym e) (h (said_by old.name said) left)
-stays_in (Err why) old new h e = tt
+-- ---- After a part was looked for at hand
 
 pub found_on : (modules : Modules) (r : Result (Vec TopLevel Global) Memory) (old mid : Placing) (part : Part) → ((said : List Said) → IsPlacing said old → IsPlacing said mid)
     → IfOk r (λ ts. (said : List Said) → Says modules said → IsPlacing said mid → top_levels_in ts.items ≡ spec.part_of said part)

@@ -81,7 +81,7 @@ ends {modules} {said} {left} {all} e g =
 
 -- ---- A module
 
-pub is_read : {modules : Modules} (l : ListedModule) (tree : Plain) (own : Option Fault) (says r : Result (Vec TopLevel Global) Fault)
+is_read : {modules : Modules} (l : ListedModule) (tree : Plain) (own : Option Fault) (says r : Result (Vec TopLevel Global) Fault)
     → modules l.name ≡ Some tree → IsJudged modules l → faults_in own ≡ fault_of 1 tree → Reads (module_of l.name 1 tree) (says_in says)
     → says_in r ≡ spec.answer_by (spec.earlier_of (faults_in own) (spec.earlier_of (faults_in l.link_fault) (spec.fault_in (says_in says)))) (says_in says)
     → IsRead modules l.name (says_in r)

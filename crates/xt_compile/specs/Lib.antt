@@ -1,4 +1,4 @@
-pub mod First
+pub mod Faulty
 pub mod Opened
 pub mod Placed
 pub mod Rank

@@ -1,19 +1,23 @@
 // The second pass: the first of the faults between elements.
-ghost use Rattle.std.specs.Prelude.{◌≡◌, Some, IfOk, if◌then◌else◌, map};
-ghost use Rattle.std.specs.List.{filter};
+ghost use Rattle.std.specs.Prelude.{◌≡◌, ℕ, false, ◌++◌, ◌∷◌, [], List, Some, IfOk, OnOk, bytes_eq, if◌then◌else◌, map};
+ghost use Rattle.std.specs.List.{filter, list_any};
+ghost use Rattle.spec_compile.specs.Scoping as scoping;
 ghost use Rattle.spec_compile.specs.Sheet as spec;
+ghost use Rattle.xt_compile.specs.Faulty.{AreFaulty};
 ghost use Rattle.xt_compile.specs.View.{refusals_in};
+ghost use Rattle.xt_import.specs.View.{is_name};
 ghost use Rattle.xt_scoping.specs.View.{violation_in};
 ghost use Rattle.xt_sheet.specs.View.{fault_in, faults_in};
 
 use crate::fault::{StaticRefusal, earlier_of, refusal_at};
+use indexmap::IndexSet;
 use std::alloc::Global;
 use xt_scoping::Violation;
 use xt_sheet::Fault;
 use xt_text::{Memory, Text};
 
 /// The first of the faults between elements: by module in the order of these names, then by place in document order,
-/// then by code. They are gone through for each module up to the first that has one.
+/// then by code. They are gone through for the first module that has one.
 pub(crate) fn first_violation(
     alloc: Global,
     names: &[Text],
@@ -21,8 +25,9 @@ pub(crate) fn first_violation(
 ) -> Result<Option<StaticRefusal>, Memory>
     ensures { IfOk result (λ first. refusals_in first ≡ spec.first_violation names.now (map violation_in violations.now)) }
 {
+    let faulty = faulty_modules(alloc, violations)?;
     for name in names {
-        match first_in(alloc, name, violations)? {
+        match first_where_faulty(alloc, &faulty, name, violations)? {
             None => {}
             Some(fault) => {
                 let name = name.copy(alloc)?;
@@ -31,6 +36,54 @@ pub(crate) fn first_violation(
         }
     }
     Ok(None)
+}
+
+// The names of the modules in which faults stand.
+fn faulty_modules(alloc: Global, violations: &[Violation]) -> Result<IndexSet<String>, Memory>
+    ensures { IfOk result (λ faulty. AreFaulty (map violation_in violations.now) faulty.keys) }
+{
+    let mut faulty = IndexSet::new(alloc);
+    for violation in violations {
+        add_module(alloc, &mut faulty, violation)?;
+    }
+    Ok(faulty)
+}
+
+fn add_module(
+    alloc: Global,
+    faulty: &mut IndexSet<String>,
+    violation: &Violation,
+) -> Result<(), Memory>
+    ensures { OnOk result ((before : List scoping.Violation) → AreFaulty before faulty.old.keys → AreFaulty (before ++ violation_in violation.now ∷ []) faulty.new.keys) }
+{
+    match &violation.place.module {
+        None => Ok(()),
+        Some(name) => add_name(alloc, faulty, name),
+    }
+}
+
+fn add_name(alloc: Global, faulty: &mut IndexSet<String>, name: &Text) -> Result<(), Memory>
+    ensures { OnOk result ((q : List ℕ) → list_any (is_name q) faulty.new.keys ≡ false → (list_any (is_name q) faulty.old.keys ≡ false) × (bytes_eq name.now q ≡ false)) }
+{
+    let key = String::from_str(alloc, name.as_str())?;
+    let _ = faulty.insert(key)?;
+    Ok(())
+}
+
+// The first of those in the module of this name; none, where it is none of the faulty ones.
+fn first_where_faulty(
+    alloc: Global,
+    faulty: &IndexSet<String>,
+    name: &Text,
+    violations: &[Violation],
+) -> Result<Option<Fault>, Memory>
+    ensures { IfOk result (λ first. AreFaulty (map violation_in violations.now) faulty.now.keys → faults_in first ≡ spec.first_in (filter (spec.is_in name.now) (map violation_in violations.now))) }
+{
+    if faulty.contains(name.as_str()) {
+        first_in(alloc, name, violations)
+    } else {
+        Ok(None)
+    }
 }
 
 // The first of those in the module of this name.

@@ -15,7 +15,6 @@ mod between;
 mod compiled;
 mod declared;
 mod fault;
-mod first;
 mod opened;
 mod placing;
 mod rank;
@@ -26,4 +25,3 @@ mod stock;
 
 pub use compiled::sheet;
 pub use fault::{SheetFault, StaticRefusal};
-pub use first::refusal_with;

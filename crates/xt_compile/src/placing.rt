@@ -4,7 +4,7 @@ ghost use Rattle.std.specs.List.{filter, flat_map};
 ghost use Rattle.spec_compile.specs.Sheet as spec;
 ghost use Rattle.spec_compile.specs.Unit as unit;
 ghost use Rattle.xt_compile.specs.Opened.{IsLeft};
-ghost use Rattle.xt_compile.specs.Placed.{IsCurrent, IsPlacing, Places, is_none_left};
+ghost use Rattle.xt_compile.specs.Placed.{IsPlacing, Places, is_none_left};
 ghost use Rattle.xt_compile.specs.Stock.{Says};
 ghost use Rattle.xt_compile.specs.View.{said_in};
 ghost use Rattle.xt_import.specs.Parts.{part_in, stylesheet_in};
@@ -19,26 +19,20 @@ use indexmap::IndexMap;
 use std::alloc::Global;
 use xt_import::{Part, Stylesheet};
 use xt_scoping::Ranked;
-use xt_text::{Memory, Path, Text};
+use xt_text::{Memory, Path};
 use xt_tree::Doc;
 use xt_units::TopLevel;
 
-/// What is still to be put in place: what the modules say, and the module of which parts are taken.
+/// What is still to be put in place: what the modules say, and by its name each module of which parts were taken.
 #[derive(Drop)]
 pub(crate) struct Placing {
     stock: Stock,
-    current: Option<Current>,
-}
-
-/// A module of which parts are taken.
-#[derive(Drop)]
-pub(crate) struct Current {
-    name: Text,
-    opened: Opened,
+    opened: IndexMap<String, Opened>,
 }
 
 /// The elements at the top of these stylesheets in stylesheet order, each with the precedence of its stylesheet and
-/// the least of what that imports. The parts of a module mostly stand one after another, so that it is opened once.
+/// the least of what that imports. A module is opened once for each time that it is placed, also where parts of other
+/// modules stand between its own.
 pub(crate) fn ranked_of(
     alloc: Global,
     modules: &IndexMap<String, Doc>,
@@ -47,11 +41,7 @@ pub(crate) fn ranked_of(
 ) -> Result<Vec<Ranked>, Memory>
     ensures { IfOk result (λ ranked. Says (modules_in modules.now.entries) (map said_in said.items) → map ranked_in ranked.items ≡ spec.ranked_from (map said_in said.items) 0 (map stylesheet_in stylesheets.now)) }
 {
-    let stock = stock_of(alloc, said)?;
-    let mut placing = Placing {
-        stock,
-        current: None,
-    };
+    let mut placing = none_opened(alloc, said)?;
     let mut ranked = Vec::new(alloc);
     for (precedence, stylesheet) in stylesheets.iter().enumerate() {
         add_stylesheet(
@@ -64,6 +54,14 @@ pub(crate) fn ranked_of(
         )?;
     }
     Ok(ranked)
+}
+
+fn none_opened(alloc: Global, said: Vec<Said>) -> Result<Placing, Memory>
+    ensures { IfOk result (λ placing. IsPlacing (map said_in said.items) placing) }
+{
+    let stock = stock_of(alloc, said)?;
+    let opened = IndexMap::new(alloc);
+    Ok(Placing { stock, opened })
 }
 
 // Adds the elements of a stylesheet.
@@ -141,7 +139,7 @@ fn part_of(
     }
 }
 
-// The same where the module of the part is the current one, and this part was not taken.
+// The same where the module of the part is opened, and this part was not taken.
 fn at_hand(
     alloc: Global,
     placing: &mut Placing,
@@ -150,37 +148,17 @@ fn at_hand(
     ensures found { IfOk result (λ at_hand. IfSome at_hand (λ found. (said : List spec.Said) → IsPlacing said placing.old → top_levels_in found.items ≡ spec.part_of said (part_in part.now))) }
     ensures stays { OnOk result ((said : List spec.Said) → IsPlacing said placing.old → IsPlacing said placing.new) }
 {
-    match &mut placing.current {
+    match placing.opened.get_mut(part.module_name.as_str()) {
         None => Ok(None),
-        Some(current) => in_current(alloc, current, part),
+        Some(opened) => left_at(alloc, opened, &part.path),
     }
 }
 
-fn in_current(
-    alloc: Global,
-    current: &mut Current,
-    part: &Part,
-) -> Result<Option<Vec<TopLevel>>, Memory>
-    ensures found { IfOk result (λ at_hand. IfSome at_hand (λ found. (said : List spec.Said) → IsCurrent said current.old → top_levels_in found.items ≡ spec.part_of said (part_in part.now))) }
-    ensures stays { OnOk result ((said : List spec.Said) → IsCurrent said current.old → IsCurrent said current.new) }
+fn left_at(alloc: Global, opened: &mut Opened, path: &Path) -> Result<Option<Vec<TopLevel>>, Memory>
+    ensures found { IfOk result (λ at_hand. IfSome at_hand (λ found. (all : List unit.TopLevel) → IsLeft all opened.old.entries → top_levels_in found.items ≡ filter (spec.is_at path.now) all)) }
+    ensures stays { OnOk result ((all : List unit.TopLevel) → IsLeft all opened.old.entries → IsLeft all opened.new.entries) }
 {
-    if current.name.same(&part.module_name) {
-        left_at(alloc, current, &part.path)
-    } else {
-        Ok(None)
-    }
-}
-
-fn left_at(
-    alloc: Global,
-    current: &mut Current,
-    path: &Path,
-) -> Result<Option<Vec<TopLevel>>, Memory>
-    ensures found { IfOk result (λ at_hand. IfSome at_hand (λ found. (all : List unit.TopLevel) → IsLeft all current.old.opened.entries → top_levels_in found.items ≡ filter (spec.is_at path.now) all)) }
-    ensures stays { OnOk result ((all : List unit.TopLevel) → IsLeft all current.old.opened.entries → IsLeft all current.new.opened.entries) }
-    ensures name { OnOk result (current.new.name ≡ current.old.name) }
-{
-    match take_at(alloc, &mut current.opened, path)? {
+    match take_at(alloc, opened, path)? {
         None => Ok(Some(Vec::new(alloc))),
         Some(found) => Ok(if_any(found)),
     }
@@ -202,11 +180,11 @@ fn part_anew(
     ensures found { IfOk result (λ found. (said : List spec.Said) → Says (modules_in modules.now.entries) said → IsPlacing said placing.old → top_levels_in found.items ≡ spec.part_of said (part_in part.now)) }
     ensures stays { OnOk result ((said : List spec.Said) → Says (modules_in modules.now.entries) said → IsPlacing said placing.old → IsPlacing said placing.new) }
 {
-    let name = part.module_name.copy(alloc)?;
+    let name = String::from_str(alloc, part.module_name.as_str())?;
     let top_levels = take(alloc, &mut placing.stock, modules, &part.module_name)?;
     let mut opened = by_path(alloc, top_levels)?;
     let taken = take_at(alloc, &mut opened, &part.path)?;
     let found = or_none(alloc, taken);
-    placing.current = Some(Current { name, opened });
+    let _ = placing.opened.insert(name, opened)?;
     Ok(found)
 }

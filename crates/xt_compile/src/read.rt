@@ -89,7 +89,7 @@ pub(crate) fn says(
 }
 
 // The first of the faults, or what is said.
-pub(crate) fn answer(
+fn answer(
     structure: Option<Fault>,
     link: Option<Fault>,
     says: Result<Vec<TopLevel>, Fault>,

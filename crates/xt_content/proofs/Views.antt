@@ -35,8 +35,8 @@ view-WithContent w is = search (rules, the_lemmas)
 pub view-Control : (c : Control) → form_of (form.Control c) ≡ tree.control (control_of c)
 view-Control c = search (rules, the_lemmas)
 
-pub view-ForEach : (e : Expr) (keys : Vec SortKey Global) (is : Shared Instr)
-    → control_of (ForEach e keys is) ≡ tree.for_each (expr_of e) (map sort_key_of keys.items) (tree.instrs (map instr_of is.value.items))
+pub view-ForEach : (e : Expr) (keys : Shared SortKey) (is : Shared Instr)
+    → control_of (ForEach e keys is) ≡ tree.for_each (expr_of e) (map sort_key_of keys.value.items) (tree.instrs (map instr_of is.value.items))
 view-ForEach e keys is = search (rules, the_lemmas)
 
 pub view-If : (e : Expr) (is : Shared Instr) → control_of (If e is) ≡ tree.conditional (expr_of e) (tree.instrs (map instr_of is.value.items))

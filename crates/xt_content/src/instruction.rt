@@ -94,11 +94,8 @@ fn apply_templates(alloc: Global, entries: &mut Entries, parts: Parts) -> Result
 {
     let select = or_children(alloc, take_expr(entries, "select"))?;
     let mode = take_name(entries, "mode");
-    let selection = Selection {
-        select,
-        mode,
-        keys: parts.sort_keys,
-    };
+    let keys = Rc::new(alloc, parts.sort_keys)?;
+    let selection = Selection { select, mode, keys };
     let parameters = Rc::new(alloc, parts.parameters)?;
     Ok(Control::ApplyTemplates(selection, parameters))
 }
@@ -114,8 +111,9 @@ fn director(
     match kind {
         Director::ForEach => {
             let select = expr_at(alloc, entries, "select")?;
+            let keys = Rc::new(alloc, parts.sort_keys)?;
             let content = Rc::new(alloc, parts.content)?;
-            Ok(Control::ForEach(select, parts.sort_keys, content))
+            Ok(Control::ForEach(select, keys, content))
         }
         Director::If => {
             let test = expr_at(alloc, entries, "test")?;

@@ -30,13 +30,13 @@ both_true : (a b : Bool) → a ≡ true → b ≡ true → (a && b) ≡ true
 both_true true b e h = h
 both_true false b e h = e
 
-equal_names : (a b : Expanded) → same_name a b ≡ true → a ≡ b
+pub equal_names : (a b : Expanded) → same_name a b ≡ true → a ≡ b
 equal_names a b e =
     let uri = (bytes_eq-Decides a.uri b.uri).0 (first_of (bytes_eq a.uri b.uri) (bytes_eq a.local b.local) e) in
     let local = (bytes_eq-Decides a.local b.local).0 (second_of (bytes_eq a.uri b.uri) (bytes_eq a.local b.local) e) in
     λ i. of_parts (uri i) (local i)
 
-own_name : (a : Expanded) → same_name a a ≡ true
+pub own_name : (a : Expanded) → same_name a a ≡ true
 own_name a = both_true (bytes_eq a.uri a.uri) (bytes_eq a.local a.local) ((bytes_eq-Decides a.uri a.uri).1 refl) ((bytes_eq-Decides a.local a.local).1 refl)
 
 -- ---- At the start

@@ -12,7 +12,7 @@ use Rattle.spec_run.specs.Meaning.{Setting, Past, going_into, held_by, global_ca
 use Rattle.spec_run.proofs.More.{meaning_at, more_room, held_known}
 
 -- where a global that comes to its end is evaluated does not count
-elsewhere : {N : Type 0} (s : Setting N) (room : ℕ) (past : Past N) (d : ℕ) (element : N) (l m : Place)
+pub elsewhere : {N : Type 0} (s : Setting N) (room : ℕ) (past : Past N) (d : ℕ) (element : N) (l m : Place)
     → GoesOn (meaning s room past d (global_call s.root element l)).ending → meaning s room past d (global_call s.root element m) ≡ meaning s room past d (global_call s.root element l)
 elsewhere s zero past d element l m h = absurd h
 elsewhere s (suc room) past zero element l m h = refl

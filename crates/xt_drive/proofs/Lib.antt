@@ -4,3 +4,10 @@ pub mod NoHoles
 pub mod Given
 pub mod Standing
 pub mod Turns
+pub mod Passing
+pub mod Remembering
+pub mod Following
+pub mod Referring
+pub mod Onward
+pub mod Later
+pub mod Turning

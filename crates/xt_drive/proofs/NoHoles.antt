@@ -69,5 +69,5 @@ pub meaning_whole : {N : Type 0} (s : Setting N) (levels : ℕ) (past : Past N) 
 meaning_whole s zero past depth c = refl
 meaning_whole s (suc room) past zero c =
     direct_whole s.ask (supplied c (referred s (meaning s room) past)) (λ depth inner. meaning s room past depth (settled c inner)) room
-    (λ d inner. meaning_whole s room past d (settled c inner)) (plan_of c) Ended [] refl
+    (λ d inner. meaning_whole s room past d (settled c inner)) (plan_of s.same c) Ended [] refl
 meaning_whole s (suc room) past (suc depth) c = meaning_whole s room past depth c

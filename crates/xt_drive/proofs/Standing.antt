@@ -1,10 +1,9 @@
 -- Where a run stands, turn by turn.
 use Rattle.std.proofs.Common.{◌≡◌, ℕ, zero, suc, ◌+◌, ◌-◌, ◌<◌, List, [], ◌∷◌, ◌++◌, length, Option, Some, None, Result, Ok, Err, refl, sym, ap, subst, ◌∙◌, arith}
-use Rattle.std.specs.Prelude.{IfOk, OnOk, Box}
+use Rattle.std.specs.Prelude.{Bool, IfOk, OnOk, Box}
 use Rattle.std.specs.declared.rc.Rc.{Rc}
 use Rattle.std.specs.declared.alloc.Global.{Global as Allocator}
-use Rattle.std.specs.List.{list_any}
-use Rattle.spec_document.specs.Name.{Expanded, same_name}
+use Rattle.spec_document.specs.Name.{Expanded}
 use Rattle.spec_stylesheet.specs.Place.{Place}
 use Rattle.spec_meaning.specs.Stream.{Stream, filled, holes}
 use Rattle.spec_meaning.specs.Question.{Question, Answer}
@@ -15,12 +14,13 @@ use Rattle.spec_run.specs.Direct.{Supplied, Known, Failed, Ending, Finished, Gav
 use Rattle.spec_run.specs.Going.{Saw, Going, at_start, noted, given, opened, closed, Owned, owned, unless_halted, if_known, own, whole}
 use Rattle.spec_run.specs.Passes.{Passes}
 use Rattle.spec_run.specs.Content.{plan_of}
-use Rattle.spec_run.specs.Meaning.{Setting, Past, going_into, global_call, held_by, element_named, evaluated, refer, referred, meaning}
+use Rattle.spec_run.specs.Meaning.{Setting, Past, referred, meaning}
 use Rattle.spec_run.proofs.Fill.{filled_whole}
 use Rattle.spec_run.proofs.More.{meaning_at}
 use Rattle.xp_syntax.specs.PartView.{place_of}
 use Rattle.xt_base.specs.declared.place.Place.{Place as CodePlace}
 use Rattle.xt_tree.specs.declared.node_ref.NodeRef.{NodeRef}
+use Rattle.xp_axes.specs.View.{same_ref}
 use Rattle.xt_tree.specs.declared.items.Items.{Items}
 use Rattle.xt_tree.specs.StreamView.{stream_of}
 use Rattle.xt_tree.specs.ValueView.{value_of}
@@ -37,11 +37,10 @@ use Rattle.xt_run.specs.Progress.{Waiting, ForCall, ForGlobal, Progress, Gift, R
 use Rattle.xt_run.specs.Advances.{Advances, AdvancesSo, GoesSo, Made, ran_of, ends, gift_of}
 use Rattle.xt_drive.specs.declared.outcome.Outcome.{Outcome as Came}
 use Rattle.xt_text.specs.declared.memory.Memory.{Memory as NoMemory}
-use Rattle.xt_drive.specs.declared.globals.Reference.{Reference}
-use Rattle.xt_drive.specs.declared.globals.Reference.TheVariants as references
+use Rattle.xt_drive.specs.declared.memo.Referred.{Referred}
 use Rattle.xt_drive.specs.declared.level.Needed.{Needed}
 use Rattle.xt_drive.specs.declared.level.Step.{Step}
-use Rattle.xt_drive.specs.View.{outcome_of, gift_for, Gives, GivesSo, IsRefused, IsRefusedSo, IsStreamed, IsTaken, IsHeld, Refers, RefersSo}
+use Rattle.xt_drive.specs.View.{outcome_of, gift_for, Gives, GivesSo, IsRefused, IsRefusedSo, IsStreamed, IsTaken}
 use Rattle.xt_drive.specs.Steps.{Steps}
 use Rattle.xt_drive.specs.Stands.{Agrees, missing, if_supplied, work, Level, supply_of, nested_of, IsEven, StandsSo, Stands, start_work, work_left}
 use Rattle.xt_drive.proofs.Less.{referred_less, referred_at}
@@ -52,17 +51,19 @@ abbrev Ask : Type 0
 Ask = Question NodeRef → Answer NodeRef
 
 abbrev all : Level → Owned NodeRef
-all l = own l.setting.ask (supply_of l) (nested_of l) l.below (plan_of l.call) at_start
+all l = own l.setting.ask (supply_of l) (nested_of l) l.below (plan_of l.setting.same l.call) at_start
 
 -- all of it is what its call means
 pub means_all : (l : Level) → whole (all l) ≡ meaning l.setting (suc l.below) l.past zero l.call
-means_all l = filled_whole l.setting.ask (supply_of l) (nested_of l) l.below (plan_of l.call)
+means_all l = filled_whole l.setting.ask (supply_of l) (nested_of l) l.below (plan_of l.setting.same l.call)
 
 -- at the start
-pub stands_begun : (l : Level) (p : Progress) → p ≡ started l.call l.below → Stands l p None []
-stands_begun l p e =
+pub stands_begun : (l : Level) (p : Progress) → l.setting.same ≡ same_ref → p ≡ started l.call l.below → Stands l p None []
+stands_begun l p same e =
     let P : Progress → Type 0 = λ q. Stands l q None [] in
-    subst P (sym e) (record { room = refl; so = (refl, agrees_begun l.call (referred l.setting (meaning l.setting l.below) l.past), refl, refl) })
+    let begun : own l.setting.ask (supply_of l) (nested_of l) l.below (plan_of same_ref l.call) at_start ≡ all l
+    = ap (λ (same : NodeRef → NodeRef → Bool). own l.setting.ask (supply_of l) (nested_of l) l.below (plan_of same l.call) at_start) (sym same) in
+    subst P (sym e) (record { room = refl; so = (begun, agrees_begun l.call (referred l.setting (meaning l.setting l.below) l.past), refl, refl) })
 
 -- a run that goes on stands so, and pauses less often
 pub record Onto (l : Level) (p q : Progress) (gift next : Option (Gift NodeRef)) (ss : List Stream) : Type 0 where
@@ -77,7 +78,7 @@ onto_of {l = l} {p = p} {q = q} {gift = gift} {next = next} {ss = ss} st w s roo
     let Q : Start NodeRef → Type 0 = λ x. start_work l q.left x < work_left l p gift in
     record { stands = record { room = room; so = subst P (sym is) so }; less = subst Q (sym is) less }
 
-in_room : {ask : Ask} {hand : ℕ → Wanted → Option (Given NodeRef)} {room below : ℕ} {a b : Plan NodeRef} {g h : Going NodeRef} → room ≡ below → Passes ask hand room a g b h → Passes ask hand below a g b h
+pub in_room : {ask : Ask} {hand : ℕ → Wanted → Option (Given NodeRef)} {room below : ℕ} {a b : Plan NodeRef} {g h : Going NodeRef} → room ≡ below → Passes ask hand room a g b h → Passes ask hand below a g b h
 in_room {ask = ask} {hand = hand} {a = a} {b = b} {g = g} {h = h} e s = let P : ℕ → Type 0 = λ r. Passes ask hand r a g b h in subst P e s
 
 -- ---- After an instantiation that it enters
@@ -189,7 +190,7 @@ stands_global l p q gift ss n d place e h a gives = go (received p.waits p.going
 
 -- ---- At the end
 
-own_ends : (l : Level) (e : Ending NodeRef) (g : Going NodeRef) → own l.setting.ask (supply_of l) (nested_of l) l.below (ends e) g ≡ owned g e
+pub own_ends : (l : Level) (e : Ending NodeRef) (g : Going NodeRef) → own l.setting.ask (supply_of l) (nested_of l) l.below (ends e) g ≡ owned g e
 own_ends l Finished g = refl
 own_ends l (Gave v) g = refl
 own_ends l (Halted why) g = refl
@@ -266,43 +267,22 @@ stands_entered l p q gift before after w d (Ok x) e h a is so =
     subst P (sym so.streams) onto
 
 -- the turn of a global that it needs
-pub stands_referred : (l : Level) (p q : Progress) (gift : Option (Gift NodeRef)) (ss : List Stream) (n : Needed) (d : ℕ) (came : Result (Box Entered Allocator) NoMemory) (next : Option Entered)
+pub stands_referred : (l : Level) (p q : Progress) (gift : Option (Gift NodeRef)) (ss : List Stream) (n : Needed) (d : ℕ) (came : Result (Box Referred Allocator) NoMemory) (next : Option Entered)
     → Stands l p gift ss → Advances l.setting.ask gift p q (Ok (WantGlobal n.name d n.place))
-    → IfOk came (λ e. Gives e.value (place_of n.place) (referred l.setting (meaning l.setting l.below) l.past n.name d (place_of n.place))) → IsTaken next came → Onto l p q gift (gift_of next) ss
+    → IfOk came (λ e. Gives e.value.entered (place_of n.place) (referred l.setting (meaning l.setting l.below) l.past n.name d (place_of n.place))) → IsTaken next came → Onto l p q gift (gift_of next) ss
 stands_referred l p q gift ss n d (Err m) next h a is taken = absurd taken
 stands_referred l p q gift ss n d (Ok e) next h a is taken =
     let P : Option Entered → Type 0 = λ x. Onto l p q gift (gift_of x) ss in
-    subst P (sym taken) (stands_global l p q gift ss n.name d n.place e.value h a is)
+    subst P (sym taken) (stands_global l p q gift ss n.name d n.place e.value.entered h a is)
 
 pub if_ok : {T E : Type 0} {P Q : T → Type 0} (r : Result T E) → IfOk r P → ((x : T) → P x → Q x) → IfOk r Q
 if_ok (Ok x) h f = f x h
 if_ok (Err e) h f = tt
 
--- ---- References
-
-pub refer_given : (s : Setting NodeRef) (levels : ℕ) (past : Past NodeRef) (name : Expanded) (r : Reference) (e : Box Entered Allocator) (place : Place)
-    → Refers r name past.values past.under s.globals → r ≡ references.Given e → Gives e.value place (referred s (meaning s levels) past name 0 place)
-refer_given s levels past name r e place h is = go r (h.so (λ l el. evaluated s (meaning s levels) past name 0 l el)) is
-  where
-    go : (x : Reference) → RefersSo x (λ l el. evaluated s (meaning s levels) past name 0 l el) (element_named name s.globals) (λ l y. refer name l past.values (list_any (same_name name) past.under) y)
-        → x ≡ references.Given e → Gives e.value place (referred s (meaning s levels) past name 0 place)
-    go (references.Given f) so is = let P : Box Entered Allocator → Type 0 = λ y. Gives y.value place (referred s (meaning s levels) past name 0 place) in let same : f ≡ e = cc in subst P same (so place refl)
-    go (references.Evaluated n) so is = absurd (cc)
-
-pub refer_evaluated : (s : Setting NodeRef) (levels : ℕ) (past : Past NodeRef) (name : Expanded) (r : Reference) (n : NodeRef) (place : Place)
-    → Refers r name past.values past.under s.globals → r ≡ references.Evaluated n
-    → referred s (meaning s levels) past name 0 place ≡ held_by (meaning s levels (going_into name past) 0 (global_call s.root n place))
-refer_evaluated s levels past name r n place h is = go r (h.so (λ l el. evaluated s (meaning s levels) past name 0 l el)) is
-  where
-    go : (x : Reference) → RefersSo x (λ l el. evaluated s (meaning s levels) past name 0 l el) (element_named name s.globals) (λ l y. refer name l past.values (list_any (same_name name) past.under) y)
-        → x ≡ references.Evaluated n → referred s (meaning s levels) past name 0 place ≡ held_by (meaning s levels (going_into name past) 0 (global_call s.root n place))
-    go (references.Given f) so is = absurd (cc)
-    go (references.Evaluated m) so is = let same : m ≡ n = cc in so place ∙ ap (λ x. held_by (meaning s levels (going_into name past) 0 (global_call s.root x place))) same
-
-pub held_gives : (came : Result (Box Came Allocator) NoMemory) (e : Entered) (place : Place) (o : Outcome NodeRef) → IfOk came (λ x. outcome_of x.value ≡ o) → IsHeld e came → Gives e place (held_by o)
-held_gives (Err m) e place o is h = absurd h
-held_gives (Ok x) e place o is h = let P : Outcome NodeRef → Type 0 = λ y. Gives e place (held_by y) in subst P is (h place)
-
 pub on_ok : {T E Q : Type 0} {P : T → Type 0} (r : Result T E) → IfOk r P → ((x : T) → P x → Q) → OnOk r Q
 on_ok (Ok x) h f = f x h
 on_ok (Err e) h f = tt
+
+pub if_on : {T E Q : Type 0} {P R : T → Type 0} (r : Result T E) → IfOk r P → OnOk r Q → ((x : T) → P x → Q → R x) → IfOk r R
+if_on (Ok x) h k f = f x h k
+if_on (Err e) h k f = tt

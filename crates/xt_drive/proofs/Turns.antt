@@ -4,7 +4,7 @@ use Rattle.std.specs.Prelude.{IfOk, Box}
 use Rattle.std.specs.declared.alloc.Global.{Global as Allocator}
 use Rattle.std.proofs.lemmas.List.{at_drop_more, at_drop_all, map-append}
 use Rattle.spec_document.specs.Name.{Expanded}
-use Rattle.spec_meaning.specs.Stream.{Ended}
+use Rattle.spec_meaning.specs.Stream.{Stream, Ended}
 use Rattle.spec_meaning.specs.Question.{Question, Answer}
 use Rattle.spec_meaning.specs.Program.{Valued}
 use Rattle.spec_meaning.specs.Context.{Bound}
@@ -25,7 +25,7 @@ use Rattle.xt_drive.specs.declared.outcome.Outcome.{Outcome as Came}
 use Rattle.xt_drive.specs.declared.outcome.Held.{Held}
 use Rattle.xt_drive.specs.declared.outcome.Held.TheVariants as held
 use Rattle.xt_drive.specs.declared.whole.Whole.{Whole as CodeWhole}
-use Rattle.xt_drive.specs.View.{held_of, setting_in, outcome_of, supplied_of, whole_of, IsTurnOf, IsTurn, IsFinished}
+use Rattle.xt_drive.specs.View.{held_of, setting_in, outcome_of, supplied_of, whole_of, IsFinished}
 
 abbrev Ask : Type 0
 Ask = Question NodeRef → Answer NodeRef
@@ -34,22 +34,20 @@ Ask = Question NodeRef → Answer NodeRef
 abbrev pub meant : Setting NodeRef → ℕ → means.NamedGlobal NodeRef → List (Bound NodeRef) → Outcome NodeRef
 meant s levels g values = meaning s levels (going_into g.name (at_turn values)) 0 (global_call s.root g.element nowhere)
 
--- in a world with the same truth, where these are the values and nothing is being evaluated
-pub meant_here : (root : NodeRef) (named : List NamedGlobal) (levels : ℕ) (g : NamedGlobal) {a b : Ask} {vs ws : List HeldGlobal} {us : List Expanded} → a ≡ b → vs ≡ ws → us ≡ []
-    → meaning (setting_in a root named) levels (going_into g.name (record { values = map held_of vs; under = us })) 0 (global_call root g.element nowhere) ≡ meant (setting_in b root named) levels (named_of g) (map held_of ws)
-meant_here root named levels g {b = b} {vs = vs} {ws = ws} {us = us} e f none =
-    let M : Ask → List HeldGlobal → List Expanded → Outcome NodeRef = λ x xs ns. meaning (setting_in x root named) levels (going_into g.name (record { values = map held_of xs; under = ns })) 0 (global_call root g.element nowhere) in
-    ap (λ x. M x vs us) e ∙ ap (λ xs. M b xs us) f ∙ ap (M b ws) none
+-- what a global holds at its turn, and the messages then
+pub record IsTurnOf (h : Held) (o : Outcome NodeRef) (before after : List (List ℕ)) : Type 0 where
+  pub held : supplied_of h ≡ held_by o
+  pub told : after ≡ before ++ messages_of o.content
 
--- and what a call means there
+-- what a call means in a world with the same truth, where these are the values and nothing is being evaluated
 pub root_here : (root : NodeRef) (named : List NamedGlobal) (levels : ℕ) {a b : Ask} {vs ws : List HeldGlobal} {us : List Expanded} {c k : Call NodeRef} → a ≡ b → vs ≡ ws → us ≡ [] → c ≡ k
     → meaning (setting_in a root named) levels (record { values = map held_of vs; under = us }) 0 c ≡ meaning (setting_in b root named) levels (at_turn (map held_of ws)) 0 k
 root_here root named levels {b = b} {vs = vs} {ws = ws} {us = us} {c = c} e f none same =
     let M : Ask → List HeldGlobal → List Expanded → Call NodeRef → Outcome NodeRef = λ x xs ns k. meaning (setting_in x root named) levels (record { values = map held_of xs; under = ns }) 0 k in
     ap (λ x. M x vs us c) e ∙ ap (λ xs. M b xs us c) f ∙ ap (λ ns. M b ws ns c) none ∙ ap (M b ws []) same
 
-pub turn_made : {h : Held} {o m : Outcome NodeRef} {told more : List (List ℕ)} → supplied_of h ≡ held_by o → more ≡ told ++ messages_of o.content → o ≡ m → IsTurnOf h m told more
-turn_made {told = told} e f same = record { held = e ∙ ap held_by same; told = f ∙ ap (λ (x : Outcome NodeRef). told ++ messages_of x.content) same }
+pub turn_made : {h : Held} {o : Outcome NodeRef} {content : Stream} {told more : List (List ℕ)} → supplied_of h ≡ held_by o → content ≡ o.content → more ≡ told ++ messages_of content → IsTurnOf h o told more
+turn_made {told = told} e f g = record { held = e; told = g ∙ ap (λ s. told ++ messages_of s) f }
 
 -- the turn of one of the globals
 pub next_turn : (s : Setting NodeRef) (levels : ℕ) (named : List NamedGlobal) (i : ℕ) (g : NamedGlobal) (values : List (Bound NodeRef)) (told : List (List ℕ)) (c : Call NodeRef) → i < length named → g ≡ get_or named i g
@@ -76,11 +74,6 @@ turn_refused s levels g gs values told more c h why is e = sym (turn_is s levels
 
 pub values_more : (values : List HeldGlobal) (h : HeldGlobal) {all : List HeldGlobal} {b : Bound NodeRef} → all ≡ values ++ h ∷ [] → held_of h ≡ b → map held_of all ≡ map held_of values ++ b ∷ []
 values_more values h e f = ap (map held_of) e ∙ map-append held_of values (h ∷ []) ∙ ap (λ x. map held_of values ++ x ∷ []) f
-
--- what came at a turn
-pub turn_of : (came : Result (Box Came Allocator) Memory) (h : Held) (told more : List (List ℕ)) (o : Outcome NodeRef) → IfOk came (λ x. outcome_of x.value ≡ o) → IsTurn h came told more → IsTurnOf h o told more
-turn_of (Err m) h told more o is t = absurd t
-turn_of (Ok x) h told more o is t = turn_made t.held t.told is
 
 -- after the last turn
 pub last_turn : (s : Setting NodeRef) (levels : ℕ) (named : List NamedGlobal) (i : ℕ) (values : List (Bound NodeRef)) (told : List (List ℕ)) (c : Call NodeRef) (came : Result (Box Came Allocator) Memory) (w : CodeWhole)

@@ -1,5 +1,5 @@
 -- Where the run of one instantiation stands, and how often it still pauses.
-use Rattle.std.specs.Prelude.{◌≡◌, ℕ, suc, ◌+◌, List, Option, Some, None, nat_lt, length, if◌then◌else◌}
+use Rattle.std.specs.Prelude.{◌≡◌, ℕ, suc, ◌+◌, ◌-◌, ◌≤◌, List, Option, Some, None, nat_lt, length, if◌then◌else◌}
 use Rattle.spec_stylesheet.specs.Place.{Place}
 use Rattle.spec_meaning.specs.Stream.{Stream, filled, holes}
 use Rattle.spec_meaning.specs.Question.{Question, Answer}
@@ -14,6 +14,7 @@ use Rattle.xt_tree.specs.declared.node_ref.NodeRef.{NodeRef}
 use Rattle.xt_run.specs.Progress.{Progress, Gift, Start, Goes, Halts, received}
 use Rattle.xt_drive.specs.declared.globals.Globals.{Globals}
 use Rattle.xt_drive.specs.View.{setting_of, past_of}
+use Rattle.xt_drive.specs.Remembered.{Entry, Suits}
 
 -- what is at hand is what is supplied, at whatever element it is needed
 abbrev pub Agrees : {N : Type 0} → (Wanted → ℕ → Place → Supplied N) → (ℕ → Wanted → Option (Given N)) → Type 0
@@ -66,10 +67,10 @@ IsEven g = holes (closed g) ≡ length g.streams
 
 abbrev pub StandsSo : Level → Plan NodeRef → List Stream → Start NodeRef → Type 0
 StandsSo l left streams (Goes g s) =
-    (own l.setting.ask (supply_of l) (nested_of l) l.below left g ≡ own l.setting.ask (supply_of l) (nested_of l) l.below (plan_of l.call) at_start)
+    (own l.setting.ask (supply_of l) (nested_of l) l.below left g ≡ own l.setting.ask (supply_of l) (nested_of l) l.below (plan_of l.setting.same l.call) at_start)
     × Agrees (supply_of l) (at_hand s) × (g.streams ≡ streams) × IsEven g
 StandsSo l left streams (Halts why g) =
-    whole (own l.setting.ask (supply_of l) (nested_of l) l.below (plan_of l.call) at_start) ≡ record { content = filled (closed g) g.streams; ending = Halted why }
+    whole (own l.setting.ask (supply_of l) (nested_of l) l.below (plan_of l.setting.same l.call) at_start) ≡ record { content = filled (closed g) g.streams; ending = Halted why }
 
 -- with what it is given it comes to what all of it comes to; these are the streams of what it entered
 pub record Stands (l : Level) (p : Progress) (gift : Option (Gift NodeRef)) (streams : List Stream) : Type 0 where
@@ -82,3 +83,23 @@ start_work l left (Halts why g) = 0
 
 abbrev pub work_left : Level → Progress → Option (Gift NodeRef) → ℕ
 work_left l p gift = start_work l p.left (received p.waits p.going p.supplies gift)
+
+-- ---- Elsewhere
+
+-- the same instantiation with so many levels below its own, in another past
+abbrev pub at_other : Level → ℕ → Past NodeRef → Level
+at_other l below past = record { setting = l.setting; below = below; past = past; call = l.call }
+
+abbrev pub FollowsSo : Level → Plan NodeRef → Start NodeRef → Type 0
+FollowsSo l left (Goes g s) =
+    (own l.setting.ask (supply_of l) (nested_of l) l.below left g ≡ own l.setting.ask (supply_of l) (nested_of l) l.below (plan_of l.setting.same l.call) at_start)
+    × Agrees (supply_of l) (at_hand s)
+FollowsSo l left (Halts why g) = Unit {0}
+
+-- there too it comes to what all of it comes to, unless it is refused
+pub record Follows (l : Level) (p : Progress) (gift : Option (Gift NodeRef)) : Type 0 where
+  pub so : FollowsSo l p.left (received p.waits p.going p.supplies gift)
+
+-- and that is so wherever what is remembered holds, with so many levels to spare, if there is room for its height
+pub record Elsewhere (l : Level) (all : List (Entry NodeRef)) (spare : ℕ) (p : Progress) (gift : Option (Gift NodeRef)) : Type 0 where
+  pub so : (below : ℕ) (past : Past NodeRef) → l.below - spare ≤ below → p.going.height ≤ below → Suits l.past.values all past → Follows (at_other l below past) p gift

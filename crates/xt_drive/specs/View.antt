@@ -1,12 +1,9 @@
 -- What comes of calls, of globals and of whole runs, as the definitions have it.
-use Rattle.std.specs.Prelude.{◌≡◌, ℕ, List, [], ◌∷◌, ◌++◌, map, Option, Some, None, Result, Ok, Err, Box}
+use Rattle.std.specs.Prelude.{◌≡◌, ℕ, List, [], ◌∷◌, ◌++◌, map, Option, Some, Result, Ok, Err, Box}
 use Rattle.std.specs.declared.alloc.Global.{Global as Allocator}
 use Rattle.std.specs.Option.{option_map}
-use Rattle.std.specs.List.{list_any}
-use Rattle.spec_document.specs.Name.{Expanded, same_name}
 use Rattle.spec_stylesheet.specs.Place.{Place}
 use Rattle.spec_meaning.specs.Stream.{Stream}
-use Rattle.spec_meaning.specs.Value as value
 use Rattle.spec_meaning.specs.Question.{Question, Answer}
 use Rattle.spec_meaning.specs.Program.{Valued}
 use Rattle.spec_meaning.specs.Context.{Bound}
@@ -15,9 +12,8 @@ use Rattle.spec_run.specs.Direct as plain
 use Rattle.spec_run.specs.Direct.{Supplied, Known, Failed, Finished, Gave, Halted}
 use Rattle.spec_run.specs.Meaning as means
 use Rattle.spec_run.specs.Meaning.{Setting, Past, element_named, refer, needs_itself, held_by, going_into, global_call, meaning}
-use Rattle.spec_run.specs.Plan.{nowhere}
 use Rattle.xt_tree.specs.declared.node_ref.NodeRef.{NodeRef}
-use Rattle.xt_tree.specs.declared.value.Value as code
+use Rattle.xp_axes.specs.View.{same_ref}
 use Rattle.xt_tree.specs.ValueView.{value_of}
 use Rattle.xt_tree.specs.StreamView.{stream_of}
 use Rattle.xt_run.specs.View.{refused_of, named_of}
@@ -31,8 +27,7 @@ use Rattle.xt_run.specs.declared.turn.RunFault.TheVariants as faults
 use Rattle.xt_text.specs.declared.memory.Memory.{Memory}
 use Rattle.xt_drive.specs.declared.globals.HeldGlobal.{HeldGlobal}
 use Rattle.xt_drive.specs.declared.globals.Globals.{Globals}
-use Rattle.xt_drive.specs.declared.globals.Reference.{Reference}
-use Rattle.xt_drive.specs.declared.globals.Reference.TheVariants as references
+use Rattle.xt_drive.specs.declared.memo.Referred.{Referred}
 use Rattle.xt_drive.specs.declared.outcome.Ending.{Ending}
 use Rattle.xt_drive.specs.declared.outcome.Ending.TheVariants as endings
 use Rattle.xt_drive.specs.declared.outcome.Outcome.{Outcome}
@@ -46,18 +41,13 @@ abbrev pub held_of : HeldGlobal → Bound NodeRef
 held_of g = record { name = g.name; value = value_of g.value }
 
 abbrev pub setting_in : (Question NodeRef → Answer NodeRef) → NodeRef → List NamedGlobal → Setting NodeRef
-setting_in ask root globals = record { ask = ask; root = root; globals = map named_of globals }
+setting_in ask root globals = record { ask = ask; same = same_ref; root = root; globals = map named_of globals }
 
 abbrev pub setting_of : (Question NodeRef → Answer NodeRef) → Globals → Setting NodeRef
 setting_of ask globals = setting_in ask globals.root globals.named.now
 
 abbrev pub past_of : Globals → Past NodeRef
 past_of globals = record { values = map held_of globals.held.now; under = globals.under_way.now }
-
--- what a global means at its turn
-abbrev pub meant_at_turn : (Question NodeRef → Answer NodeRef) → Globals → NamedGlobal → ℕ → plain.Outcome NodeRef
-meant_at_turn ask globals g levels =
-    meaning (setting_of ask globals) levels (going_into g.name (past_of globals)) 0 (global_call globals.root g.element nowhere)
 
 -- ---- What comes of calls
 
@@ -92,8 +82,8 @@ IsStreamed e (Ok o) before after = IsGiven e (outcome_of o.value) before after
 IsStreamed e (Err memory) before after = ⊥
 
 -- what a run is given for a global of which this came
-abbrev pub IsTaken : Option Entered → Result (Box Entered Allocator) Memory → Type 0
-IsTaken given (Ok e) = given ≡ Some e.value
+abbrev pub IsTaken : Option Entered → Result (Box Referred Allocator) Memory → Type 0
+IsTaken given (Ok r) = given ≡ Some r.value.entered
 IsTaken given (Err memory) = ⊥
 
 -- ---- What comes of globals
@@ -111,32 +101,6 @@ GivesSo entered.UnderWay place x = x ≡ needs_itself place
 
 pub record Gives (e : Entered) (place : Place) (x : Supplied NodeRef) : Type 0 where
   pub so : GivesSo e place x
-
-abbrev pub IsHeld : Entered → Result (Box Outcome Allocator) Memory → Type 0
-IsHeld e (Ok o) = (place : Place) → Gives e place (held_by (outcome_of o.value))
-IsHeld e (Err memory) = ⊥
-
-abbrev pub found_or : Option code.Value → Supplied NodeRef → Supplied NodeRef
-found_or None now = now
-found_or (Some value) now = Known (Valued (value_of value))
-
--- What a reference gives, where `now` is what the global of this element comes to now
-abbrev pub RefersSo : Reference → (Place → Option NodeRef → Supplied NodeRef) → Option NodeRef → (Place → Supplied NodeRef → Supplied NodeRef) → Type 0
-RefersSo (references.Given e) now element by = (place : Place) → now place None ≡ Known (Valued (value.Text [])) → Gives e.value place (by place (now place element))
-RefersSo (references.Evaluated node) now element by = (place : Place) → by place (now place element) ≡ now place (Some node)
-
-pub record Refers (r : Reference) (name : Expanded) (values : List (Bound NodeRef)) (under : List Expanded) (globals : List (means.NamedGlobal NodeRef)) : Type 0 where
-  pub so : (now : Place → Option NodeRef → Supplied NodeRef)
-      → RefersSo r now (element_named name globals) (λ place x. refer name place values (list_any (same_name name) under) x)
-
--- what a global holds at its turn of which this came, and the messages then
-pub record IsTurnOf (h : Held) (o : plain.Outcome NodeRef) (before after : List (List ℕ)) : Type 0 where
-  pub held : supplied_of h ≡ held_by o
-  pub told : after ≡ before ++ messages_of o.content
-
-abbrev pub IsTurn : Held → Result (Box Outcome Allocator) Memory → List (List ℕ) → List (List ℕ) → Type 0
-IsTurn h (Ok o) before after = IsTurnOf h (outcome_of o.value) before after
-IsTurn h (Err memory) before after = ⊥
 
 -- ---- What comes of whole runs
 

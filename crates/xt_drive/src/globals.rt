@@ -1,17 +1,19 @@
 // Globals, and what a reference to one gives.
-ghost use Rattle.std.specs.Prelude.{◌≡◌, ◌∷◌, Bool, IfOk, map, if◌then◌else◌};
+ghost use Rattle.std.specs.Prelude.{◌≡◌, ◌∷◌, ◌++◌, [], IfOk, OnOk, map};
 ghost use Rattle.std.specs.List.{list_any};
+ghost use Rattle.std.specs.Option.{option_map};
 ghost use Rattle.spec_document.specs.Name.{same_name};
-ghost use Rattle.spec_stylesheet.specs.Place as places;
-ghost use Rattle.spec_run.specs.Direct.{Supplied};
-ghost use Rattle.spec_run.specs.Meaning.{element_named, global_call, needs_itself, refer};
+ghost use Rattle.spec_run.specs.Meaning.{element_named, global_call};
 ghost use Rattle.xp_syntax.specs.PartView.{place_of};
-ghost use Rattle.xt_tree.specs.declared.node_ref.NodeRef.{NodeRef};
+ghost use Rattle.xt_tree.specs.ValueView.{value_of};
 ghost use Rattle.xt_run.specs.View.{call_of, named_of};
-ghost use Rattle.xt_drive.specs.View.{held_of, found_or, Refers};
+ghost use Rattle.xt_drive.specs.View.{held_of};
+ghost use Rattle.xt_drive.specs.Remembered.{first_named, IsAside};
+ghost use Rattle.xt_drive.specs.Referring.{entry_of, entries_of, no_global, IsGivenAs, IsGivenAt, Refers};
 
 use crate::calls::global_call;
 use crate::level::Needed;
+use crate::memo::{Memo, Referred, Remembered, recall, remember_none, set_aside};
 use std::alloc::Global;
 use xt_ask::{copy_name, copy_value};
 use xt_names::Expanded;
@@ -43,7 +45,7 @@ pub struct Globals<'a> {
 #[derive(Drop)]
 pub enum Reference {
     /// Nothing: this is what it gives.
-    Given(Box<Entered>),
+    Given(Box<Referred>),
     /// The global of this element is to be evaluated.
     Evaluated(NodeRef),
 }
@@ -51,9 +53,13 @@ pub enum Reference {
 /// The evaluation of a global that a reference needs.
 #[derive(Drop)]
 pub struct Evaluation {
+    pub name: Expanded,
+    pub element: NodeRef,
     /// The names of all that are being evaluated then.
     pub under_way: Vec<Expanded>,
     pub call: Call,
+    /// What is remembered and does not hold there.
+    pub aside: Vec<Remembered>,
 }
 
 // The value of a global whose turn is past.
@@ -62,7 +68,7 @@ fn value_of_past(
     held: &[HeldGlobal],
     name: &Expanded,
 ) -> Result<Option<Value>, Memory>
-    ensures { IfOk result (λ v. (place : places.Place) → (is_under : Bool) → (now : Supplied NodeRef) → refer name.now place (map held_of held.now) is_under now ≡ found_or v (if is_under then needs_itself place else now)) }
+    ensures { IfOk result (λ v. option_map value_of v ≡ first_named name.now (map held_of held.now)) }
 {
     for global in held {
         if global.name.same(name) {
@@ -96,32 +102,57 @@ fn element_of(named: &[NamedGlobal], name: &Expanded) -> Option<NodeRef>
     None
 }
 
-// What a reference gives, on the heap.
-fn given(alloc: Global, entered: Entered) -> Result<Box<Entered>, Memory>
-    ensures { IfOk result (λ e. e.value ≡ entered) }
+// What a reference gives whatever levels are left, on the heap.
+fn given(alloc: Global, entered: Entered, levels: u64) -> Result<Reference, Memory>
+    ensures { IfOk result (λ r. IsGivenAt r entered levels) }
 {
-    Ok(Box::new(alloc, entered)?)
+    let referred = Referred {
+        entered,
+        spare: levels,
+    };
+    Ok(Reference::Given(Box::new(alloc, referred)?))
 }
 
-/// What a reference to the global of this name needs. Where there is no such global, it is the empty text.
-pub fn look_up(alloc: Global, globals: &Globals, name: &Expanded) -> Result<Reference, Memory>
-    ensures { IfOk result (λ r. Refers r name.now (map held_of globals.now.held.now) globals.now.under_way.now (map named_of globals.now.named.now)) }
+// The empty text, which is what a reference to a global gives that there is not. It is remembered, so that it is the
+// same wherever what is remembered holds.
+fn no_global(
+    alloc: Global,
+    memo: &mut Memo,
+    name: &Expanded,
+    levels: u64,
+) -> Result<Reference, Memory>
+    ensures given { IfOk result (λ r. IsGivenAs r (no_global name.now) levels) }
+    ensures remembered { OnOk result (entries_of memo.new ≡ entries_of memo.old ++ no_global name.now ∷ []) }
+{
+    remember_none(alloc, memo, name)?;
+    given(alloc, Entered::Value(Value::Text(Text::new(alloc))), levels)
+}
+
+/// What a reference to the global of this name needs, with so many levels left. Where there is no such global, it is
+/// the empty text.
+pub fn look_up(
+    alloc: Global,
+    globals: &Globals,
+    memo: &mut Memo,
+    name: &Expanded,
+    levels: u64,
+) -> Result<Reference, Memory>
+    ensures { IfOk result (λ r. Refers r globals.now name.now levels (entries_of memo.old) (entries_of memo.new)) }
 {
     let known = value_of_past(alloc, globals.held, name)?;
     if let Some(value) = known {
-        let given = given(alloc, Entered::Value(value))?;
-        return Ok(Reference::Given(given));
+        return given(alloc, Entered::Value(value), levels);
     }
     if is_under_way(globals.under_way, name) {
-        let given = given(alloc, Entered::UnderWay)?;
-        return Ok(Reference::Given(given));
+        return given(alloc, Entered::UnderWay, levels);
+    }
+    let recalled = recall(alloc, memo.entries.as_slice(), name, levels)?;
+    if let Some(recalled) = recalled {
+        return Ok(Reference::Given(recalled));
     }
     match element_of(globals.named, name) {
         Some(element) => Ok(Reference::Evaluated(element)),
-        None => {
-            let given = given(alloc, Entered::Value(Value::Text(Text::new(alloc))))?;
-            Ok(Reference::Given(given))
-        }
+        None => no_global(alloc, memo, name, levels),
     }
 }
 
@@ -137,18 +168,34 @@ pub fn with_name(alloc: Global, name: Expanded, names: &[Expanded]) -> Result<Ve
     Ok(all)
 }
 
-/// The evaluation of the global of this element, where it is needed.
+/// The evaluation of the global of this element, where it is needed. What is remembered and does not hold there is
+/// taken along.
 pub fn evaluation_of(
     alloc: Global,
     globals: &Globals,
+    memo: &mut Memo,
     needed: Box<Needed>,
     element: NodeRef,
 ) -> Result<Box<Evaluation>, Memory>
+    ensures name { IfOk result (λ e. e.value.name ≡ needed.value.name) }
+    ensures element { IfOk result (λ e. e.value.element ≡ element) }
     ensures under_way { IfOk result (λ e. e.value.under_way.items ≡ needed.value.name ∷ globals.now.under_way.now) }
     ensures call { IfOk result (λ e. call_of e.value.call ≡ global_call globals.now.root element (place_of needed.value.place)) }
+    ensures aside { IfOk result (λ e. IsAside needed.value.name (map entry_of e.value.aside.items) (entries_of memo.old) (entries_of memo.new)) }
 {
     let Needed { name, place } = Box::into_inner(needed);
-    let under_way = with_name(alloc, name, globals.under_way)?;
+    let copied = copy_name(alloc, &name)?;
+    let under_way = with_name(alloc, copied, globals.under_way)?;
     let call = global_call(globals.root, element, place);
-    Ok(Box::new(alloc, Evaluation { under_way, call })?)
+    let aside = set_aside(alloc, memo, &name);
+    Ok(Box::new(
+        alloc,
+        Evaluation {
+            name,
+            element,
+            under_way,
+            call,
+            aside,
+        },
+    )?)
 }

@@ -1,15 +1,17 @@
 // One level of calls. All that lives while what it enters is run stands on the heap, and what is large is handled in
 // functions that are over by then, so that a level takes little of the stack.
-ghost use Rattle.std.specs.Prelude.{◌≡◌, [], IfOk, None, OnOk};
+ghost use Rattle.std.specs.Prelude.{◌≡◌, ◌≤◌, [], IfOk, None, OnOk};
 ghost use Rattle.xt_tree.specs.StreamView.{streams_of};
 ghost use Rattle.xt_run.specs.View.{call_of};
 ghost use Rattle.xt_run.specs.Advances.{gift_of};
 ghost use Rattle.xt_run.specs.Progress.{started};
 ghost use Rattle.xt_drive.specs.View.{IsStreamed, IsTaken};
+ghost use Rattle.xt_drive.specs.Referring.{spare_in, spare_of};
 ghost use Rattle.xt_drive.specs.Steps.{Steps};
 
 use crate::calls::settle;
-use crate::outcome::{Outcome, streamed};
+use crate::memo::Referred;
+use crate::outcome::{Outcome, fewer, streamed};
 use std::alloc::Global;
 use std::rc::Rc;
 use xt_ask::World;
@@ -27,6 +29,8 @@ pub struct Level<R> {
     pub given: Option<Entered>,
     /// The streams of all that it entered.
     pub parts: Vec<Rc<Items>>,
+    /// With so many levels fewer below its own, what it entered and needed comes to the same.
+    pub spare: u64,
 }
 
 /// A global that an expression at this element needs.
@@ -67,6 +71,7 @@ pub fn begin<E: Engine>(
             run,
             given: None,
             parts: Vec::new(alloc),
+            spare: below,
         },
     )?)
 }
@@ -82,6 +87,7 @@ pub fn advance<E: Engine, W: World>(
 ) -> Result<Step, Memory>
     ensures steps { IfOk result (λ s. Steps (W.state world.old).truth (gift_of standing.old.given) (E.progress standing.old.run) (E.progress standing.new.run) (call_of call.now) below s) }
     ensures parts { standing.new.parts ≡ standing.old.parts }
+    ensures spare { standing.new.spare ≡ standing.old.spare }
     ensures truth { (W.state world.new).truth ≡ (W.state world.old).truth }
     ensures name { W.name world.new ≡ W.name world.old }
 {
@@ -102,6 +108,16 @@ pub fn advance<E: Engine, W: World>(
     }
 }
 
+// How many levels fewer would have done for a call of which this came.
+fn spare_in(came: &Result<Box<Outcome>, Memory>) -> u64
+    ensures { result ≡ spare_in came.now }
+{
+    match came {
+        Ok(outcome) => outcome.spare,
+        Err(_) => 0,
+    }
+}
+
 /// Takes what came of the call that it entered last. The call is done with.
 pub fn take_stream<R: Drop>(
     standing: &mut Level<R>,
@@ -110,8 +126,11 @@ pub fn take_stream<R: Drop>(
 ) -> Result<(), Memory>
     ensures streamed { OnOk result (IsStreamed standing.new.given came (streams_of standing.old.parts.items) (streams_of standing.new.parts.items)) }
     ensures run { standing.new.run ≡ standing.old.run }
+    ensures spare { standing.new.spare ≤ standing.old.spare }
+    ensures inner { standing.new.spare ≤ spare_in came }
 {
     let _ = call;
+    standing.spare = fewer(standing.spare, spare_in(&came));
     standing.given = Some(streamed(came, &mut standing.parts)?);
     Ok(())
 }
@@ -119,12 +138,16 @@ pub fn take_stream<R: Drop>(
 /// Takes what came of the global that it needed last.
 pub fn take_global<R: Drop>(
     standing: &mut Level<R>,
-    came: Result<Box<Entered>, Memory>,
+    came: Result<Box<Referred>, Memory>,
 ) -> Result<(), Memory>
     ensures taken { OnOk result (IsTaken standing.new.given came) }
     ensures run { standing.new.run ≡ standing.old.run }
     ensures parts { standing.new.parts ≡ standing.old.parts }
+    ensures spare { standing.new.spare ≤ standing.old.spare }
+    ensures inner { OnOk result (standing.new.spare ≤ spare_of came) }
 {
-    standing.given = Some(Box::into_inner(came?));
+    let Referred { entered, spare } = Box::into_inner(came?);
+    standing.spare = fewer(standing.spare, spare);
+    standing.given = Some(entered);
     Ok(())
 }

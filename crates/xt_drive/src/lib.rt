@@ -13,6 +13,7 @@ mod calls;
 mod drive;
 mod globals;
 mod level;
+mod memo;
 mod outcome;
 mod whole;
 

@@ -1,14 +1,16 @@
 // What comes of calls.
-ghost use Rattle.std.specs.Prelude.{◌≡◌, IfOk, Some, length};
+ghost use Rattle.std.specs.Prelude.{◌≡◌, ◌≤◌, ◌-◌, IfOk, Some, length, map};
 ghost use Rattle.spec_stylesheet.specs.Place as places;
 ghost use Rattle.spec_meaning.specs.Stream as stream;
 ghost use Rattle.spec_run.specs.Meaning.{held_by, refused_deep};
 ghost use Rattle.xp_syntax.specs.PartView.{place_of};
 ghost use Rattle.xt_tree.specs.StreamView.{stream_of, streams_of};
 ghost use Rattle.xt_run.specs.Advances.{ending_of as ending_with, ran_of};
-ghost use Rattle.xt_drive.specs.View.{ending_of, outcome_of, supplied_of, Gives, IsRefused, IsHeld, IsStreamed};
+ghost use Rattle.xt_drive.specs.View.{ending_of, outcome_of, supplied_of, Gives, IsRefused, IsStreamed};
+ghost use Rattle.xt_drive.specs.Referring.{entry_of, entries_of, Evaluates};
 
 use crate::globals::Evaluation;
+use crate::memo::{Memo, Referred, put_back, remember};
 use spec_expression::DynCode;
 use std::alloc::Global;
 use std::rc::Rc;
@@ -32,6 +34,8 @@ pub enum Ending {
 pub struct Outcome {
     pub content: Rc<Items>,
     pub ending: Ending,
+    /// It comes to the same with so many levels fewer, where it is not refused.
+    pub spare: u64,
 }
 
 /// What a global holds, or why it holds nothing, with what was written until then.
@@ -50,23 +54,60 @@ pub fn too_deep(alloc: Global, call: &Call) -> Result<Box<Outcome>, Memory>
         code: DynCode::TooDeep,
         place: copy_place(alloc, &call.by)?,
     });
-    Ok(Box::new(alloc, Outcome { content, ending })?)
+    on_heap(alloc, content, ending, 0)
 }
 
-/// What comes of a run that is done, with these streams in its holes.
-pub fn done(alloc: Global, ran: Box<Ran>, parts: &[Rc<Items>]) -> Result<Box<Outcome>, Memory>
+// What a call comes to, on the heap.
+fn on_heap(
+    alloc: Global,
+    content: Rc<Items>,
+    ending: Ending,
+    spare: u64,
+) -> Result<Box<Outcome>, Memory>
+    ensures { IfOk result (λ o. o.value ≡ record { content = content; ending = ending; spare = spare }) }
+{
+    Ok(Box::new(
+        alloc,
+        Outcome {
+            content,
+            ending,
+            spare,
+        },
+    )?)
+}
+
+/// The smaller of two numbers.
+pub fn fewer(one: u64, other: u64) -> u64
+    ensures one { result ≤ one }
+    ensures other { result ≤ other }
+{
+    if one < other { one } else { other }
+}
+
+/// What comes of a run that is done, with these streams in its holes. There were so many levels below its own, and so
+/// many could be spared of them.
+pub fn done(
+    alloc: Global,
+    ran: Box<Ran>,
+    parts: &[Rc<Items>],
+    below: u64,
+    spare: u64,
+) -> Result<Box<Outcome>, Memory>
     requires { stream.holes (ran_of ran.value).content ≡ length parts.now }
-    ensures { IfOk result (λ o. outcome_of o.value ≡ record { content = stream.filled (ran_of ran.value).content (streams_of parts.now); ending = (ran_of ran.value).ending }) }
+    ensures spare { IfOk result (λ o. o.value.spare ≤ spare) }
+    ensures height { IfOk result (λ o. o.value.spare ≤ below - (ran_of ran.value).height) }
+    ensures outcome { IfOk result (λ o. outcome_of o.value ≡ record { content = stream.filled (ran_of ran.value).content (streams_of parts.now); ending = (ran_of ran.value).ending }) }
 {
     let Ran {
         stream,
         value,
         events: _,
-        height: _,
+        height,
     } = Box::into_inner(ran);
     let content = stream.fill(alloc, parts)?;
     let ending = end_with(value);
-    Ok(Box::new(alloc, Outcome { content, ending })?)
+    let spare = fewer(spare, below.saturating_sub(height));
+    on_heap(alloc, content, ending, spare)
 }
 
 // How a run ends with this value.
@@ -87,7 +128,7 @@ pub fn refused(alloc: Global, fault: Box<RunFault>) -> Result<Box<Outcome>, Memo
         RunFault::Memory => Err(Memory),
         RunFault::Refused(why, content) => {
             let ending = Ending::Halted(why);
-            Ok(Box::new(alloc, Outcome { content, ending })?)
+            on_heap(alloc, content, ending, 0)
         }
     }
 }
@@ -99,7 +140,11 @@ pub fn streamed(
 ) -> Result<Entered, Memory>
     ensures { IfOk result (λ e. IsStreamed (Some e) came (streams_of parts.old.items) (streams_of parts.new.items)) }
 {
-    let Outcome { content, ending } = Box::into_inner(came?);
+    let Outcome {
+        content,
+        ending,
+        spare: _,
+    } = Box::into_inner(came?);
     parts.push(content.clone()?)?;
     match ending {
         Ending::Finished => Ok(Entered::Stream(content)),
@@ -108,13 +153,24 @@ pub fn streamed(
     }
 }
 
+// What a call writes, shared.
+fn content_of(outcome: &Outcome) -> Result<Rc<Items>, Memory>
+    ensures { IfOk result (λ c. stream_of c.value ≡ (outcome_of outcome.now).content) }
+{
+    Ok(outcome.content.clone()?)
+}
+
 /// What a global holds of which this came.
 #[tactic(auto, using(crate::proofs::NoHoles::quiet_whole))]
 pub fn as_held(alloc: Global, outcome: Outcome) -> Result<Held, Memory>
     requires { stream.holes (outcome_of outcome).content ≡ 0 }
     ensures { IfOk result (λ h. supplied_of h ≡ held_by (outcome_of outcome)) }
 {
-    let Outcome { content, ending } = outcome;
+    let Outcome {
+        content,
+        ending,
+        spare: _,
+    } = outcome;
     match ending {
         Ending::Finished => {
             let quiet = quiet(alloc, &content)?;
@@ -125,18 +181,34 @@ pub fn as_held(alloc: Global, outcome: Outcome) -> Result<Held, Memory>
     }
 }
 
-/// What a run is given for a global of which this came. Its evaluation is done with.
+/// What a run is given for a global of which this came, with so many levels. Its evaluation is done with, what was set
+/// aside for it is there again, and its value is remembered.
 pub fn evaluated(
     alloc: Global,
+    memo: &mut Memo,
     came: Result<Box<Outcome>, Memory>,
     evaluation: Box<Evaluation>,
-) -> Result<Box<Entered>, Memory>
+    levels: u64,
+) -> Result<Box<Referred>, Memory>
     requires { IfOk came (λ o. stream.holes (outcome_of o.value).content ≡ 0) }
-    ensures { IfOk result (λ e. IsHeld e.value came) }
+    ensures { IfOk result (λ r. Evaluates r.value came evaluation.value.name evaluation.value.element levels (map entry_of evaluation.value.aside.items) (entries_of memo.old) (entries_of memo.new)) }
 {
-    let _ = evaluation;
-    let held = as_held(alloc, Box::into_inner(came?))?;
-    Ok(Box::new(alloc, entered(held))?)
+    let Evaluation {
+        name,
+        element,
+        under_way: _,
+        call: _,
+        aside,
+    } = Box::into_inner(evaluation);
+    let outcome = Box::into_inner(came?);
+    let spare = outcome.spare;
+    let content = content_of(&outcome)?;
+    let held = as_held(alloc, outcome)?;
+    put_back(memo, aside)?;
+    let needed = levels.saturating_sub(spare);
+    remember(alloc, memo, name, element, needed, content, &held)?;
+    let entered = entered(held);
+    Ok(Box::new(alloc, Referred { entered, spare })?)
 }
 
 // What a run is given for a global that holds this.

@@ -4,15 +4,19 @@ ghost use Rattle.std.specs.Option.{option_map};
 ghost use Rattle.spec_meaning.specs.Stream as stream;
 ghost use Rattle.spec_result.specs.Recovery.{messages_of};
 ghost use Rattle.spec_run.specs.Meaning as meant;
-ghost use Rattle.spec_run.specs.Meaning.{held_by, levels_of_a_run, refusal_of, run_of};
+ghost use Rattle.spec_run.specs.Meaning.{going_into, levels_of_a_run, refusal_of, run_of};
 ghost use Rattle.xt_tree.specs.StreamView.{stream_of};
 ghost use Rattle.xt_tree.specs.ValueView.{value_of};
-ghost use Rattle.xt_run.specs.View.{refused_of};
-ghost use Rattle.xt_drive.specs.View.{held_of, ending_of, outcome_of, meant_at_turn, setting_in, supplied_of, whole_of, IsTurn, IsFinished};
+ghost use Rattle.xt_run.specs.View.{named_of, refused_of};
+ghost use Rattle.xt_drive.specs.View.{held_of, ending_of, outcome_of, past_of, setting_in, setting_of, whole_of, IsFinished};
+ghost use Rattle.xt_drive.specs.Remembered.{Remembers};
+ghost use Rattle.xt_drive.specs.Referring.{entries_of};
+ghost use Rattle.xt_drive.specs.Turning.{Turns, TurnsAs};
 
 use crate::calls::{global_call, nowhere, root_call};
 use crate::drive::means;
 use crate::globals::{Globals, HeldGlobal, with_name};
+use crate::memo::{Memo, Turned, forget, nothing_remembered, recall_turn};
 use crate::outcome::{Ending, Held, Outcome, as_held};
 use std::alloc::Global;
 use std::rc::Rc;
@@ -52,18 +56,18 @@ fn add_messages(alloc: Global, told: &mut Vec<Text>, content: &Items) -> Result<
     Ok(())
 }
 
-// The turn of a global: what it holds. Its messages come after those that were told.
-fn turn<E: Engine, W: World>(
+// What a global comes to at its turn, where it is evaluated then.
+fn evaluated_at_turn<E: Engine, W: World>(
     alloc: Global,
     engine: &mut E,
     world: &mut W,
     globals: &Globals,
+    memo: &mut Memo,
     global: &NamedGlobal,
     levels: u64,
-    told: &mut Vec<Text>,
-) -> Result<Held, Memory>
-    ensures held { IfOk result (λ h. supplied_of h ≡ held_by (meant_at_turn (W.state world.old).truth globals.now global.now levels)) }
-    ensures told { OnOk result (told.new.items ≡ told.old.items ++ messages_of (meant_at_turn (W.state world.old).truth globals.now global.now levels).content) }
+) -> Result<Turned, Memory>
+    requires { Remembers (setting_of (W.state world.now).truth globals.now) (going_into global.now.name (past_of globals.now)) (entries_of memo.now) }
+    ensures turns { IfOk result (λ t. Turns t (setting_of (W.state world.old).truth globals.now) (past_of globals.now) (named_of global.now) levels (entries_of memo.new)) }
     ensures truth { (W.state world.new).truth ≡ (W.state world.old).truth }
     ensures name { W.name world.new ≡ W.name world.old }
 {
@@ -76,24 +80,45 @@ fn turn<E: Engine, W: World>(
         under_way: under_way.as_slice(),
     };
     let call = global_call(globals.root, global.element, nowhere(alloc));
-    let came = means(alloc, engine, world, &inner, &call, levels);
-    at_turn(alloc, told, came, call)
+    let came = means(alloc, engine, world, &inner, memo, &call, levels);
+    at_turn(alloc, came, call)
 }
 
-// What a global holds of which this came. Its messages come after those that were told. Its call is done with.
-fn at_turn(
-    alloc: Global,
-    told: &mut Vec<Text>,
-    came: Result<Box<Outcome>, Memory>,
-    call: Call,
-) -> Result<Held, Memory>
+// What a global comes to of which this came at its turn. Its call is done with.
+fn at_turn(alloc: Global, came: Result<Box<Outcome>, Memory>, call: Call) -> Result<Turned, Memory>
     requires { IfOk came (λ o. stream.holes (outcome_of o.value).content ≡ 0) }
-    ensures { IfOk result (λ h. IsTurn h came told.old.items told.new.items) }
+    ensures { IfOk result (λ t. TurnsAs t came) }
 {
     let _ = call;
     let outcome = Box::into_inner(came?);
-    add_messages(alloc, told, &outcome.content)?;
-    as_held(alloc, outcome)
+    let content = outcome.content.clone()?;
+    let held = as_held(alloc, outcome)?;
+    Ok(Turned { held, content })
+}
+
+// The turn of a global: what it comes to. It is evaluated where it is not remembered with the levels that it takes.
+fn turn<E: Engine, W: World>(
+    alloc: Global,
+    engine: &mut E,
+    world: &mut W,
+    globals: &Globals,
+    memo: &mut Memo,
+    global: &NamedGlobal,
+    levels: u64,
+) -> Result<Turned, Memory>
+    requires { Remembers (setting_of (W.state world.now).truth globals.now) (past_of globals.now) (entries_of memo.now) }
+    ensures turns { IfOk result (λ t. Turns t (setting_of (W.state world.old).truth globals.now) (past_of globals.now) (named_of global.now) levels (entries_of memo.new)) }
+    ensures truth { (W.state world.new).truth ≡ (W.state world.old).truth }
+    ensures name { W.name world.new ≡ W.name world.old }
+{
+    let known = recall_turn(alloc, memo.entries.as_slice(), global, levels)?;
+    match known {
+        Some(turned) => Ok(turned),
+        None => {
+            forget(alloc, memo, &global.name);
+            evaluated_at_turn(alloc, engine, world, globals, memo, global, levels)
+        }
+    }
 }
 
 // Why a call is refused, if it is.
@@ -117,7 +142,11 @@ fn finished(
     ensures { IfOk result (λ w. IsFinished w told.items came) }
 {
     let _ = call;
-    let Outcome { content, ending } = Box::into_inner(came?);
+    let Outcome {
+        content,
+        ending,
+        spare: _,
+    } = Box::into_inner(came?);
     add_messages(alloc, &mut told, &content)?;
     Ok(Whole {
         content,
@@ -164,6 +193,7 @@ fn run_in<E: Engine, W: World>(
     let none: Vec<Expanded> = Vec::new(alloc);
     let mut values: Vec<HeldGlobal> = Vec::new(alloc);
     let mut told: Vec<Text> = Vec::new(alloc);
+    let mut memo = nothing_remembered(alloc);
     for global in named {
         let globals = Globals {
             root,
@@ -171,7 +201,10 @@ fn run_in<E: Engine, W: World>(
             held: values.as_slice(),
             under_way: none.as_slice(),
         };
-        match turn(alloc, engine, world, &globals, global, levels, &mut told)? {
+        let turned = turn(alloc, engine, world, &globals, &mut memo, global, levels)?;
+        let Turned { held, content } = turned;
+        add_messages(alloc, &mut told, &content)?;
+        match held {
             Held::Value(value) => values.push(held_global(alloc, global, value)?)?,
             Held::Refused(why, content) => return halted(alloc, told, why, content),
         }
@@ -183,13 +216,13 @@ fn run_in<E: Engine, W: World>(
         held: values.as_slice(),
         under_way: none.as_slice(),
     };
-    let came = means(alloc, engine, world, &globals, &call, levels);
+    let came = means(alloc, engine, world, &globals, &mut memo, &call, levels);
     finished(alloc, told, came, call)
 }
 
 /// Runs a stylesheet in a world: its globals in stylesheet order, and then the rule for the root of the source
-/// (XSLT 1.0, sections 5.1 and 11.4), with 1,200 levels of contents. A global is evaluated at its turn, and before
-/// that for each reference to it; its messages stand at its turn. A refusal is no error: the run then ends there.
+/// (XSLT 1.0, sections 5.1 and 11.4), with 1,200 levels of contents. A global is evaluated once, at its turn or for
+/// the first reference to it before that; its messages stand at its turn. A refusal is no error: the run then ends there.
 ///
 /// # Errors
 /// Want of memory. What is true in the world stays in any case.

@@ -11,19 +11,22 @@ use Rattle.spec_meaning.specs.Value as value
 use Rattle.spec_meaning.specs.Context as context
 use Rattle.spec_meaning.specs.Context.{Bound}
 use Rattle.spec_meaning.specs.Question.{Question, Answer}
+use Rattle.spec_transform.specs.Sorted.{nodes_in_order}
 use Rattle.spec_run.specs.Plan.{Plan, Put, Enter}
-use Rattle.spec_run.specs.Content.{Here, applied, each, is_empty, valued, unless_passed, passed, planned, with_parameters, with_variable}
+use Rattle.spec_run.specs.Content.{Here, applied, applied_to, each, criteria_asked, rows_asked, sorted, is_empty, valued, unless_passed, passed, planned, with_parameters, with_variable}
 use Rattle.spec_run.specs.Passes.{stays}
 use Rattle.xp_syntax.specs.declared.instr.Binding.{Binding, out-Binding}
 use Rattle.xp_syntax.specs.declared.instr.Control.{the_lemmas}
 use Rattle.xp_syntax.specs.View.{expr_of}
-use Rattle.xp_syntax.specs.PartView.{place_of, site_of}
+use Rattle.xp_syntax.specs.PartView.{place_of, site_of, sort_key_of}
+use Rattle.xp_syntax.specs.declared.sort_key.SortKey.{SortKey}
 use Rattle.xp_syntax.specs.InstrView.{instr_of, binding_of}
 use Rattle.xt_tree.specs.declared.node_ref.NodeRef.{NodeRef}
 use Rattle.xt_ask.specs.View.{bindings_of}
 use Rattle.xt_run.specs.declared.call.Call.{Call}
 use Rattle.xt_run.specs.View.{call_of}
 use Rattle.xt_going.specs.View.{going_of}
+use Rattle.xt_frames.specs.declared.standing.Standing.{Standing}
 use Rattle.xt_frames.specs.declared.frame.Application.{Application}
 use Rattle.xt_frames.specs.declared.frame.Passing.{Passing}
 use Rattle.xt_frames.specs.declared.frame.Passing.TheVariants as passings
@@ -131,15 +134,36 @@ argument_next x a b name h after is_name is_here past =
 pub want_does : (ask : Question NodeRef → Answer NodeRef) (p : Plan NodeRef) (k : ℕ) (r : Run) (call : Call) (depth : ℕ) → p ≡ Enter (call_of call) depth (left_in r) → Steps ask p k r r (Want call depth)
 want_does ask p k r call depth e = steps_as {new = r} (sym e) (record { so = stays; room = refl; supplies = refl })
 
+-- ---- Sorting
+
+-- what nodes are sorted for that have a key: how the keys compare, and then the keys, node by node
+abbrev pub keys_planned : List made.SortKey → Here NodeRef → List NodeRef → (List NodeRef → Plan NodeRef) → Plan NodeRef
+keys_planned keys h ns k =
+    criteria_asked keys h [] (λ criteria. rows_asked keys criteria (length ns) h 1 ns [] (λ rows. Put Ended (k (nodes_in_order criteria rows))))
+
+pub sorted_by : (keys : List SortKey) (h : Here NodeRef) (ns : List NodeRef) (k : List NodeRef → Plan NodeRef) → 0 < length keys → keys_planned (map sort_key_of keys) h ns k ≡ sorted (map sort_key_of keys) h ns k
+sorted_by [] h ns k lt = absurd (omega (arith, lt))
+sorted_by (key ∷ more) h ns k lt = refl
+
+pub sorted_by_none : (keys : List SortKey) (h : Here NodeRef) (ns : List NodeRef) (k : List NodeRef → Plan NodeRef) → length keys ≡ 0 → k ns ≡ sorted (map sort_key_of keys) h ns k
+sorted_by_none [] h ns k none = refl
+sorted_by_none (key ∷ more) h ns k none = absurd (omega (arith, none))
+
 -- ---- Copies of what parameters are passed to
 
-pub same_application : (a b : Application) → place_of b.place ≡ place_of a.place → b.mode ≡ a.mode → b.nodes.items ≡ a.nodes.items → b.next ≡ a.next → b.depth ≡ a.depth → SameApplication a b
-same_application a b place mode nodes next depth =
-    record { same = λ parameters after i. each (applied (place i) (mode i) parameters (length (nodes i)) (depth i)) (suc (next i)) (drop (next i) (nodes i)) after }
-
 pub same_rules : (p : Passing) (a b : Application) → p ≡ passings.Rules a → SameApplication a b → SamePassing p (passings.Rules b)
-same_rules p a b is_rules same =
-    record { same = λ parameters after. same.same parameters after ∙ ap (λ q. passed_to q parameters after) (sym is_rules) }
+same_rules p a b is_rules same = record {
+  same = λ parameters after.
+      (λ i. each (applied (same.place i) (same.mode i) parameters (length (same.nodes i)) (same.depth i)) (suc (same.next i)) (drop (same.next i) (same.nodes i)) after)
+      ∙ ap (λ q. passed_to q parameters after) (sym is_rules);
+}
+
+pub same_sorted : (p : Passing) (keys more : Rc (Vec SortKey Global) Global) (here there : Standing) (a b : Application) → p ≡ passings.Sorted keys here a → more.value ≡ keys.value → here_of there ≡ here_of here → SameApplication a b → SamePassing p (passings.Sorted more there b)
+same_sorted p keys more here there a b is_sorted same_keys same_here same = record {
+  same = λ parameters after.
+      (λ i. sorted (map sort_key_of (same_keys i).items) (same_here i) (same.nodes i) (λ ns. applied_to (same.place i) (same.mode i) parameters (same.depth i) ns after))
+      ∙ ap (λ q. passed_to q parameters after) (sym is_sorted);
+}
 
 pub same_template : (p : Passing) (c d : Call) (depth : ℕ) → p ≡ passings.Template c depth → call_of d ≡ call_of c → SamePassing p (passings.Template d depth)
 same_template p c d depth is_template same =

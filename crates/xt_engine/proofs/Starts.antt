@@ -1,7 +1,8 @@
 -- What is left of instantiations that begin.
-use Rattle.std.proofs.Common.{◌≡◌, ℕ, suc, ◌<◌, ◌≤◌, List, [], length, Option, None, Some, Vec, Global, refl, sym, ap, ◌∙◌, subst, arith}
+use Rattle.std.proofs.Common.{◌≡◌, ℕ, suc, ◌<◌, ◌≤◌, List, [], length, drop, Option, None, Some, Vec, Global, refl, sym, ap, ◌∙◌, subst, arith}
 use Rattle.std.proofs.Common.{Bool, true, false}
 use Rattle.std.specs.Prelude.{if◌then◌else◌}
+use Rattle.std.specs.List.{flat_map}
 use Rattle.std.specs.declared.rc.Rc.{Rc}
 use Rattle.spec_document.specs.declared.axis.Axis.TheVariants as axis
 use Rattle.spec_document.specs.declared.kind.Kind.{Kind}
@@ -10,6 +11,7 @@ use Rattle.spec_document.specs.Name.{Expanded}
 use Rattle.spec_expression.specs.declared.NodeType.TheVariants as type
 use Rattle.spec_expression.specs.Syntax.{OfType}
 use Rattle.spec_stylesheet.specs.Place as places
+use Rattle.spec_stylesheet.specs.Instruction.{Instrs}
 use Rattle.spec_stylesheet.specs.Sheet as sheet
 use Rattle.spec_meaning.specs.Context.{Bound}
 use Rattle.spec_meaning.specs.Question as question
@@ -17,9 +19,10 @@ use Rattle.spec_meaning.specs.Question.{Question, Answer, nodes_in, text_in}
 use Rattle.spec_run.specs.Plan as plan
 use Rattle.spec_run.specs.Plan.{Plan, End, Yield, Put, Inquire}
 use Rattle.spec_run.specs.Going.{Asked, noted, put}
-use Rattle.spec_run.specs.Content.{built_in, children_applied, text_put, text_item, applied_to, kind_in, Here, unit_planned, global_planned, may_be_given, held, unless_given}
+use Rattle.spec_run.specs.Content.{built_in, children_applied, text_put, text_item, applied_to, kind_in, Here, elements_named, sets_entered, sets_used, planned, unit_planned, global_planned, may_be_given, held, unless_given}
 use Rattle.spec_run.specs.Passes.{Passes, asks, puts, stays}
 use Rattle.xp_syntax.specs.PartView.{place_of}
+use Rattle.xp_axes.specs.View.{same_ref}
 use Rattle.xt_base.specs.declared.place.Place.{Place}
 use Rattle.xt_tree.specs.declared.node_ref.NodeRef.{NodeRef}
 use Rattle.xt_tree.specs.declared.value.Value.{Value}
@@ -31,12 +34,14 @@ use Rattle.xt_ask.specs.declared.context.Bindings as bindings
 use Rattle.xt_ask.specs.View.{answer_of}
 use Rattle.xt_going.specs.View.{going_of}
 use Rattle.xt_frames.specs.declared.frame.Application.{Application}
+use Rattle.xt_frames.specs.declared.frame.Body.{Body}
+use Rattle.xt_frames.specs.declared.frame.Sets.{Sets}
 use Rattle.xt_frames.specs.declared.frame.Frame.{Frame}
 use Rattle.xt_frames.specs.declared.frame.Frame.TheVariants as frames
 use Rattle.xt_frames.specs.declared.run.Run.{Run}
 use Rattle.xt_frames.specs.declared.run.Next.{Next}
 use Rattle.xt_frames.specs.declared.run.Next.TheVariants.{Went, Gave}
-use Rattle.xt_frames.specs.View.{left_frame, left_over}
+use Rattle.xt_frames.specs.View.{here_of, rest_of, left_frame, left_over}
 use Rattle.xt_frames.specs.Left.{left_in, hand, steps, Comes, Does, Pushed}
 use Rattle.xt_frames.proofs.Lefts.{pushed, one_more, steps_at, passes_at, comes_after}
 use Rattle.xt_frames.proofs.Performs.{goes}
@@ -66,7 +71,7 @@ nothing_does ask p k low lt e none =
     record { so = (passes_at left refl stays, omega (arith, s, n, lt)); room = refl; supplies = refl }
 
 -- the first frame
-pub one_left : (ask : Question NodeRef → Answer NodeRef) (p : Plan NodeRef) (f : Frame) (old new : Run) → old.frames.items ≡ [] → Pushed f old new → left_frame f End ≡ p → Does ask p 2 old new Went
+pub one_left : (ask : Question NodeRef → Answer NodeRef) (p : Plan NodeRef) (f : Frame) (old new : Run) → old.frames.items ≡ [] → Pushed f old new → left_frame f End ≡ p → Does ask p 3 old new Went
 one_left ask p f old new none push e =
     let left : left_in new ≡ p = pushed old new f push.frames ∙ ap (λ fs. left_frame f (left_over fs End)) none ∙ e in
     let going = ap going_of push.going in
@@ -75,10 +80,28 @@ one_left ask p f old new none push e =
     let s = steps_at ask old new push.room push.supplies left going in
     record { so = (passes_at left going stays, omega (arith, s, n, m)); room = push.room; supplies = push.supplies }
 
+-- the first two, of which the second goes first
+pub two_left : (ask : Question NodeRef → Answer NodeRef) (p : Plan NodeRef) (e f : Frame) (old mid new : Run) → old.frames.items ≡ [] → Pushed e old mid → Pushed f mid new → left_frame f (left_frame e End) ≡ p → Does ask p 3 old new Went
+two_left ask p e f old mid new none first second is =
+    let left : left_in new ≡ p = pushed mid new f second.frames ∙ ap (left_frame f) (pushed old mid e first.frames) ∙ ap (λ fs. left_frame f (left_frame e (left_over fs End))) none ∙ is in
+    let going = ap going_of (second.going ∙ first.going) in
+    let n = one_more old.frames.items mid.frames.items e first.frames in
+    let m = one_more mid.frames.items new.frames.items f second.frames in
+    let z : length old.frames.items ≡ length {A = Frame} [] = ap length none in
+    let s = steps_at ask old new (second.room ∙ first.room) (second.supplies ∙ first.supplies) left going in
+    record { so = (passes_at left going stays, omega (arith, s, n, m, z)); room = second.room ∙ first.room; supplies = second.supplies ∙ first.supplies }
+
+-- ---- Attribute sets
+
+-- those that a set uses, and then its own attributes
+pub set_left : (used : Sets) (body : Body) (place : places.Place) (h : Here NodeRef) (names : List Expanded) (is : Instrs) → place_of used.place ≡ place → here_of used.here ≡ h → used.next ≡ 0 → used.elements.items ≡ flat_map (elements_named h.sets) names → rest_of body body.next ≡ is → here_of body.here ≡ h
+    → left_frame (frames.Sets used) (left_frame (frames.Body body) End) ≡ sets_used place h names (planned is h End)
+set_left used body place h names is at_place here next elements rest own = λ i. sets_entered (at_place i) (here i) (drop (next i) (elements i)) (planned (rest i) (own i) End)
+
 -- ---- Units
 
 -- what has no unit plans nothing
-pub no_unit : (n : NodeRef) (given : List (Bound NodeRef)) (a : code.Answer) → ((u : Rc ResolvedUnit Global) → a ≡ answers.Resolved u → ⊥) → unit_planned n given (answer_of a) ≡ End
+pub no_unit : (n : NodeRef) (given : List (Bound NodeRef)) (a : code.Answer) → ((u : Rc ResolvedUnit Global) → a ≡ answers.Resolved u → ⊥) → unit_planned same_ref n given (answer_of a) ≡ End
 no_unit n given answers.Gone f = refl
 no_unit n given (answers.Refused why) f = refl
 no_unit n given (answers.Nodes ns) f = refl

@@ -6,6 +6,7 @@ use Rattle.spec_meaning.specs.Context.{Bound}
 use Rattle.spec_meaning.specs.Context as context
 use Rattle.spec_run.specs.Plan.{Plan}
 use Rattle.spec_run.specs.Content.{Here, is_empty, valued, unless_passed}
+use Rattle.xp_syntax.specs.PartView.{place_of}
 use Rattle.xt_tree.specs.declared.node_ref.NodeRef.{NodeRef}
 use Rattle.xt_ask.specs.View.{bindings_of}
 use Rattle.xt_frames.specs.declared.frame.Application.{Application}
@@ -13,7 +14,7 @@ use Rattle.xt_frames.specs.declared.frame.Passing.{Passing}
 use Rattle.xt_frames.specs.declared.frame.Arguments.{Arguments}
 use Rattle.xt_frames.specs.declared.frame.Parameters.{Parameters}
 use Rattle.xt_frames.specs.declared.frame.Holder.TheVariants as holders
-use Rattle.xt_frames.specs.View.{here_of, inside, application_left, passed_to, left_with}
+use Rattle.xt_frames.specs.View.{here_of, inside, passed_to, left_with}
 
 -- what an element holds that stands here, and then
 abbrev pub valued_by : Binding → Here NodeRef → (Value NodeRef → Plan NodeRef) → Plan NodeRef
@@ -39,9 +40,13 @@ abbrev pub parameter_planned : Binding → Parameters → Plan NodeRef → Plan 
 parameter_planned b p after =
     unless_passed (context.binding_of b.name (bindings_of p.given)) (valued_by b (here_of p.here) (with_parameter b p after)) (with_parameter b p after)
 
--- the same application, whatever is passed
+-- the same application, but for what is passed
 pub record SameApplication (a b : Application) : Type 0 where
-  pub same : (parameters : List (Bound NodeRef)) (after : Plan NodeRef) → application_left b parameters after ≡ application_left a parameters after
+  pub place : place_of b.place ≡ place_of a.place
+  pub mode : b.mode ≡ a.mode
+  pub nodes : b.nodes.items ≡ a.nodes.items
+  pub next : b.next ≡ a.next
+  pub depth : b.depth ≡ a.depth
 
 pub record SamePassing (p q : Passing) : Type 0 where
   pub same : (parameters : List (Bound NodeRef)) (after : Plan NodeRef) → passed_to q parameters after ≡ passed_to p parameters after

@@ -11,7 +11,7 @@ ghost use Rattle.xt_frames.specs.Left.{StepsFrom};
 
 use spec_expression::DynCode;
 use std::alloc::Global;
-use xt_ask::{Candidates, Focus, Question, World, copy_name_if, copy_place};
+use xt_ask::{Candidates, Question, World, copy_name_if, copy_place};
 use xt_base::Place;
 use xt_frames::{
     Application, Body, Copies, Frame, Loop, Next, Run, Standing, go_into, push, share_content, want,
@@ -77,18 +77,8 @@ fn item_of(left: &Loop) -> Result<Standing, Memory>
     ensures { IfOk result (λ h. (n : NodeRef) → here_of h ≡ at (get_or left.now.nodes.items left.now.next n) (suc left.now.next) (length left.now.nodes.items) (here_of left.now.here)) }
 {
     let nodes = left.nodes.as_slice();
-    let shared = left.here.share()?;
-    Ok(Standing {
-        focus: Focus {
-            node: nodes[left.next],
-            position: Some(left.next as u64 + 1),
-            size: Some(nodes.len() as u64),
-        },
-        bindings: shared.bindings,
-        depth: shared.depth,
-        ruled: false,
-        unit: shared.unit,
-    })
+    let position = left.next as u64 + 1;
+    left.here.at(nodes[left.next], position, nodes.len() as u64)
 }
 
 /// Goes on with nodes whose template rules are entered.

@@ -12,6 +12,7 @@ ghost use Rattle.xt_tree.specs.declared.node_ref.NodeRef.{NodeRef};
 ghost use Rattle.xt_tree.specs.ValueView.{value_of};
 ghost use Rattle.xt_ask.specs.View.{bindings_of};
 ghost use Rattle.xt_frames.specs.declared.frame.Frame.TheVariants as Frame;
+ghost use Rattle.xt_frames.specs.declared.frame.Passing.TheVariants as Passing;
 ghost use Rattle.xt_frames.specs.View.{here_of, passed_to, left_with, global_left};
 ghost use Rattle.xt_frames.specs.Left.{left_in, Does, Performs, Steps, StepsFrom};
 ghost use Rattle.xt_engine.specs.Start.{declared_in};
@@ -20,12 +21,14 @@ ghost use Rattle.xt_engine.specs.Parameter.{argument_planned, parameter_planned,
 use crate::frames::{go_on_application, go_on_body};
 use crate::start::leave_nothing;
 use std::alloc::Global;
-use xp_syntax::{Binding, Declared, Expr, Site};
+use std::rc::Rc;
+use xp_syntax::{Binding, Declared, Expr, Site, SortKey};
 use xt_ask::{Bindings, World, copy_name, copy_name_if, copy_place};
 use xt_frames::{
-    Application, Arguments, Body, Came, Frame, Holder, Next, Parameters, Passing, Run, Standing,
-    hold, holding, lack, push, share_bindings, share_content, value,
+    Application, Arguments, Body, Came, Frame, Holder, Next, Ordered, Parameters, Passing, Run,
+    Standing, hold, holding, lack, push, share_bindings, share_content, share_keys, value,
 };
+use xt_perform::{go_on_sorting, unsorted};
 use xt_run::Call;
 use xt_text::{Memory, Text};
 use xt_tree::Value;
@@ -148,15 +151,12 @@ fn pass<W: World>(
 {
     match to {
         Passing::Rules(left) => {
-            let left = Application {
-                place: left.place,
-                mode: left.mode,
-                parameters,
-                nodes: left.nodes,
-                next: left.next,
-                depth: left.depth,
-            };
+            let left = with_parameters(left, parameters);
             go_on_application(alloc, run, left, world)
+        }
+        Passing::Sorted(keys, here, left) => {
+            let left = with_parameters(left, parameters);
+            sort(alloc, run, keys, here, left, world)
         }
         Passing::Template(call, depth) => {
             let call = Call {
@@ -171,6 +171,56 @@ fn pass<W: World>(
             Ok(Next::Want(call, depth))
         }
     }
+}
+
+/// The same, with these parameters. Takes no memory.
+fn with_parameters(left: Application, parameters: Bindings) -> Application
+    ensures { result ≡ record { place = left.place; mode = left.mode; parameters = parameters; nodes = left.nodes; next = left.next; depth = left.depth } }
+{
+    Application {
+        place: left.place,
+        mode: left.mode,
+        parameters,
+        nodes: left.nodes,
+        next: left.next,
+        depth: left.depth,
+    }
+}
+
+/// Sorts the nodes whose template rules are entered then, all of them.
+fn sort<W: World>(
+    alloc: Global,
+    run: &mut Run,
+    keys: Rc<Vec<SortKey>>,
+    here: Standing,
+    left: Application,
+    world: &mut W,
+) -> Result<Next, Memory>
+    ensures does { IfOk result (Steps (W.state world.old).truth (passed_to (Passing.Sorted keys here left) (bindings_of left.parameters) (left_in run.old)) (suc (length run.old.frames.items)) run.old run.new) }
+    ensures truth { (W.state world.new).truth ≡ (W.state world.old).truth }
+    ensures name { W.name world.new ≡ W.name world.old }
+{
+    if keys.is_empty() {
+        let all = Application {
+            place: left.place,
+            mode: left.mode,
+            parameters: left.parameters,
+            nodes: left.nodes,
+            next: 0,
+            depth: left.depth,
+        };
+        return go_on_application(alloc, run, all, world);
+    }
+    let to = Application {
+        place: left.place,
+        mode: left.mode,
+        parameters: left.parameters,
+        nodes: Vec::new(alloc),
+        next: 0,
+        depth: left.depth,
+    };
+    let sorting = unsorted(alloc, keys, here, left.nodes, Ordered::Rules(to));
+    go_on_sorting(alloc, run, sorting, world)
 }
 
 /// Goes on with this parameter that is passed.
@@ -222,6 +272,11 @@ fn share_passing(alloc: Global, to: &Passing) -> Result<Passing, Memory>
 {
     match to {
         Passing::Rules(left) => Ok(Passing::Rules(copy_application(alloc, left)?)),
+        Passing::Sorted(keys, here, left) => {
+            let keys = share_keys(keys)?;
+            let here = here.share()?;
+            Ok(Passing::Sorted(keys, here, copy_application(alloc, left)?))
+        }
         Passing::Template(call, depth) => Ok(Passing::Template(call.copy(alloc)?, *depth)),
     }
 }

@@ -1,11 +1,13 @@
 // The start of an instantiation: a template with its parameters, a global, or what a built-in rule does.
-ghost use Rattle.std.specs.Prelude.{◌≡◌, [], suc, length, IfOk};
-ghost use Rattle.spec_stylesheet.specs.Sheet.{ATemplate, AGlobal};
+ghost use Rattle.std.specs.Prelude.{◌≡◌, List, [], suc, length, IfOk};
+ghost use Rattle.spec_stylesheet.specs.Sheet.{AGlobal, ASet};
+ghost use Rattle.spec_meaning.specs.Context.{Bound};
 ghost use Rattle.spec_meaning.specs.Question as question;
 ghost use Rattle.spec_run.specs.Plan as plan;
-ghost use Rattle.spec_run.specs.Content.{built_in, children_applied, text_put, declared_planned, unit_planned, global_planned, may_be_given, is_no_uri, unless_given, held, here_in};
+ghost use Rattle.spec_run.specs.Content.{built_in, children_applied, text_put, planned, with_parameters, declared_planned, unit_planned, global_planned, may_be_given, is_no_uri, unless_given, held, here_in};
 ghost use Rattle.xp_syntax.specs.PartView.{place_of};
-ghost use Rattle.xp_syntax.specs.SheetView.{template_of, global_of, declared_of};
+ghost use Rattle.xp_syntax.specs.SheetView.{attribute_set_of, template_of, global_of, declared_of};
+ghost use Rattle.xp_axes.specs.View.{same_ref};
 ghost use Rattle.xt_tree.specs.declared.node_ref.NodeRef.{NodeRef};
 ghost use Rattle.xt_ask.specs.View.{answer_of, bindings_of, resolved_of};
 ghost use Rattle.xt_frames.specs.declared.frame.Frame.TheVariants as Frame;
@@ -17,14 +19,14 @@ use spec_document::{Axis, Kind};
 use spec_expression::NodeType;
 use std::alloc::Global;
 use std::rc::Rc;
-use xp_syntax::{Declared, GlobalBinding, Template, Test};
+use xp_syntax::{AttributeSet, Declared, GlobalBinding, Template, Test, Unit};
 use xt_ask::{Answer, Bindings, Focus, Question, ResolvedUnit, World};
 use xt_base::Place;
 use xt_frames::{
-    Application, Frame, Next, Parameters, Run, Standing, push, share_bindings, share_content,
+    Application, Body, Frame, Next, Parameters, Run, Standing, push, share_bindings, share_content,
 };
 use xt_names::Expanded;
-use xt_perform::kind_in;
+use xt_perform::{kind_in, used_sets};
 use xt_run::Target;
 use xt_text::{Memory, Path, Text};
 use xt_tree::{Item, NodeRef, Value};
@@ -57,7 +59,7 @@ fn begin_unit<W: World>(
     parameters: Bindings,
     world: &mut W,
 ) -> Result<Next, Memory>
-    ensures does { IfOk result (Does (W.state world.old).truth (plan.Inquire (question.Unit element) (λ a. unit_planned node (bindings_of parameters) a)) (suc (length run.old.frames.items)) run.old run.new) }
+    ensures does { IfOk result (Does (W.state world.old).truth (plan.Inquire (question.Unit element) (λ a. unit_planned same_ref node (bindings_of parameters) a)) (suc (length run.old.frames.items)) run.old run.new) }
     ensures truth { (W.state world.new).truth ≡ (W.state world.old).truth }
     ensures name { W.name world.new ≡ W.name world.old }
 {
@@ -76,14 +78,14 @@ fn begin_answered<W: World>(
     world: &mut W,
 ) -> Result<Next, Memory>
     requires { run.old.frames.items ≡ [] }
-    ensures does { IfOk result (Does (W.state world.old).truth (unit_planned node (bindings_of parameters) (answer_of answer)) 2 run.old run.new) }
+    ensures does { IfOk result (Does (W.state world.old).truth (unit_planned same_ref node (bindings_of parameters) (answer_of answer)) 3 run.old run.new) }
     ensures truth { (W.state world.new).truth ≡ (W.state world.old).truth }
     ensures name { W.name world.new ≡ W.name world.old }
 {
     match answer {
         Answer::Resolved(unit) => {
             let here = first_of(share_unit(&unit)?, node);
-            begin_declared(alloc, run, &unit.unit.declared, here, parameters, world)
+            begin_declared(alloc, run, &unit.unit, here, parameters, world)
         }
         _ => Ok(Next::Went),
     }
@@ -99,7 +101,7 @@ fn share_unit(unit: &Rc<ResolvedUnit>) -> Result<Rc<ResolvedUnit>, Memory>
 /// Where a unit stands at the level of its instantiation for this node: there its template rule is the current one.
 /// Takes no memory.
 fn first_of(unit: Rc<ResolvedUnit>, node: NodeRef) -> Standing
-    ensures here { here_of result ≡ here_in node (resolved_of unit.value) }
+    ensures here { here_of result ≡ here_in same_ref node (resolved_of unit.value) }
     ensures unit { result.unit ≡ unit }
 {
     Standing {
@@ -115,27 +117,49 @@ fn first_of(unit: Rc<ResolvedUnit>, node: NodeRef) -> Standing
     }
 }
 
-/// Begins what is declared, which stands here.
+/// Begins what a unit declares, which stands here.
 fn begin_declared<W: World>(
     alloc: Global,
     run: &mut Run,
-    declared: &Declared,
+    unit: &Unit,
     here: Standing,
     parameters: Bindings,
     world: &mut W,
 ) -> Result<Next, Memory>
     requires none { run.old.frames.items ≡ [] }
-    requires stands { declared_in here ≡ declared_of declared.now }
-    ensures does { IfOk result (Does (W.state world.old).truth (declared_planned (declared_of declared.now) (bindings_of parameters) (here_of here)) 2 run.old run.new) }
+    requires stands { declared_in here ≡ declared_of unit.now.declared }
+    ensures does { IfOk result (Does (W.state world.old).truth (declared_planned (place_of unit.now.site.place) (declared_of unit.now.declared) (bindings_of parameters) (here_of here)) 3 run.old run.new) }
     ensures truth { (W.state world.new).truth ≡ (W.state world.old).truth }
     ensures name { W.name world.new ≡ W.name world.old }
 {
-    match declared {
+    match &unit.declared {
         Declared::Template(template) => begin_template(run, template, here, parameters),
         Declared::Global(global) => begin_global(alloc, run, global, here, world),
-        Declared::AttributeSet(_) => Ok(Next::Went),
+        Declared::AttributeSet(set) => begin_set(alloc, run, &unit.site.place, set, here),
         Declared::Key(_) => Ok(Next::Went),
     }
+}
+
+/// Begins an attribute set: those that it uses come before its own attributes (XSLT 1.0, section 7.1.4).
+fn begin_set(
+    alloc: Global,
+    run: &mut Run,
+    place: &Place,
+    set: &AttributeSet,
+    here: Standing,
+) -> Result<Next, Memory>
+    requires { run.old.frames.items ≡ [] }
+    ensures { IfOk result (λ next. (given : List (Bound NodeRef)) → (ask : question.Question NodeRef → question.Answer NodeRef) → Does ask (declared_planned (place_of place.now) (ASet (attribute_set_of set.now)) given (here_of here)) 3 run.old run.new next) }
+{
+    let used = used_sets(alloc, place, set.sets.as_slice(), &here)?;
+    let body = Body {
+        content: share_content(&set.attributes)?,
+        next: 0,
+        here,
+    };
+    push(run, Frame::Body(body))?;
+    push(run, Frame::Sets(used))?;
+    Ok(Next::Went)
 }
 
 /// Begins a template, by its parameters.
@@ -146,7 +170,7 @@ fn begin_template(
     parameters: Bindings,
 ) -> Result<Next, Memory>
     requires { run.old.frames.items ≡ [] }
-    ensures { IfOk result (λ next. (ask : question.Question NodeRef → question.Answer NodeRef) → Does ask (declared_planned (ATemplate (template_of template.now)) (bindings_of parameters) (here_of here)) 2 run.old run.new next) }
+    ensures { IfOk result (λ next. (ask : question.Question NodeRef → question.Answer NodeRef) → Does ask (with_parameters (template_of template.now).parameters (bindings_of parameters) (here_of here) (λ inner. planned (template_of template.now).content inner plan.End)) 3 run.old run.new next) }
 {
     let left = Parameters {
         bindings: share_bindings(&template.parameters)?,
@@ -169,7 +193,7 @@ fn begin_global<W: World>(
 ) -> Result<Next, Memory>
     requires none { run.old.frames.items ≡ [] }
     requires stands { declared_in here ≡ AGlobal (global_of global.now) }
-    ensures does { IfOk result (Does (W.state world.old).truth (global_planned (global_of global.now) (here_of here)) 2 run.old run.new) }
+    ensures does { IfOk result (Does (W.state world.old).truth (global_planned (global_of global.now) (here_of here)) 3 run.old run.new) }
     ensures truth { (W.state world.new).truth ≡ (W.state world.old).truth }
     ensures name { W.name world.new ≡ W.name world.old }
 {
@@ -203,7 +227,7 @@ fn begin_parameter<W: World>(
 ) -> Result<Next, Memory>
     requires none { run.old.frames.items ≡ [] }
     requires stands { declared_in here ≡ AGlobal (global_of global.now) }
-    ensures does { IfOk result (Does (W.state world.old).truth (plan.Inquire (question.External (global_of global.now).binding.name.local) (λ a. unless_given a (held (global_of global.now).binding (here_of here)))) 2 run.old run.new) }
+    ensures does { IfOk result (Does (W.state world.old).truth (plan.Inquire (question.External (global_of global.now).binding.name.local) (λ a. unless_given a (held (global_of global.now).binding (here_of here)))) 3 run.old run.new) }
     ensures truth { (W.state world.new).truth ≡ (W.state world.old).truth }
     ensures name { W.name world.new ≡ W.name world.old }
 {
@@ -229,7 +253,7 @@ fn text_given(answer: Answer) -> Option<Text>
 /// where it lacks another global.
 fn begin_own(run: &mut Run, here: Standing) -> Result<Next, Memory>
     requires { run.old.frames.items ≡ [] }
-    ensures { IfOk result (λ next. (ask : question.Question NodeRef → question.Answer NodeRef) → Does ask (global_left (declared_in here) (here_of here)) 2 run.old run.new next) }
+    ensures { IfOk result (λ next. (ask : question.Question NodeRef → question.Answer NodeRef) → Does ask (global_left (declared_in here) (here_of here)) 3 run.old run.new next) }
 {
     push(run, Frame::Global(here))?;
     Ok(Next::Went)

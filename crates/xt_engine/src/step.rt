@@ -11,7 +11,7 @@ use crate::start::go_on_start;
 use std::alloc::Global;
 use xt_ask::World;
 use xt_frames::{Branches, Frame, Next, Run, take_held};
-use xt_perform::{choose_from, go_on_attributes};
+use xt_perform::{choose_from, go_on_attributes, go_on_inside, go_on_sets, go_on_sorting};
 use xt_text::Memory;
 
 /// One step of a run.
@@ -42,6 +42,9 @@ fn go_on<W: World>(
             go_on_start(alloc, run, target, node, parameters, world)
         }
         Frame::Body(body) => go_on_body(alloc, run, body, world),
+        Frame::Sets(left) => go_on_sets(alloc, run, left),
+        Frame::Inside(left) => go_on_inside(alloc, run, left),
+        Frame::Sorting(left) => go_on_sorting(alloc, run, left, world),
         Frame::Attributes(attributes) => go_on_attributes(alloc, run, attributes, world),
         Frame::Branches(branches) => go_on_branches(alloc, run, branches, world),
         Frame::Loop(left) => go_on_loop(alloc, run, left),

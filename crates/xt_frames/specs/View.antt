@@ -1,27 +1,34 @@
 -- Where instructions stand, and the plans that frames are.
-use Rattle.std.specs.Prelude.{ℕ, suc, ◌+◌, List, [], ◌∷◌, map, drop, length, slice_get, Option, None, Some}
+use Rattle.std.specs.Prelude.{ℕ, suc, ◌+◌, List, [], ◌∷◌, ◌++◌, map, drop, length, slice_get, Option, None, Some}
 use Rattle.spec_document.specs.Name.{Expanded}
 use Rattle.spec_stylesheet.specs.Place.{Place, Site}
 use Rattle.spec_stylesheet.specs.Instruction as made
 use Rattle.spec_stylesheet.specs.Instruction.{Form, with_content, Instrs, Instr, instrs, branches, bindings}
 use Rattle.spec_stylesheet.specs.Sheet as sheet
-use Rattle.spec_meaning.specs.Stream.{filled}
+use Rattle.spec_meaning.specs.Stream.{filled, Ended}
 use Rattle.spec_meaning.specs.Value as value
 use Rattle.spec_meaning.specs.Value.{Value}
 use Rattle.spec_meaning.specs.Context.{Bound}
 use Rattle.spec_run.specs.Plan as plan
-use Rattle.spec_run.specs.Plan.{Call, Plan, End, Stop, Inquire, Wrap, Take, Deep, Enter}
-use Rattle.spec_run.specs.Content.{Here, deeper, at, with_variable, each, applied, nodes_copied, attributes_put, terminated, planned, passed, planned_branches, with_parameters, held, plan_of}
-use Rattle.xp_syntax.specs.PartView.{place_of}
+use Rattle.spec_transform.specs.Sorted as sorts
+use Rattle.spec_transform.specs.Sorted.{nodes_in_order}
+use Rattle.spec_run.specs.Plan.{Call, Plan, End, Stop, Inquire, Put, Wrap, Take, Deep, Enter}
+use Rattle.spec_run.specs.Content.{Here, deeper, at, with_variable, each, applied, applied_to, sets_entered, criteria_asked, keys_asked, rows_asked, sorted, nodes_copied, attributes_put, terminated, planned, passed, planned_branches, with_parameters, held, plan_of}
+use Rattle.xp_syntax.specs.PartView.{place_of, sort_key_of}
 use Rattle.xp_syntax.specs.InstrView.{instr_of, branch_of, binding_of}
-use Rattle.xp_syntax.specs.SheetView.{declared_of}
+use Rattle.xp_syntax.specs.SheetView.{alias_of, declared_of}
+use Rattle.xp_axes.specs.View.{same_ref}
 use Rattle.xt_tree.specs.declared.node_ref.NodeRef.{NodeRef}
 use Rattle.xt_ask.specs.View.{bindings_of, template_of, sets_of}
 use Rattle.xt_run.specs.declared.call.Target.{Target}
 use Rattle.xt_run.specs.View.{target_of, call_of, wrapping_of}
+use Rattle.xt_sort.specs.View.{criterion_of, key_of, row_of}
 use Rattle.xt_frames.specs.declared.standing.Standing.{Standing}
 use Rattle.xt_frames.specs.declared.frame.Body.{Body}
 use Rattle.xt_frames.specs.declared.frame.Application.{Application}
+use Rattle.xt_frames.specs.declared.frame.Ordered.{Ordered}
+use Rattle.xt_frames.specs.declared.frame.Ordered.TheVariants as ordereds
+use Rattle.xt_frames.specs.declared.frame.Sorting.{Sorting}
 use Rattle.xt_frames.specs.declared.frame.Passing.{Passing}
 use Rattle.xt_frames.specs.declared.frame.Passing.TheVariants as passings
 use Rattle.xt_frames.specs.declared.frame.Arguments.{Arguments}
@@ -41,6 +48,8 @@ here_of s = record {
   ruled = s.ruled;
   templates = map template_of s.unit.value.templates.items;
   sets = map sets_of s.unit.value.sets.items;
+  aliases = map alias_of s.unit.value.aliases.value.items;
+  same = same_ref;
 }
 
 -- a content of this element, one level deeper
@@ -79,6 +88,32 @@ abbrev pub application_left : Application → List (Bound NodeRef) → Plan Node
 application_left a parameters after =
     each (applied (place_of a.place) a.mode parameters (length a.nodes.items) a.depth) (suc a.next) (drop a.next a.nodes.items) after
 
+-- ---- Sorting
+
+-- what nodes are sorted for, with these in their order
+abbrev pub ordered_left : Ordered → List NodeRef → Plan NodeRef → Plan NodeRef
+ordered_left (ordereds.Loop l) ns after =
+    each (inside_at (place_of l.place) (instrs (map instr_of l.content.value.items)) (length ns) (here_of l.here)) 1 ns after
+ordered_left (ordereds.Rules a) ns after = applied_to (place_of a.place) a.mode (bindings_of a.parameters) a.depth ns after
+
+abbrev pub keys_in : Sorting → List made.SortKey
+keys_in s = map sort_key_of s.keys.value.items
+
+-- the rows of all nodes, of which these are left: of the first of them some keys may be there
+abbrev pub rows_left : Sorting → List sorts.Criterion → List NodeRef → (List (sorts.Row NodeRef) → Plan NodeRef) → Plan NodeRef
+rows_left s criteria [] k = k (map row_of s.rows.items)
+rows_left s criteria (n ∷ ns) k =
+    let size = length s.nodes.items in
+    let position = suc (length s.rows.items) in
+    let asked = length s.values.items in
+    keys_asked (drop asked (keys_in s)) (drop asked criteria) (at n position size (here_of s.here)) (map key_of s.values.items)
+    (λ vs. rows_asked (keys_in s) criteria size (here_of s.here) (suc position) ns (map row_of s.rows.items ++ sorts.row n vs ∷ []) k)
+
+abbrev pub sorting_left : Sorting → Plan NodeRef → Plan NodeRef
+sorting_left s after =
+    criteria_asked (drop (length s.criteria.items) (keys_in s)) (here_of s.here) (map criterion_of s.criteria.items) (λ criteria.
+    rows_left s criteria (drop (length s.rows.items) s.nodes.items) (λ rows. Put Ended (ordered_left s.to (nodes_in_order criteria rows) after)))
+
 abbrev pub with_passed : List (Bound NodeRef) → Call NodeRef → Call NodeRef
 with_passed parameters c =
     record { target = c.target; node = c.node; parameters = parameters; position = c.position; size = c.size; ruling = c.ruling; by = c.by }
@@ -86,6 +121,8 @@ with_passed parameters c =
 -- what parameters are passed to
 abbrev pub passed_to : Passing → List (Bound NodeRef) → Plan NodeRef → Plan NodeRef
 passed_to (passings.Rules a) parameters after = application_left a parameters after
+passed_to (passings.Sorted keys here a) parameters after =
+    sorted (map sort_key_of keys.value.items) (here_of here) a.nodes.items (λ ns. applied_to (place_of a.place) a.mode parameters a.depth ns after)
 passed_to (passings.Template call depth) parameters after = Enter (with_passed parameters (call_of call)) depth after
 
 -- after so much is passed
@@ -113,12 +150,15 @@ global_left _ h = End
 -- all of an instantiation that enters this for a node
 abbrev pub start_planned : Target → NodeRef → List (Bound NodeRef) → Plan NodeRef
 start_planned target node parameters =
-    plan_of (record { target = target_of target; node = node; parameters = parameters; position = None; size = None; ruling = plan.SameRule; by = plan.nowhere })
+    plan_of same_ref (record { target = target_of target; node = node; parameters = parameters; position = None; size = None; ruling = plan.SameRule; by = plan.nowhere })
 
 -- what is left of a frame, before what is left around it
 abbrev pub left_frame : Frame → Plan NodeRef → Plan NodeRef
 left_frame (frames.Start target node parameters) after = start_planned target node (bindings_of parameters)
 left_frame (frames.Body b) after = planned (rest_of b b.next) (here_of b.here) after
+left_frame (frames.Sets s) after = sets_entered (place_of s.place) (here_of s.here) (drop s.next s.elements.items) after
+left_frame (frames.Inside i) after = inside (place_of i.place) (instrs (map instr_of i.content.value.items)) (here_of i.here) after
+left_frame (frames.Sorting s) after = sorting_left s after
 left_frame (frames.Attributes a) after = attributes_left_of (here_of a.here) a.next (slice_get (map instr_of a.content.value.items) a.number) after
 left_frame (frames.Branches b) after = planned_branches (branches (map branch_of (drop b.next b.branches.value.items))) (here_of b.here) after
 left_frame (frames.Loop l) after =

@@ -1,11 +1,12 @@
 // What is left of contents.
 use crate::Standing;
 use std::rc::Rc;
-use xp_syntax::{Binding, Branch, Instr};
+use xp_syntax::{Binding, Branch, Instr, SortKey};
 use xt_ask::Bindings;
 use xt_base::Place;
 use xt_names::Expanded;
 use xt_run::{Call, Target, Wrapping};
+use xt_sort::{Criterion, KeyValue, Row};
 use xt_tree::NodeRef;
 
 /// A content from the next of its instructions on.
@@ -57,6 +58,51 @@ pub struct Application {
     pub depth: u64,
 }
 
+/// The attribute sets that the element at this place uses, by their elements, from the next on (XSLT 1.0, section
+/// 7.1.4).
+#[derive(Drop)]
+pub struct Sets {
+    pub place: Place,
+    pub elements: Vec<NodeRef>,
+    pub next: usize,
+    pub here: Standing,
+}
+
+/// All of a content of the element at this place.
+#[derive(Drop)]
+pub struct Inside {
+    pub place: Place,
+    pub content: Rc<Vec<Instr>>,
+    /// Where the element stands.
+    pub here: Standing,
+}
+
+/// What nodes are sorted for.
+#[derive(Drop)]
+pub enum Ordered {
+    /// For an xsl:for-each, in place of the nodes that stand there.
+    Loop(Loop),
+    /// For an xsl:apply-templates, in place of the nodes that stand there.
+    Rules(Application),
+}
+
+/// The nodes that are sorted, and then what they are sorted for (XSLT 1.0, section 10).
+#[derive(Drop)]
+pub struct Sorting {
+    pub keys: Rc<Vec<SortKey>>,
+    /// Where the instruction stands.
+    pub here: Standing,
+    /// How the keys compare, as far as they were asked.
+    pub criteria: Vec<Criterion>,
+    /// The nodes whose keys were asked, in their old order.
+    pub rows: Vec<Row>,
+    /// The keys of the node behind them, as far as they were asked.
+    pub values: Vec<KeyValue>,
+    /// All nodes, in their old order.
+    pub nodes: Vec<NodeRef>,
+    pub to: Ordered,
+}
+
 /// Copies of nodes from the next on (XSLT 1.0, section 11.3).
 #[derive(Drop)]
 pub struct Copies {
@@ -69,6 +115,8 @@ pub struct Copies {
 pub enum Passing {
     /// To the template rules of nodes, in place of the parameters that stand there.
     Rules(Application),
+    /// The same, once its nodes are sorted by these keys, which stand here.
+    Sorted(Rc<Vec<SortKey>>, Standing, Application),
     /// To a template that is called from a content so deep, in place of the parameters of the call.
     Template(Call, u64),
 }
@@ -112,7 +160,10 @@ pub enum Frame {
     /// All of an instantiation of this target for this node, with these parameters.
     Start(Target, NodeRef, Bindings),
     Body(Body),
+    Sets(Sets),
     Attributes(Attributes),
+    Inside(Inside),
+    Sorting(Sorting),
     Branches(Branches),
     Loop(Loop),
     Application(Application),

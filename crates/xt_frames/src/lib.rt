@@ -20,12 +20,15 @@ mod settle;
 mod standing;
 
 pub use frame::{
-    Application, Arguments, Attributes, Body, Branches, Copies, Frame, Holder, Loop, Parameters,
-    Passing,
+    Application, Arguments, Attributes, Body, Branches, Copies, Frame, Holder, Inside, Loop,
+    Ordered, Parameters, Passing, Sets, Sorting,
 };
 pub use held::{hold, holding, take_held};
-pub use operand::{attribute, element, expansion, instruction, nodes, text, truth, value};
+pub use operand::{
+    attribute, criterion, element, expansion, instruction, key_value, nodes, number, text, truth,
+    value,
+};
 pub use run::{
     Came, Next, Run, Waiting, go_into, lack, push, sink, want, write_fragment, write_text,
 };
-pub use standing::{Standing, share_bindings, share_content};
+pub use standing::{Standing, share_bindings, share_content, share_keys};

@@ -3,26 +3,32 @@ ghost use Rattle.std.specs.Prelude.{◌≡◌};
 ghost use Rattle.spec_meaning.specs.Meaning.{meaning};
 ghost use Rattle.spec_meaning.specs.Supplies.{at_hand};
 ghost use Rattle.spec_transform.specs.Expansion.{expanded};
+ghost use Rattle.spec_transform.specs.Sorted.{criterion_meant, key_meant};
+ghost use Rattle.spec_transform.specs.Numbering.{number_meant};
 ghost use Rattle.spec_run.specs.Names as names;
 ghost use Rattle.spec_run.specs.Content.{text_meant, nodes_meant, truth_meant};
 ghost use Rattle.xp_syntax.specs.View.{expr_of};
-ghost use Rattle.xp_syntax.specs.PartView.{avt_of, made_name_of};
+ghost use Rattle.xp_syntax.specs.PartView.{avt_of, made_name_of, numbering_of, sort_key_of};
+ghost use Rattle.xp_axes.specs.View.{same_ref};
 ghost use Rattle.xt_tree.specs.ValueView.{value_of};
 ghost use Rattle.xt_ask.specs.View.{context_of, supplies_of};
 ghost use Rattle.xt_ask.specs.Runs.{Runs, itself, items};
 ghost use Rattle.xt_run.specs.View.{wrapping_of};
+ghost use Rattle.xt_sort.specs.View.{criterion_of, key_of};
 ghost use Rattle.xt_frames.specs.Noted.{noted_in};
 
 use crate::meant::{nodes_of, text_of, truth_of};
 use std::alloc::Global;
 use xp_eval::eval;
-use xp_syntax::{Avt, Expr, MadeName};
+use xp_syntax::{Avt, Expr, MadeName, Numbering, SortKey};
 use xt_ask::{
     Answer, Context, EvalFault, Evaluate, Focus, Given, Question, Read, Supplies, Wanted, World,
 };
 use xt_avt::expand;
 use xt_making::{attribute_meant, element_meant, instruction_meant};
+use xt_number::number_text;
 use xt_run::Wrapping;
+use xt_sort::{Criterion, KeyValue};
 use xt_text::{Memory, Text};
 use xt_tree::{NodeRef, Value};
 
@@ -237,4 +243,68 @@ pub(crate) fn noted_instruction<W: World>(
         alloc,
     };
     instruction_meant(alloc, avt, focus, context, supplies, &mut noting)
+}
+
+/// How a sort key compares, with what is read added to the reads.
+pub(crate) fn noted_criterion<W: World>(
+    alloc: Global,
+    key: &SortKey,
+    focus: Focus,
+    context: &Context,
+    supplies: &Supplies,
+    world: &mut W,
+    reads: &mut Vec<Read>,
+) -> Result<Criterion, EvalFault>
+    ensures runs { Runs criterion_of (at_hand (supplies_of supplies.now) context.now.depth) context.now.depth (criterion_meant (sort_key_of key.now) (context_of focus context.now)) (noted_in (W.state world.old).truth reads.old.items) (noted_in (W.state world.new).truth reads.new.items) result }
+    ensures name { W.name world.new ≡ W.name world.old }
+{
+    let mut noting = Noting {
+        world,
+        reads,
+        alloc,
+    };
+    xt_sort::criterion(alloc, key, focus, context, supplies, &mut noting)
+}
+
+/// The key of a node, with what is read added to the reads.
+pub(crate) fn noted_key<W: World>(
+    alloc: Global,
+    key: &SortKey,
+    criterion: Criterion,
+    focus: Focus,
+    context: &Context,
+    supplies: &Supplies,
+    world: &mut W,
+    reads: &mut Vec<Read>,
+) -> Result<KeyValue, EvalFault>
+    ensures runs { Runs key_of (at_hand (supplies_of supplies.now) context.now.depth) context.now.depth (key_meant (sort_key_of key.now) (criterion_of criterion) (context_of focus context.now)) (noted_in (W.state world.old).truth reads.old.items) (noted_in (W.state world.new).truth reads.new.items) result }
+    ensures name { W.name world.new ≡ W.name world.old }
+{
+    let mut noting = Noting {
+        world,
+        reads,
+        alloc,
+    };
+    xt_sort::key_value(alloc, key, criterion, focus, context, supplies, &mut noting)
+}
+
+/// The text of an xsl:number, with what is read added to the reads.
+pub(crate) fn noted_number<W: World>(
+    alloc: Global,
+    numbering: &Numbering,
+    focus: Focus,
+    context: &Context,
+    supplies: &Supplies,
+    world: &mut W,
+    reads: &mut Vec<Read>,
+) -> Result<Text, EvalFault>
+    ensures runs { Runs itself (at_hand (supplies_of supplies.now) context.now.depth) context.now.depth (number_meant same_ref (numbering_of numbering.now) (context_of focus context.now)) (noted_in (W.state world.old).truth reads.old.items) (noted_in (W.state world.new).truth reads.new.items) result }
+    ensures name { W.name world.new ≡ W.name world.old }
+{
+    let mut noting = Noting {
+        world,
+        reads,
+        alloc,
+    };
+    number_text(alloc, numbering, focus, context, supplies, &mut noting)
 }

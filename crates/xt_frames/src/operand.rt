@@ -4,29 +4,35 @@ ghost use Rattle.std.specs.Prelude.{◌≡◌, ℕ, List, Bool, IfOk};
 ghost use Rattle.spec_meaning.specs.Value as value;
 ghost use Rattle.spec_meaning.specs.Meaning.{meaning};
 ghost use Rattle.spec_transform.specs.Expansion.{expanded};
+ghost use Rattle.spec_transform.specs.Sorted as sorting;
+ghost use Rattle.spec_transform.specs.Sorted.{criterion_meant, key_meant};
+ghost use Rattle.spec_transform.specs.Numbering.{number_meant};
 ghost use Rattle.spec_run.specs.Plan as plan;
 ghost use Rattle.spec_run.specs.Names as names;
 ghost use Rattle.spec_run.specs.Content.{asked, text_meant, nodes_meant, truth_meant};
 ghost use Rattle.xp_syntax.specs.View.{expr_of};
-ghost use Rattle.xp_syntax.specs.PartView.{site_of, place_of, avt_of, made_name_of};
+ghost use Rattle.xp_syntax.specs.PartView.{site_of, place_of, avt_of, made_name_of, numbering_of, sort_key_of};
+ghost use Rattle.xp_axes.specs.View.{same_ref};
 ghost use Rattle.xt_tree.specs.declared.node_ref.NodeRef.{NodeRef};
 ghost use Rattle.xt_tree.specs.ValueView.{value_of};
 ghost use Rattle.xt_ask.specs.Runs.{itself, items};
 ghost use Rattle.xt_run.specs.View.{wrapping_of};
+ghost use Rattle.xt_sort.specs.View.{criterion_of, key_of};
 ghost use Rattle.xt_going.specs.View.{going_of};
 ghost use Rattle.xt_frames.specs.View.{here_of};
 ghost use Rattle.xt_frames.specs.Left.{Found, hand, IsStill};
 
 use crate::noting::{
-    noted_attribute, noted_element, noted_expansion, noted_instruction, noted_nodes, noted_text,
-    noted_truth, noted_value,
+    noted_attribute, noted_criterion, noted_element, noted_expansion, noted_instruction, noted_key,
+    noted_nodes, noted_number, noted_text, noted_truth, noted_value,
 };
 use crate::settle::settle;
 use crate::{Came, Run, Standing};
 use std::alloc::Global;
-use xp_syntax::{Avt, Expr, MadeName, Site};
+use xp_syntax::{Avt, Expr, MadeName, Numbering, Site, SortKey};
 use xt_ask::World;
 use xt_run::Wrapping;
+use xt_sort::{Criterion, KeyValue};
 use xt_text::{Memory, Text};
 use xt_tree::{NodeRef, Value};
 
@@ -245,6 +251,90 @@ pub fn instruction<W: World>(
     let found = noted_instruction(
         alloc,
         avt,
+        here.focus,
+        &context,
+        &run.supplies,
+        world,
+        &mut reads,
+    );
+    settle(alloc, run, &site.place, reads, found)
+}
+
+/// How a sort key compares, where the instruction that it sorts for stands.
+pub fn criterion<W: World>(
+    alloc: Global,
+    run: &mut Run,
+    key: &SortKey,
+    here: &Standing,
+    world: &mut W,
+) -> Result<Came<Criterion>, Memory>
+    ensures found { IfOk result (λ came. (k : sorting.Criterion → plan.Plan NodeRef) → Found criterion_of (W.state world.old).truth (hand run.old) run.old.room (asked (sort_key_of key.now).site (here_of here.now) (criterion_meant (sort_key_of key.now)) k) k here.now.depth (sort_key_of key.now).site.place (going_of run.old.going) (going_of run.new.going) came) }
+    ensures still { IsStill run.old run.new }
+    ensures truth { (W.state world.new).truth ≡ (W.state world.old).truth }
+    ensures name { W.name world.new ≡ W.name world.old }
+{
+    let context = here.context(&key.site)?;
+    let mut reads = Vec::new(alloc);
+    let found = noted_criterion(
+        alloc,
+        key,
+        here.focus,
+        &context,
+        &run.supplies,
+        world,
+        &mut reads,
+    );
+    settle(alloc, run, &key.site.place, reads, found)
+}
+
+/// The key of the current node.
+pub fn key_value<W: World>(
+    alloc: Global,
+    run: &mut Run,
+    key: &SortKey,
+    criterion: Criterion,
+    here: &Standing,
+    world: &mut W,
+) -> Result<Came<KeyValue>, Memory>
+    ensures found { IfOk result (λ came. (k : sorting.KeyValue → plan.Plan NodeRef) → Found key_of (W.state world.old).truth (hand run.old) run.old.room (asked (sort_key_of key.now).site (here_of here.now) (key_meant (sort_key_of key.now) (criterion_of criterion)) k) k here.now.depth (sort_key_of key.now).site.place (going_of run.old.going) (going_of run.new.going) came) }
+    ensures still { IsStill run.old run.new }
+    ensures truth { (W.state world.new).truth ≡ (W.state world.old).truth }
+    ensures name { W.name world.new ≡ W.name world.old }
+{
+    let context = here.context(&key.site)?;
+    let mut reads = Vec::new(alloc);
+    let found = noted_key(
+        alloc,
+        key,
+        criterion,
+        here.focus,
+        &context,
+        &run.supplies,
+        world,
+        &mut reads,
+    );
+    settle(alloc, run, &key.site.place, reads, found)
+}
+
+/// The text of an xsl:number.
+pub fn number<W: World>(
+    alloc: Global,
+    run: &mut Run,
+    numbering: &Numbering,
+    site: &Site,
+    here: &Standing,
+    world: &mut W,
+) -> Result<Came<Text>, Memory>
+    ensures found { IfOk result (λ came. (k : List ℕ → plan.Plan NodeRef) → Found itself (W.state world.old).truth (hand run.old) run.old.room (asked (site_of site.now) (here_of here.now) (number_meant same_ref (numbering_of numbering.now)) k) k here.now.depth (place_of site.now.place) (going_of run.old.going) (going_of run.new.going) came) }
+    ensures still { IsStill run.old run.new }
+    ensures truth { (W.state world.new).truth ≡ (W.state world.old).truth }
+    ensures name { W.name world.new ≡ W.name world.old }
+{
+    let context = here.context(site)?;
+    let mut reads = Vec::new(alloc);
+    let found = noted_number(
+        alloc,
+        numbering,
         here.focus,
         &context,
         &run.supplies,

@@ -5,11 +5,11 @@ ghost use Rattle.xt_ask.specs.View.{bindings_of};
 
 use std::alloc::Global;
 use std::rc::Rc;
-use xp_syntax::{Instr, Site};
+use xp_syntax::{Instr, Site, SortKey};
 use xt_ask::{Binding, Bindings, Context, Focus, ResolvedUnit};
 use xt_names::Expanded;
 use xt_text::Memory;
-use xt_tree::Value;
+use xt_tree::{NodeRef, Value};
 
 /// Where an instruction stands (XSLT 1.0, sections 1 and 11): the current node, the local variables in scope, how
 /// deep its content stands below the level of the instantiation, and the unit, with what its names name.
@@ -26,7 +26,7 @@ pub struct Standing {
 
 impl Standing {
     ghost use Rattle.std.specs.Prelude.{◌≡◌, IfOk};
-    ghost use Rattle.spec_run.specs.Content.{context_at, with_variable};
+    ghost use Rattle.spec_run.specs.Content.{at, context_at, with_variable};
     ghost use Rattle.xp_syntax.specs.PartView.{site_of};
     ghost use Rattle.xt_tree.specs.ValueView.{value_of};
     ghost use Rattle.xt_ask.specs.View.{context_of};
@@ -45,6 +45,25 @@ impl Standing {
             depth: self.depth,
             ruled: self.ruled,
             unit,
+        })
+    }
+
+    /// At one of so many nodes, by its position, where no template rule is the current one (XSLT 1.0, section 5.6).
+    pub fn at(&self, node: NodeRef, position: u64, size: u64) -> Result<Standing, Memory>
+        ensures here { IfOk result (λ s. here_of s ≡ at node position size (here_of self.now)) }
+        ensures depth { IfOk result (λ s. s.depth ≡ self.now.depth) }
+    {
+        let shared = self.share()?;
+        Ok(Standing {
+            focus: Focus {
+                node,
+                position: Some(position),
+                size: Some(size),
+            },
+            bindings: shared.bindings,
+            depth: shared.depth,
+            ruled: false,
+            unit: shared.unit,
         })
     }
 
@@ -101,6 +120,13 @@ pub fn share_content(content: &Rc<Vec<Instr>>) -> Result<Rc<Vec<Instr>>, Memory>
     ensures { IfOk result (λ c. c.value ≡ content.now.value) }
 {
     Ok(content.clone()?)
+}
+
+/// The same sort keys, shared.
+pub fn share_keys(keys: &Rc<Vec<SortKey>>) -> Result<Rc<Vec<SortKey>>, Memory>
+    ensures { IfOk result (λ k. k.value ≡ keys.now.value) }
+{
+    Ok(keys.clone()?)
 }
 
 /// The same bindings, shared.

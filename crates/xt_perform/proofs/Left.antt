@@ -11,7 +11,7 @@ use Rattle.spec_stylesheet.specs.Instruction.{Instrs, instrs}
 use Rattle.spec_meaning.specs.Question.{Question, Answer}
 use Rattle.spec_run.specs.Plan.{Plan, End, Begin, Wrap, Wrapping, Put}
 use Rattle.spec_run.specs.Going.{Going, begun}
-use Rattle.spec_run.specs.Content.{Here, attributes_put, asked}
+use Rattle.spec_run.specs.Content.{Here, attribute_aliased, attributes_put, asked}
 use Rattle.spec_run.specs.Passes.{Passes, stays, begins}
 use Rattle.spec_transform.specs.Expansion.{expanded}
 use Rattle.xp_syntax.specs.declared.instr.Instr.{Instr}
@@ -33,7 +33,6 @@ use Rattle.xt_frames.specs.View.{here_of, inside, attributes_left, attributes_le
 use Rattle.xt_frames.specs.Left.{left_in, hand, steps, Comes, Does, Performs, IsStill, Pushed}
 use Rattle.xt_frames.proofs.Lefts.{pushed, one_more, steps_at, passes_at, comes_after}
 use Rattle.xt_frames.proofs.Performs.{goes}
-use Rattle.xt_perform.specs.Copied.{attribute_item}
 
 -- the instruction of this number
 pub instr_at : (is : List Instr) (n : ℕ) (x : Instr) → n < length is → x ≡ get_or is n x → slice_get (map instr_of is) n ≡ Some (instr_of x)
@@ -74,26 +73,13 @@ abbrev pub attributes_from : List LiteralAttribute → ℕ → Site → Here Nod
 attributes_from list i site h after = attributes_put site h (drop i (map literal_attribute_of list)) after
 
 pub attribute_next : (list : List LiteralAttribute) (i : ℕ) (x : LiteralAttribute) (site : Site) (h : Here NodeRef) (after : Plan NodeRef) → i < length list → x ≡ get_or list i x
-    → attributes_from list i site h after ≡ asked site h (expanded (avt_of x.value)) (λ t. Put (attribute_item (literal_attribute_of x) t) (attributes_from list (i + 1) site h after))
+    → attributes_from list i site h after ≡ asked site h (expanded (avt_of x.value)) (λ t. Put (attribute_aliased h.aliases (literal_attribute_of x) t) (attributes_from list (i + 1) site h after))
 attribute_next list i x site h after lt is_x =
     ap (λ l. attributes_put site h l after) (drop-map literal_attribute_of i list)
     ∙ at_drop_more (λ rest. attributes_put site h (map literal_attribute_of rest) after) list i x lt
     ∙ ap (λ y. attributes_put site h (literal_attribute_of y ∷ map literal_attribute_of (drop (i + 1) list)) after) (sym is_x)
-    ∙ ap (λ l. asked site h (expanded (avt_of x.value)) (λ t. Put (attribute_item (literal_attribute_of x) t) (attributes_put site h l after))) (sym (drop-map literal_attribute_of (i + 1) list))
+    ∙ ap (λ l. asked site h (expanded (avt_of x.value)) (λ t. Put (attribute_aliased h.aliases (literal_attribute_of x) t) (attributes_put site h l after))) (sym (drop-map literal_attribute_of (i + 1) list))
 
 pub attribute_none : (list : List LiteralAttribute) (i : ℕ) (site : Site) (h : Here NodeRef) (after : Plan NodeRef) → length list ≤ i → attributes_from list i site h after ≡ after
 attribute_none list i site h after le =
     ap (λ l. attributes_put site h l after) (drop-map literal_attribute_of i list) ∙ at_drop_all (λ rest. attributes_put site h (map literal_attribute_of rest) after) list i le
-
--- a sink, and three frames
-pub three_frames : (ask : Question NodeRef → Answer NodeRef) (a b f : Frame) (old low one two new : Run) → low.frames ≡ old.frames → low.room ≡ old.room → low.supplies ≡ old.supplies → going_of low.going ≡ begun (going_of old.going)
-    → Pushed a low one → Pushed b one two → Pushed f two new → Does ask (Begin (left_frame f (left_frame b (left_frame a (left_in old))))) (suc (length old.frames.items)) old new Went
-three_frames ask a b f old low one two new frames room supplies going p q r =
-    let i = one_more low.frames.items one.frames.items a p.frames in
-    let j = one_more one.frames.items two.frames.items b q.frames in
-    let k = one_more two.frames.items new.frames.items f r.frames in
-    let n : length low.frames.items ≡ length old.frames.items = ap (λ (fs : Vec Frame Global). length fs.items) frames in
-    let after = left_frame f (left_frame b (left_frame a (left_in old))) in
-    let left : left_in new ≡ after =
-    pushed two new f r.frames ∙ ap (left_frame f) (pushed one two b q.frames ∙ ap (left_frame b) (pushed low one a p.frames ∙ ap (λ (fs : Vec Frame Global). left_frame a (left_over fs.items End)) frames)) in
-    goes ask (Begin after) after (begun (going_of old.going)) old new left (ap going_of (r.going ∙ q.going ∙ p.going) ∙ going) (begins stays) (omega arith) (omega (arith, i, j, k, n)) (r.room ∙ q.room ∙ p.room ∙ room) (r.supplies ∙ q.supplies ∙ p.supplies ∙ supplies)

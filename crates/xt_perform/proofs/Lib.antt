@@ -7,3 +7,6 @@ pub mod Asked
 pub mod Written
 pub mod Held
 pub mod Ruled
+pub mod Used
+pub mod Rows
+pub mod Askings

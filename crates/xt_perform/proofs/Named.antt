@@ -4,6 +4,7 @@ use Rattle.std.specs.Prelude.{Vec}
 use Rattle.spec_document.specs.declared.kind.Kind.{Kind}
 use Rattle.spec_document.specs.declared.kind.Kind.TheVariants as kind
 use Rattle.spec_document.specs.Name.{Expanded}
+use Rattle.spec_stylesheet.specs.Place.{Place}
 use Rattle.spec_meaning.specs.Stream.{Stream, Ended}
 use Rattle.spec_meaning.specs.Question as question
 use Rattle.spec_meaning.specs.Value as value
@@ -56,20 +57,20 @@ no_name (answers.Resolved unit) n = record { kind = refl; written = refl; uri = 
 no_name (answers.Passed v) n = record { kind = refl; written = refl; uri = refl; local = refl }
 
 -- an xsl:copy of a node of this kind
-abbrev pub copied_of : Kind → Here NodeRef → question.Answer NodeRef → (Plan NodeRef → Plan NodeRef) → Plan NodeRef → Plan NodeRef
-copied_of kind.Root h a inside after = inside after
-copied_of kind.Element h a inside after = element_copied h a inside after
-copied_of kind.Attribute h a inside after = Inquire (question.Copy h.node) (λ c. Put (stream_in c) after)
-copied_of kind.Namespace h a inside after = Inquire (question.Copy h.node) (λ c. Put (stream_in c) after)
-copied_of kind.Text h a inside after = Inquire (question.Copy h.node) (λ c. Put (stream_in c) after)
-copied_of kind.Comment h a inside after = Inquire (question.Copy h.node) (λ c. Put (stream_in c) after)
-copied_of kind.Instruction h a inside after = Inquire (question.Copy h.node) (λ c. Put (stream_in c) after)
+abbrev pub copied_of : Kind → Place → Here NodeRef → List Expanded → question.Answer NodeRef → (Plan NodeRef → Plan NodeRef) → Plan NodeRef → Plan NodeRef
+copied_of kind.Root by h sets a inside after = inside after
+copied_of kind.Element by h sets a inside after = element_copied by h sets a inside after
+copied_of kind.Attribute by h sets a inside after = Inquire (question.Copy h.node) (λ c. Put (stream_in c) after)
+copied_of kind.Namespace by h sets a inside after = Inquire (question.Copy h.node) (λ c. Put (stream_in c) after)
+copied_of kind.Text by h sets a inside after = Inquire (question.Copy h.node) (λ c. Put (stream_in c) after)
+copied_of kind.Comment by h sets a inside after = Inquire (question.Copy h.node) (λ c. Put (stream_in c) after)
+copied_of kind.Instruction by h sets a inside after = Inquire (question.Copy h.node) (λ c. Put (stream_in c) after)
 
-pub copied_is : (k : Kind) (h : Here NodeRef) (a : question.Answer NodeRef) (inside : Plan NodeRef → Plan NodeRef) (after : Plan NodeRef) → k ≡ kind_in a → copied_of k h a inside after ≡ copied_as h a inside after
-copied_is kind.Root h a inside after e = rw (← e, copied_as) refl
-copied_is kind.Element h a inside after e = rw (← e, copied_as) refl
-copied_is kind.Attribute h a inside after e = rw (← e, copied_as) refl
-copied_is kind.Namespace h a inside after e = rw (← e, copied_as) refl
-copied_is kind.Text h a inside after e = rw (← e, copied_as) refl
-copied_is kind.Comment h a inside after e = rw (← e, copied_as) refl
-copied_is kind.Instruction h a inside after e = rw (← e, copied_as) refl
+pub copied_is : (k : Kind) (by : Place) (h : Here NodeRef) (sets : List Expanded) (a : question.Answer NodeRef) (inside : Plan NodeRef → Plan NodeRef) (after : Plan NodeRef) → k ≡ kind_in a → copied_of k by h sets a inside after ≡ copied_as by h sets a inside after
+copied_is kind.Root by h sets a inside after e = rw (← e, copied_as) refl
+copied_is kind.Element by h sets a inside after e = rw (← e, copied_as) refl
+copied_is kind.Attribute by h sets a inside after e = rw (← e, copied_as) refl
+copied_is kind.Namespace by h sets a inside after e = rw (← e, copied_as) refl
+copied_is kind.Text by h sets a inside after e = rw (← e, copied_as) refl
+copied_is kind.Comment by h sets a inside after e = rw (← e, copied_as) refl
+copied_is kind.Instruction by h sets a inside after e = rw (← e, copied_as) refl

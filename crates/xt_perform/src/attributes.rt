@@ -7,7 +7,8 @@ ghost use Rattle.spec_meaning.specs.Stream.{holes};
 ghost use Rattle.spec_transform.specs.Expansion.{expanded};
 ghost use Rattle.spec_run.specs.Plan.{Put};
 ghost use Rattle.spec_run.specs.Going.{put};
-ghost use Rattle.spec_run.specs.Content.{asked, attributes_put};
+ghost use Rattle.spec_run.specs.Content.{asked, attribute_aliased, attributes_put};
+ghost use Rattle.xp_syntax.specs.SheetView.{alias_of};
 ghost use Rattle.xp_syntax.specs.PartView.{site_of, avt_of, literal_attribute_of, literal_tag_of, with_content_of};
 ghost use Rattle.xp_syntax.specs.InstrView.{instr_of};
 ghost use Rattle.xt_tree.specs.StreamView.{single_of, stream_of};
@@ -15,12 +16,12 @@ ghost use Rattle.xt_going.specs.View.{going_of};
 ghost use Rattle.xt_frames.specs.declared.frame.Frame.TheVariants as Frame;
 ghost use Rattle.xt_frames.specs.View.{here_of, inside, attributes_left, left_frame};
 ghost use Rattle.xt_frames.specs.Left.{left_in, Performs, StepsFrom, IsStill};
-ghost use Rattle.xt_perform.specs.Copied.{attribute_item};
 
+use crate::aliases::{aliased_prefix, aliased_uri, for_attribute};
 use crate::literal::written_name;
 use std::alloc::Global;
 use std::rc::Rc;
-use xp_syntax::{Form, Instr, LiteralAttribute, LiteralTag, Site, WithContent};
+use xp_syntax::{Alias, Form, Instr, LiteralAttribute, LiteralTag, Site, WithContent};
 use xt_ask::World;
 use xt_frames::{
     Attributes, Came, Frame, Next, Run, expansion, go_into, lack, push, share_content,
@@ -125,13 +126,14 @@ fn put_attribute<W: World>(
     world: &mut W,
 ) -> Result<Next, Memory>
     requires { attributes.next < usize.MAX }
-    ensures does { IfOk result (Performs (W.state world.old).truth (Frame.Attributes attributes) (asked (site_of site.now) (here_of attributes.here) (expanded (avt_of attribute.now.value)) (λ t. Put (attribute_item (literal_attribute_of attribute.now) t) (left_frame (Frame.Attributes (record { content = attributes.content; number = attributes.number; next = attributes.next + 1; here = attributes.here })) (left_in run.old)))) run.old run.new) }
+    ensures does { IfOk result (Performs (W.state world.old).truth (Frame.Attributes attributes) (asked (site_of site.now) (here_of attributes.here) (expanded (avt_of attribute.now.value)) (λ t. Put (attribute_aliased (here_of attributes.here).aliases (literal_attribute_of attribute.now) t) (left_frame (Frame.Attributes (record { content = attributes.content; number = attributes.number; next = attributes.next + 1; here = attributes.here })) (left_in run.old)))) run.old run.new) }
     ensures truth { (W.state world.new).truth ≡ (W.state world.old).truth }
     ensures name { W.name world.new ≡ W.name world.old }
 {
     match expansion(alloc, run, &attribute.value, site, &attributes.here, world)? {
         Came::Is(text) => {
-            put_item(alloc, run, attribute, text)?;
+            let aliases = attributes.here.unit.aliases.as_slice();
+            put_item(alloc, run, attribute, aliases, text)?;
             push(run, Frame::Attributes(advanced(attributes)))?;
             Ok(Next::Went)
         }
@@ -168,22 +170,31 @@ fn put_item(
     alloc: Global,
     run: &mut Run,
     attribute: &LiteralAttribute,
+    aliases: &[Alias],
     text: Text,
 ) -> Result<(), Memory>
-    ensures going { OnOk result (going_of run.new.going ≡ put (attribute_item (literal_attribute_of attribute.now) text) (going_of run.old.going)) }
+    ensures going { OnOk result (going_of run.new.going ≡ put (attribute_aliased (map alias_of aliases.now) (literal_attribute_of attribute.now) text) (going_of run.old.going)) }
     ensures still { IsStill run.old run.new }
 {
-    let item = item_of(alloc, attribute, text)?;
+    let item = item_of(alloc, attribute, aliases, text)?;
     run.going.put(item)
 }
 
-/// The attribute with this value.
-fn item_of(alloc: Global, attribute: &LiteralAttribute, text: Text) -> Result<Item, Memory>
-    ensures item { IfOk result (λ i. single_of i ≡ attribute_item (literal_attribute_of attribute.now) text) }
+/// The attribute with this value in the result.
+fn item_of(
+    alloc: Global,
+    attribute: &LiteralAttribute,
+    aliases: &[Alias],
+    text: Text,
+) -> Result<Item, Memory>
+    ensures item { IfOk result (λ i. single_of i ≡ attribute_aliased (map alias_of aliases.now) (literal_attribute_of attribute.now) text) }
     ensures whole { IfOk result (λ i. holes (single_of i) ≡ 0) }
 {
-    let name = written_name(alloc, &attribute.prefix, attribute.name.local())?;
-    let uri = attribute.name.uri().copy(alloc)?;
+    let own = attribute.name.uri();
+    let aliases = for_attribute(aliases, own);
+    let prefix = aliased_prefix(aliases, &attribute.prefix, own);
+    let name = written_name(alloc, prefix, attribute.name.local())?;
+    let uri = aliased_uri(aliases, own).copy(alloc)?;
     let mut content = Items::new(alloc);
     content.push(Item::Text(text))?;
     let shared = Rc::new(alloc, content)?;

@@ -1,31 +1,34 @@
-// Instructions that say whether, how often or which contents run (XSLT 1.0, sections 5.4, 6, 8 and 9).
-ghost use Rattle.std.specs.Prelude.{◌≡◌, ◌<◌, ◌+◌, List, [], suc, length, map, IfOk, if◌then◌else◌};
+// Instructions that say whether, how often or which contents run (XSLT 1.0, sections 5.4, 6, 8, 9 and 10).
+ghost use Rattle.std.specs.Prelude.{◌≡◌, ◌<◌, ◌+◌, [], suc, length, map, IfOk, if◌then◌else◌};
 ghost use Rattle.spec_stylesheet.specs.Instruction as made;
 ghost use Rattle.spec_stylesheet.specs.Instruction.{instrs};
 ghost use Rattle.spec_meaning.specs.Question as question;
 ghost use Rattle.spec_meaning.specs.Stream.{Ended};
 ghost use Rattle.spec_run.specs.Plan.{Put, SameRule, RuleIs};
 ghost use Rattle.spec_run.specs.Content as contents;
+ghost use Rattle.spec_run.specs.Content.{each};
 ghost use Rattle.xp_syntax.specs.View.{expr_of};
-ghost use Rattle.xp_syntax.specs.PartView.{site_of};
+ghost use Rattle.xp_syntax.specs.PartView.{site_of, sort_key_of};
 ghost use Rattle.xp_syntax.specs.InstrView.{instr_of, control_of, binding_of, branch_of, selection_of};
 ghost use Rattle.xt_tree.specs.declared.node_ref.NodeRef.{NodeRef};
 ghost use Rattle.xt_ask.specs.View.{template_of};
 ghost use Rattle.xt_run.specs.View.{ruling_of};
 ghost use Rattle.xt_frames.specs.declared.frame.Frame.TheVariants as Frame;
-ghost use Rattle.xt_frames.specs.View.{here_of, inside, after_body};
+ghost use Rattle.xt_frames.specs.View.{here_of, inside, inside_at, after_body};
 ghost use Rattle.xt_frames.specs.Left.{left_in, Does, Performs};
 
 use crate::choose::{choose_from, share_branches};
 use crate::simple::{advanced, into_content, nothing};
+use crate::sorting::unsorted;
 use crate::variables::pass;
 use std::alloc::Global;
 use std::rc::Rc;
-use xp_syntax::{Binding, Branch, Control, Expr, Instr, Selection, Site};
+use xp_syntax::{Binding, Branch, Control, Expr, Instr, Selection, Site, SortKey};
 use xt_ask::{Bindings, NamedTemplate, World, copy_name_if, copy_place};
+use xt_base::Place;
 use xt_frames::{
-    Application, Body, Branches, Came, Frame, Loop, Next, Passing, Run, Standing, lack, nodes,
-    push, share_content, truth,
+    Application, Body, Branches, Came, Frame, Loop, Next, Ordered, Passing, Run, Standing, lack,
+    nodes, push, share_content, share_keys, truth,
 };
 use xt_names::Expanded;
 use xt_run::{Call, Ruling, Target};
@@ -47,8 +50,8 @@ pub(crate) fn control<W: World>(
     ensures name { W.name world.new ≡ W.name world.old }
 {
     match what {
-        Control::ForEach(select, _, content) => {
-            for_each(alloc, run, site, select, content, body, world)
+        Control::ForEach(select, keys, content) => {
+            for_each(alloc, run, site, select, keys, content, body, world)
         }
         Control::If(test, content) => when(alloc, run, site, test, content, body, world),
         Control::Choose(branches) => choose(alloc, run, branches, body, world),
@@ -65,33 +68,65 @@ fn for_each<W: World>(
     run: &mut Run,
     site: &Site,
     select: &Expr,
+    keys: &Rc<Vec<SortKey>>,
     content: &Rc<Vec<Instr>>,
     body: Body,
     world: &mut W,
 ) -> Result<Next, Memory>
     requires { body.next < usize.MAX }
-    ensures does { IfOk result (λ next. (keys : List made.SortKey) → Performs (W.state world.old).truth (Frame.Body body) (contents.planned_control (site_of site.now) (made.for_each (expr_of select.now) keys (instrs (map instr_of content.now.value.items))) (here_of body.here) (after_body body (left_in run.old))) run.old run.new next) }
+    ensures does { IfOk result (Performs (W.state world.old).truth (Frame.Body body) (contents.planned_control (site_of site.now) (made.for_each (expr_of select.now) (map sort_key_of keys.now.value.items) (instrs (map instr_of content.now.value.items))) (here_of body.here) (after_body body (left_in run.old))) run.old run.new) }
     ensures truth { (W.state world.new).truth ≡ (W.state world.old).truth }
     ensures name { W.name world.new ≡ W.name world.old }
 {
     match nodes(alloc, run, select, site, &body.here, world)? {
-        Came::Is(nodes) => {
-            let left = Loop {
-                place: copy_place(alloc, &site.place)?,
-                content: share_content(content)?,
-                nodes,
-                next: 0,
-                here: body.here.share()?,
-            };
-            push(run, Frame::Body(advanced(body)))?;
-            push(run, Frame::Loop(left))?;
-            Ok(Next::Went)
-        }
+        Came::Is(nodes) => for_nodes(alloc, run, site, keys, content, nodes, body),
         Came::Halts(why) => Ok(Next::Halt(why)),
         Came::Lacks(name) => {
             let depth = body.here.depth;
             lack(alloc, run, Frame::Body(body), name, depth, &site.place)
         }
+    }
+}
+
+/// Goes into the content for each of these nodes, once they are sorted.
+fn for_nodes(
+    alloc: Global,
+    run: &mut Run,
+    site: &Site,
+    keys: &Rc<Vec<SortKey>>,
+    content: &Rc<Vec<Instr>>,
+    nodes: Vec<NodeRef>,
+    body: Body,
+) -> Result<Next, Memory>
+    requires { body.next < usize.MAX }
+    ensures { IfOk result (λ next. (ask : question.Question NodeRef → question.Answer NodeRef) → Does ask (Put Ended (contents.sorted (map sort_key_of keys.now.value.items) (here_of body.here) nodes.items (λ ns. each (inside_at (site_of site.now).place (instrs (map instr_of content.now.value.items)) (length ns) (here_of body.here)) 1 ns (after_body body (left_in run.old))))) (suc (length run.old.frames.items)) run.old run.new next) }
+{
+    let place = copy_place(alloc, &site.place)?;
+    let content = share_content(content)?;
+    let here = body.here.share()?;
+    let inner = body.here.share()?;
+    push(run, Frame::Body(advanced(body)))?;
+    if keys.is_empty() {
+        let left = loop_over(place, content, nodes, inner);
+        push(run, Frame::Loop(left))?;
+        return Ok(Next::Went);
+    }
+    let to = Ordered::Loop(loop_over(place, content, Vec::new(alloc), inner));
+    let left = unsorted(alloc, share_keys(keys)?, here, nodes, to);
+    push(run, Frame::Sorting(left))?;
+    Ok(Next::Went)
+}
+
+/// A loop over these nodes, all of which are left. Takes no memory.
+fn loop_over(place: Place, content: Rc<Vec<Instr>>, nodes: Vec<NodeRef>, here: Standing) -> Loop
+    ensures { result ≡ record { place = place; content = content; nodes = nodes; next = 0; here = here } }
+{
+    Loop {
+        place,
+        content,
+        nodes,
+        next: 0,
+        here,
     }
 }
 
@@ -197,7 +232,7 @@ fn apply_to(
     body: Body,
 ) -> Result<Next, Memory>
     requires { body.next < usize.MAX }
-    ensures { IfOk result (λ next. (ask : question.Question NodeRef → question.Answer NodeRef) → let h = here_of body.here in Does ask (Put Ended (contents.passed (made.bindings (map binding_of bindings.now.value.items)) h [] (λ parameters. contents.applied_to (site_of site.now).place selection.now.mode parameters h.depth nodes.items (after_body body (left_in run.old))))) (suc (length run.old.frames.items)) run.old run.new next) }
+    ensures { IfOk result (λ next. (ask : question.Question NodeRef → question.Answer NodeRef) → let h = here_of body.here in Does ask (Put Ended (contents.passed (made.bindings (map binding_of bindings.now.value.items)) h [] (λ parameters. contents.sorted (map sort_key_of selection.now.keys.value.items) h nodes.items (λ ns. contents.applied_to (site_of site.now).place selection.now.mode parameters h.depth ns (after_body body (left_in run.old)))))) (suc (length run.old.frames.items)) run.old run.new next) }
 {
     let to = Application {
         place: copy_place(alloc, &site.place)?,
@@ -207,7 +242,12 @@ fn apply_to(
         next: 0,
         depth: body.here.depth,
     };
-    pass(run, bindings, Passing::Rules(to), body)
+    if selection.keys.is_empty() {
+        return pass(run, bindings, Passing::Rules(to), body);
+    }
+    let keys = share_keys(&selection.keys)?;
+    let here = body.here.share()?;
+    pass(run, bindings, Passing::Sorted(keys, here, to), body)
 }
 
 /// xsl:call-template (XSLT 1.0, section 6). A name that is no template's writes nothing.
@@ -267,7 +307,7 @@ fn call_element(
 }
 
 /// The current rule of a template that is called here: that of the instantiation where it is the current one.
-fn ruling_at(here: &Standing) -> Ruling
+pub(crate) fn ruling_at(here: &Standing) -> Ruling
     ensures { ruling_of result ≡ (if here.now.ruled then SameRule else RuleIs None) }
 {
     if here.ruled {

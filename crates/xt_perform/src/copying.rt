@@ -23,8 +23,8 @@ ghost use Rattle.xt_frames.specs.declared.frame.Frame.TheVariants as Frame;
 ghost use Rattle.xt_frames.specs.View.{here_of, inside, after_body, left_frame};
 ghost use Rattle.xt_frames.specs.Left.{left_in, Does, Performs};
 
-use crate::making::collect;
 use crate::namespaces::read_namespaces;
+use crate::sets::collect_with_sets;
 use crate::simple::{advanced, into_content};
 use spec_document::{Axis, Kind};
 use spec_expression::NodeType;
@@ -112,19 +112,20 @@ pub(crate) fn copy<W: World>(
     alloc: Global,
     run: &mut Run,
     site: &Site,
+    sets: &Vec<Expanded>,
     content: &Rc<Vec<Instr>>,
     body: Body,
     world: &mut W,
 ) -> Result<Next, Memory>
     requires { body.next < usize.MAX }
-    ensures does { IfOk result (Does (W.state world.old).truth (plan.Inquire (question.Name body.here.focus.node) (λ a. copied_as (here_of body.here) a (inside (site_of site.now).place (instrs (map instr_of content.now.value.items)) (here_of body.here)) (after_body body (left_in run.old)))) (suc (length run.old.frames.items)) run.old run.new) }
+    ensures does { IfOk result (Does (W.state world.old).truth (plan.Inquire (question.Name body.here.focus.node) (λ a. copied_as (site_of site.now).place (here_of body.here) sets.now.items a (inside (site_of site.now).place (instrs (map instr_of content.now.value.items)) (here_of body.here)) (after_body body (left_in run.old)))) (suc (length run.old.frames.items)) run.old run.new) }
     ensures truth { (W.state world.new).truth ≡ (W.state world.old).truth }
     ensures name { W.name world.new ≡ W.name world.old }
 {
     let answer = run
         .going
         .ask(alloc, world, Question::Name(body.here.focus.node))?;
-    copy_as(alloc, run, site, content, body, answer, world)
+    copy_as(alloc, run, site, sets, content, body, answer, world)
 }
 
 /// The copy of the current node, whose kind and names are these.
@@ -132,19 +133,20 @@ fn copy_as<W: World>(
     alloc: Global,
     run: &mut Run,
     site: &Site,
+    sets: &Vec<Expanded>,
     content: &Rc<Vec<Instr>>,
     body: Body,
     called: Answer,
     world: &mut W,
 ) -> Result<Next, Memory>
     requires { body.next < usize.MAX }
-    ensures does { IfOk result (Does (W.state world.old).truth (copied_as (here_of body.here) (answer_of called) (inside (site_of site.now).place (instrs (map instr_of content.now.value.items)) (here_of body.here)) (after_body body (left_in run.old))) (suc (length run.old.frames.items)) run.old run.new) }
+    ensures does { IfOk result (Does (W.state world.old).truth (copied_as (site_of site.now).place (here_of body.here) sets.now.items (answer_of called) (inside (site_of site.now).place (instrs (map instr_of content.now.value.items)) (here_of body.here)) (after_body body (left_in run.old))) (suc (length run.old.frames.items)) run.old run.new) }
     ensures truth { (W.state world.new).truth ≡ (W.state world.old).truth }
     ensures name { W.name world.new ≡ W.name world.old }
 {
     match kind_in(&called) {
         Kind::Root => into_content(alloc, run, site, content, body),
-        Kind::Element => copy_element(alloc, run, site, content, body, called, world),
+        Kind::Element => copy_element(alloc, run, site, sets, content, body, called, world),
         Kind::Attribute => copy_node(alloc, run, body, world),
         Kind::Namespace => copy_node(alloc, run, body, world),
         Kind::Text => copy_node(alloc, run, body, world),
@@ -168,13 +170,14 @@ fn copy_element<W: World>(
     alloc: Global,
     run: &mut Run,
     site: &Site,
+    sets: &Vec<Expanded>,
     content: &Rc<Vec<Instr>>,
     body: Body,
     called: Answer,
     world: &mut W,
 ) -> Result<Next, Memory>
     requires { body.next < usize.MAX }
-    ensures does { IfOk result (Does (W.state world.old).truth (element_copied (here_of body.here) (answer_of called) (inside (site_of site.now).place (instrs (map instr_of content.now.value.items)) (here_of body.here)) (after_body body (left_in run.old))) (suc (length run.old.frames.items)) run.old run.new) }
+    ensures does { IfOk result (Does (W.state world.old).truth (element_copied (site_of site.now).place (here_of body.here) sets.now.items (answer_of called) (inside (site_of site.now).place (instrs (map instr_of content.now.value.items)) (here_of body.here)) (after_body body (left_in run.old))) (suc (length run.old.frames.items)) run.old run.new) }
     ensures truth { (W.state world.new).truth ≡ (W.state world.old).truth }
     ensures name { W.name world.new ≡ W.name world.old }
 {
@@ -184,7 +187,7 @@ fn copy_element<W: World>(
     let nodes = answer.into_nodes(alloc);
     let namespaces = read_namespaces(alloc, &mut run.going, nodes.as_slice(), world)?;
     let end = element_called(alloc, called, namespaces)?;
-    collect(alloc, run, site, end, content, body)
+    collect_with_sets(alloc, run, site, sets, end, content, body)
 }
 
 /// The element of this name, with these namespace nodes.

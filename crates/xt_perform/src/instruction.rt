@@ -64,13 +64,15 @@ fn with_content<W: World>(
 {
     match what {
         WithContent::Literal(tag) => literal(alloc, run, site, tag, content, body),
-        WithContent::Element(name, _) => element(alloc, run, site, name, content, body, world),
+        WithContent::Element(name, sets) => {
+            element(alloc, run, site, name, sets, content, body, world)
+        }
         WithContent::Attribute(name) => attribute(alloc, run, site, name, content, body, world),
         WithContent::Comment => { collect(alloc, run, site, Wrapping::Comment, content, body) }
         WithContent::ProcessingInstruction(target) => {
             instruction(alloc, run, site, target, content, body, world)
         }
-        WithContent::Copy(_) => copy(alloc, run, site, content, body, world),
+        WithContent::Copy(sets) => copy(alloc, run, site, sets, content, body, world),
         WithContent::Variable(name, select) => {
             variable(alloc, run, site, name, select, content, body, world)
         }

@@ -1,4 +1,4 @@
-//! What each instruction does (XSLT 1.0, sections 5 to 9, 11 and 13). An instruction is a step of a run: it evaluates
+//! What each instruction does (XSLT 1.0, sections 5 to 11 and 13). An instruction is a step of a run: it evaluates
 //! its expressions, writes, and leaves its content as frames. Where an expression lacks a global, the frame of the
 //! instruction is left as it was, and nothing that it did stands.
 //!
@@ -7,6 +7,7 @@
 //! ```
 #![tactic(auto)]
 
+mod aliases;
 mod attributes;
 mod choose;
 mod control;
@@ -16,7 +17,9 @@ mod instruction;
 mod literal;
 mod making;
 mod namespaces;
+mod sets;
 mod simple;
+mod sorting;
 mod variables;
 
 pub use attributes::go_on_attributes;
@@ -24,3 +27,5 @@ pub use choose::choose_from;
 pub use copying::{kind_in, put_copy};
 pub use imports::{ruling_of_rule, target_of_rule};
 pub use instruction::perform;
+pub use sets::{go_on_inside, go_on_sets, used_sets};
+pub use sorting::{go_on_sorting, unsorted};

@@ -4,9 +4,8 @@ ghost use Rattle.spec_stylesheet.specs.Instruction as made;
 ghost use Rattle.spec_stylesheet.specs.Instruction.{instrs};
 ghost use Rattle.spec_meaning.specs.Question as question;
 ghost use Rattle.spec_result.specs.Shape.{with_prefix};
-ghost use Rattle.spec_run.specs.Plan.{AsElement};
-ghost use Rattle.spec_run.specs.Content.{planned_with};
-ghost use Rattle.xt_names.specs.View.{entry_of};
+ghost use Rattle.spec_run.specs.Content.{element_aliased, planned_with};
+ghost use Rattle.xp_syntax.specs.SheetView.{alias_of};
 ghost use Rattle.xp_syntax.specs.PartView.{site_of, literal_tag_of};
 ghost use Rattle.xp_syntax.specs.InstrView.{instr_of};
 ghost use Rattle.xt_tree.specs.declared.node_ref.NodeRef.{NodeRef};
@@ -14,16 +13,17 @@ ghost use Rattle.xt_run.specs.View.{wrapping_of};
 ghost use Rattle.xt_frames.specs.View.{here_of, inside, after_body};
 ghost use Rattle.xt_frames.specs.Left.{left_in, Does};
 
+use crate::aliases::{aliased_namespaces, aliased_prefix, aliased_uri};
+use crate::sets::{push_sets, used_sets};
 use crate::simple::advanced;
 use std::alloc::Global;
 use std::rc::Rc;
-use xp_syntax::{Instr, LiteralTag, Site};
+use xp_syntax::{Alias, Instr, LiteralTag, Site};
 use xt_frames::{Attributes, Body, Frame, Next, Run, push, share_content};
-use xt_names::Namespace;
 use xt_run::Wrapping;
 use xt_text::{Memory, Text};
 
-/// A literal result element: its sink begins, and its attributes come next.
+/// A literal result element: its sink begins, and the attribute sets that it uses and then its attributes come next.
 pub(crate) fn literal(
     alloc: Global,
     run: &mut Run,
@@ -36,7 +36,8 @@ pub(crate) fn literal(
     requires stands { slice_get (map instr_of body.content.value.items) body.next ≡ Some (record { site = site_of site.now; form = made.with_content (made.Literal (literal_tag_of tag.now)) (instrs (map instr_of content.now.value.items)) }) }
     ensures { IfOk result (λ next. (ask : question.Question NodeRef → question.Answer NodeRef) → Does ask (planned_with (site_of site.now) (here_of body.here) (made.Literal (literal_tag_of tag.now)) (inside (site_of site.now).place (instrs (map instr_of content.now.value.items)) (here_of body.here)) (after_body body (left_in run.old))) (suc (length run.old.frames.items)) run.old run.new next) }
 {
-    let end = element_of(alloc, tag)?;
+    let end = element_of(alloc, tag, body.here.unit.aliases.as_slice())?;
+    let sets = used_sets(alloc, &site.place, tag.sets.as_slice(), &body.here)?;
     let attributes = Attributes {
         content: share_content(&body.content)?,
         number: body.next,
@@ -47,16 +48,19 @@ pub(crate) fn literal(
     push(run, Frame::Body(advanced(body)))?;
     push(run, Frame::Wrap(end))?;
     push(run, Frame::Attributes(attributes))?;
+    push_sets(run, sets)?;
     Ok(Next::Went)
 }
 
-/// The element of a tag, without its attributes and its content.
-fn element_of(alloc: Global, tag: &LiteralTag) -> Result<Wrapping, Memory>
-    ensures { IfOk result (λ w. wrapping_of w ≡ AsElement (with_prefix tag.now.prefix tag.now.name.local) tag.now.name.uri (map entry_of tag.now.namespaces.items)) }
+/// The element of a tag in the result, without its attributes and its content.
+fn element_of(alloc: Global, tag: &LiteralTag, aliases: &[Alias]) -> Result<Wrapping, Memory>
+    ensures { IfOk result (λ w. wrapping_of w ≡ element_aliased (map alias_of aliases.now) (literal_tag_of tag.now)) }
 {
-    let name = written_name(alloc, &tag.prefix, tag.name.local())?;
-    let uri = tag.name.uri().copy(alloc)?;
-    let namespaces = copies(alloc, tag.namespaces.as_slice())?;
+    let own = tag.name.uri();
+    let prefix = aliased_prefix(aliases, &tag.prefix, own);
+    let name = written_name(alloc, prefix, tag.name.local())?;
+    let uri = aliased_uri(aliases, own).copy(alloc)?;
+    let namespaces = aliased_namespaces(alloc, aliases, tag.namespaces.as_slice())?;
     Ok(Wrapping::Element {
         name,
         uri,
@@ -75,23 +79,4 @@ pub(crate) fn written_name(alloc: Global, prefix: &Text, local: &Text) -> Result
     name.push(':')?;
     name.push_str(local.as_str())?;
     Ok(name)
-}
-
-fn copies(alloc: Global, namespaces: &[Namespace]) -> Result<Vec<Namespace>, Memory>
-    ensures { IfOk result (λ list. map entry_of list.items ≡ map entry_of namespaces.now) }
-{
-    let mut list = Vec::new(alloc);
-    for namespace in namespaces {
-        list.push(copy(alloc, namespace)?)?;
-    }
-    Ok(list)
-}
-
-fn copy(alloc: Global, namespace: &Namespace) -> Result<Namespace, Memory>
-    ensures { IfOk result (λ own. entry_of own ≡ entry_of namespace.now) }
-{
-    Ok(Namespace {
-        prefix: namespace.prefix.copy(alloc)?,
-        uri: namespace.uri.copy(alloc)?,
-    })
 }

@@ -1,7 +1,6 @@
 // What is made of contents: elements, attributes and processing instructions whose names are made, and messages
 // (XSLT 1.0, sections 7.1.2, 7.1.3, 7.3 and 13).
-ghost use Rattle.std.specs.Prelude.{◌≡◌, ◌<◌, ◌+◌, List, suc, length, map, IfOk};
-ghost use Rattle.spec_document.specs.Name.{Expanded};
+ghost use Rattle.std.specs.Prelude.{◌≡◌, ◌<◌, ◌+◌, suc, length, map, IfOk};
 ghost use Rattle.spec_stylesheet.specs.Instruction as made;
 ghost use Rattle.spec_stylesheet.specs.Instruction.{instrs};
 ghost use Rattle.spec_meaning.specs.Question as question;
@@ -15,12 +14,14 @@ ghost use Rattle.xt_frames.specs.declared.frame.Frame.TheVariants as Frame;
 ghost use Rattle.xt_frames.specs.View.{here_of, inside, after_body};
 ghost use Rattle.xt_frames.specs.Left.{left_in, Does, Performs};
 
+use crate::sets::collect_with_sets;
 use crate::simple::advanced;
 use std::alloc::Global;
 use std::rc::Rc;
 use xp_syntax::{Avt, Instr, MadeName, Site};
 use xt_ask::{World, copy_place};
 use xt_frames::{Body, Came, Frame, Next, Run, Standing, lack, sink};
+use xt_names::Expanded;
 use xt_run::Wrapping;
 use xt_text::Memory;
 
@@ -55,17 +56,18 @@ pub(crate) fn element<W: World>(
     run: &mut Run,
     site: &Site,
     name: &MadeName,
+    sets: &Vec<Expanded>,
     content: &Rc<Vec<Instr>>,
     body: Body,
     world: &mut W,
 ) -> Result<Next, Memory>
     requires { body.next < usize.MAX }
-    ensures does { IfOk result (λ next. (sets : List Expanded) → Performs (W.state world.old).truth (Frame.Body body) (planned_with (site_of site.now) (here_of body.here) (made.Element (made_name_of name.now) sets) (inside (site_of site.now).place (instrs (map instr_of content.now.value.items)) (here_of body.here)) (after_body body (left_in run.old))) run.old run.new next) }
+    ensures does { IfOk result (Performs (W.state world.old).truth (Frame.Body body) (planned_with (site_of site.now) (here_of body.here) (made.Element (made_name_of name.now) sets.now.items) (inside (site_of site.now).place (instrs (map instr_of content.now.value.items)) (here_of body.here)) (after_body body (left_in run.old))) run.old run.new) }
     ensures truth { (W.state world.new).truth ≡ (W.state world.old).truth }
     ensures name { W.name world.new ≡ W.name world.old }
 {
     match xt_frames::element(alloc, run, name, site, &body.here, world)? {
-        Came::Is(end) => collect(alloc, run, site, end, content, body),
+        Came::Is(end) => { collect_with_sets(alloc, run, site, sets, end, content, body) }
         Came::Halts(why) => Ok(Next::Halt(why)),
         Came::Lacks(name) => {
             let depth = body.here.depth;

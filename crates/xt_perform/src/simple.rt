@@ -1,4 +1,4 @@
-// Instructions without a content (XSLT 1.0, sections 5.6, 7.2, 7.6.1 and 11.3).
+// Instructions without a content (XSLT 1.0, sections 5.6, 7.2, 7.6.1, 7.7 and 11.3).
 ghost use Rattle.std.specs.Prelude.{◌≡◌, ◌<◌, ◌+◌, suc, length, map, IfOk};
 ghost use Rattle.spec_stylesheet.specs.Instruction as made;
 ghost use Rattle.spec_stylesheet.specs.Instruction.{instrs};
@@ -7,7 +7,7 @@ ghost use Rattle.spec_meaning.specs.Stream.{Ended};
 ghost use Rattle.spec_run.specs.Plan.{Put};
 ghost use Rattle.spec_run.specs.Content.{planned_without};
 ghost use Rattle.xp_syntax.specs.View.{expr_of};
-ghost use Rattle.xp_syntax.specs.PartView.{site_of, without_content_of};
+ghost use Rattle.xp_syntax.specs.PartView.{site_of, numbering_of, without_content_of};
 ghost use Rattle.xp_syntax.specs.InstrView.{instr_of};
 ghost use Rattle.xt_tree.specs.declared.node_ref.NodeRef.{NodeRef};
 ghost use Rattle.xt_frames.specs.declared.frame.Frame.TheVariants as Frame;
@@ -18,7 +18,7 @@ use crate::copying::write_value;
 use crate::imports::apply_imports;
 use std::alloc::Global;
 use std::rc::Rc;
-use xp_syntax::{Expr, Instr, Site, WithoutContent};
+use xp_syntax::{Expr, Instr, Numbering, Site, WithoutContent};
 use xt_ask::World;
 use xt_frames::{
     Body, Came, Frame, Next, Run, go_into, lack, push, share_content, text, value, write_text,
@@ -84,7 +84,7 @@ pub(crate) fn without_content<W: World>(
         }
         WithoutContent::ValueOf(select) => value_of(alloc, run, site, select, body, world),
         WithoutContent::CopyOf(select) => copy_of(alloc, run, site, select, body, world),
-        WithoutContent::Number(_) => nothing(run, body),
+        WithoutContent::Number(numbering) => number(alloc, run, site, numbering, body, world),
         WithoutContent::ApplyImports => apply_imports(alloc, run, site, body, world),
         WithoutContent::Fallback => nothing(run, body),
     }
@@ -105,6 +105,30 @@ fn value_of<W: World>(
     ensures name { W.name world.new ≡ W.name world.old }
 {
     match text(alloc, run, select, site, &body.here, world)? {
+        Came::Is(text) => write_text(run, text, Frame::Body(advanced(body))),
+        Came::Halts(why) => Ok(Next::Halt(why)),
+        Came::Lacks(name) => {
+            let depth = body.here.depth;
+            lack(alloc, run, Frame::Body(body), name, depth, &site.place)
+        }
+    }
+}
+
+/// xsl:number (XSLT 1.0, section 7.7).
+fn number<W: World>(
+    alloc: Global,
+    run: &mut Run,
+    site: &Site,
+    numbering: &Numbering,
+    body: Body,
+    world: &mut W,
+) -> Result<Next, Memory>
+    requires { body.next < usize.MAX }
+    ensures does { IfOk result (Performs (W.state world.old).truth (Frame.Body body) (planned_without (site_of site.now) (here_of body.here) (made.Number (numbering_of numbering.now)) (after_body body (left_in run.old))) run.old run.new) }
+    ensures truth { (W.state world.new).truth ≡ (W.state world.old).truth }
+    ensures name { W.name world.new ≡ W.name world.old }
+{
+    match xt_frames::number(alloc, run, numbering, site, &body.here, world)? {
         Came::Is(text) => write_text(run, text, Frame::Body(advanced(body))),
         Came::Halts(why) => Ok(Next::Halt(why)),
         Came::Lacks(name) => {

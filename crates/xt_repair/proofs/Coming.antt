@@ -20,6 +20,7 @@ use Rattle.spec_run.specs.Outcome.{Comes, document_of, outcome_by, refused_stati
 use Rattle.spec_run.specs.World.{setting_of}
 use Rattle.xt_tree.specs.Numbers.{IsNumbered}
 use Rattle.xt_tree.specs.declared.node_ref.NodeRef.{NodeRef}
+use Rattle.xp_axes.specs.View.{same_ref}
 use Rattle.xt_text.specs.declared.memory.Memory.{Memory}
 use Rattle.xp_syntax.specs.SheetView.{space_rules_of}
 use Rattle.xp_syntax.specs.declared.space_rules.SpaceRules.{SpaceRules}
@@ -34,8 +35,7 @@ use Rattle.xt_world.specs.Numbered.{ref_to, setting_by_numbers, truth_by_numbers
 use Rattle.xt_world.specs.View.{truth_in}
 use Rattle.xt_world.specs.declared.stylesheet.Stylesheet as world
 use Rattle.xt_repair.specs.OutcomeView.{outcome_of, plain_in}
-use Rattle.xt_repair.specs.Refusal.{IsThere}
-use Rattle.xt_repair.specs.StylesheetView.{AnswersAs, AreCompiled, AreCompiledBy, Holds, IsCompiledFrom}
+use Rattle.xt_repair.specs.StylesheetView.{AnswersAs, AreCompiled, AreCompiledBy, Holds, IsCompiledFrom, IsThere}
 use Rattle.xt_repair.specs.declared.outcome.Outcome.{Outcome}
 use Rattle.xt_repair.specs.declared.tried.Tried.{Tried}
 use Rattle.xt_repair.specs.declared.stylesheet.Compiled.{Compiled}
@@ -147,7 +147,7 @@ pub same_whole : SameRun → (parameters : Parameters) (document : Document ℕ)
 same_whole same parameters document numbered held sheet answers root is globals are =
     let named = ap (map named_of) are ∙ answers.globals in
     let setting : setting_in (truth_in held parameters document) root globals ≡ setting_by_numbers sheet parameters document
-    = λ i. record { ask = λ q. answers.truth parameters document q i; root = is i; globals = named i } in
+    = λ i. record { ask = λ q. answers.truth parameters document q i; same = same_ref; root = is i; globals = named i } in
     ap run_of setting ∙ same sheet parameters document numbered
 
 weaker : (r : Result Whole Memory) (a b : means.Whole) → a ≡ b → IfOk r (λ w. whole_of w ≡ a) → IfOk r (λ w. whole_of w ≡ b)

@@ -9,8 +9,7 @@ use Rattle.spec_run.specs.Outcome.{Comes, IsOutcome}
 use Rattle.xt_import.specs.View.{is_name, modules_in, plain_of}
 use Rattle.xt_world.specs.ParameterView.{parameters_of}
 use Rattle.xt_repair.specs.OutcomeView.{outcome_of}
-use Rattle.xt_repair.specs.Refusal.{IsThere}
-use Rattle.xt_repair.specs.StylesheetView.{AreCompiled, without_one}
+use Rattle.xt_repair.specs.StylesheetView.{AreCompiled, IsThere, without_one}
 use Rattle.xt_repair.specs.Tried.{AreSame}
 use Rattle.xt_tree.specs.declared.node_ref.NodeId.{NodeId}
 use Rattle.xt_repair.specs.View.{AreAllBelow, HasBelow, IsCurrent, IsKept, IsReady, documents_of, made_of, outcome_in}

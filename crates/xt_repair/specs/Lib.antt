@@ -1,5 +1,4 @@
 pub mod Unread
-pub mod Refusal
 pub mod StylesheetView
 pub mod OutcomeView
 pub mod Tried

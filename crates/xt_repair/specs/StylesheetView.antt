@@ -4,16 +4,13 @@ use Rattle.spec_document.specs.Forest.{Plain, Document}
 use Rattle.spec_stylesheet.specs.Sheet as plain
 use Rattle.spec_structure.specs.Modules.{Modules}
 use Rattle.spec_compile.specs.Sheet as compile
+use Rattle.spec_compile.specs.Sheet.{IsSheet}
 use Rattle.spec_meaning.specs.Question.{Question}
 use Rattle.spec_run.specs.Documents.{Parameters, main_name}
-use Rattle.spec_run.specs.Outcome.{IsStylesheet}
 use Rattle.spec_run.specs.World.{globals_of}
 use Rattle.xt_tree.specs.declared.node_ref.NodeRef.{NodeRef}
-use Rattle.xp_syntax.specs.SheetView.{sheet_of, space_rules_of}
-use Rattle.xp_syntax.specs.declared.sheet.Sheet.{Sheet}
+use Rattle.xp_syntax.specs.SheetView.{space_rules_of}
 use Rattle.xt_compile.specs.View.{refusal_in}
-use Rattle.xt_compile.specs.declared.fault.SheetFault.{SheetFault}
-use Rattle.xt_compile.specs.declared.fault.SheetFault.TheVariants as faults
 use Rattle.xt_run.specs.View.{named_of}
 use Rattle.xt_world.specs.Numbered.{element_called, truth_by_numbers}
 use Rattle.xt_world.specs.View.{truth_in}
@@ -29,15 +26,9 @@ with_one name nodes modules = λ other. if bytes_eq other name then Some nodes e
 abbrev pub without_one : List ℕ → Modules → Modules
 without_one name modules = λ other. if bytes_eq other name then None else modules other
 
--- a call gives the stylesheet that modules are, or their refusal. Of want of memory it says nothing
-abbrev pub IsSheetSo : Modules → Result Sheet SheetFault → Type 0
-IsSheetSo modules (Ok sheet) = IsStylesheet modules main_name (Ok (sheet_of sheet))
-IsSheetSo modules (Err (faults.Refused why)) = IsStylesheet modules main_name (Err (refusal_in why))
-IsSheetSo modules (Err faults.NoMain) = modules main_name ≡ None
-IsSheetSo modules (Err faults.Memory) = Unit {0}
-
-pub record IsSheetOf (modules : Modules) (result : Result Sheet SheetFault) : Type 0 where
-  pub so : IsSheetSo modules result
+-- there is a module of this name
+abbrev pub IsThere : Modules → List ℕ → Type 0
+IsThere modules name = (tree : Plain) × (modules name ≡ Some tree)
 
 -- in the world of any source, with any parameters, it answers as this stylesheet does, and it has the globals of that
 pub record AnswersAs (held : world.Stylesheet) (sheet : plain.Sheet) : Type 0 where
@@ -53,7 +44,7 @@ Holds (Refused why) result = result ≡ Err (refusal_in why)
 -- it is what modules are
 pub record IsCompiledFrom (modules : Modules) (compiled : Compiled) : Type 0 where
   pub result : Result plain.Sheet compile.Refusal
-  pub is : IsStylesheet modules main_name result
+  pub is : IsSheet modules main_name result
   pub holds : Holds compiled result
 
 -- there is something where there is a principal module

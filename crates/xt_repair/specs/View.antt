@@ -21,8 +21,7 @@ use Rattle.xt_edit.specs.declared.fault.EditFault.TheVariants as faults
 use Rattle.xt_import.specs.View.{is_name, modules_in, plain_of}
 use Rattle.xt_world.specs.ParameterView.{HasRoomForOne, parameters_of}
 use Rattle.xt_repair.specs.OutcomeView.{outcome_of}
-use Rattle.xt_repair.specs.Refusal.{IsThere}
-use Rattle.xt_repair.specs.StylesheetView.{AreCompiled}
+use Rattle.xt_repair.specs.StylesheetView.{AreCompiled, IsThere}
 use Rattle.xt_repair.specs.declared.held.Held.{Held}
 use Rattle.xt_repair.specs.declared.name.DocName.{DocName}
 use Rattle.xt_repair.specs.declared.name.DocName.TheVariants as names

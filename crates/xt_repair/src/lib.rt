@@ -21,7 +21,6 @@ mod name;
 mod outcome;
 mod parameter;
 mod ready;
-mod refusal;
 mod stylesheet;
 mod tried;
 mod unread;

@@ -2,11 +2,10 @@
 ghost use Rattle.std.specs.Prelude.{◌≡◌, IfOk, Ok};
 ghost use Rattle.spec_run.specs.Documents.{main_name};
 ghost use Rattle.xp_syntax.specs.SheetView.{sheet_of};
+ghost use Rattle.xt_compile.specs.View.{IsCompiled};
 ghost use Rattle.xt_import.specs.View.{modules_in};
-ghost use Rattle.xt_repair.specs.Refusal.{IsThere};
-ghost use Rattle.xt_repair.specs.StylesheetView.{AreCompiled, Holds, IsCompiledFrom, IsSheetOf};
+ghost use Rattle.xt_repair.specs.StylesheetView.{AreCompiled, Holds, IsCompiledFrom, IsThere};
 
-use crate::refusal::refusal_before;
 use indexmap::IndexMap;
 use std::alloc::Global;
 use xp_syntax::{Method, Sheet, SpaceRules};
@@ -17,7 +16,7 @@ use xt_tree::Doc;
 use xt_world::Stylesheet;
 
 // The name of the principal module.
-pub(crate) const MAIN: &str = "main";
+const MAIN: &str = "main";
 
 /// What modules are.
 #[derive(Drop)]
@@ -54,17 +53,12 @@ fn compiled_main(alloc: Global, modules: &IndexMap<String, Doc>) -> Result<Compi
     }
 }
 
-// The stylesheet of the modules. What is not run yet is a fault of the first pass of the module in which it stands.
+// The stylesheet of the modules, of which `main` is the principal one.
 fn sheet_of_main(alloc: Global, modules: &IndexMap<String, Doc>) -> Result<Sheet, SheetFault>
-    ensures { IsSheetOf (modules_in modules.now.entries) result }
+    ensures { IsCompiled (modules_in modules.now.entries) main_name result }
 {
-    match refusal_before(alloc, modules)? {
-        None => {
-            let main = Text::from_str(alloc, MAIN)?;
-            sheet(alloc, modules, &main)
-        }
-        Some(refusal) => Err(SheetFault::Refused(refusal)),
-    }
+    let main = Text::from_str(alloc, MAIN)?;
+    sheet(alloc, modules, &main)
 }
 
 // The stylesheet made ready to be run. The run asks neither for its rules of white space nor for its method.

@@ -11,6 +11,7 @@ use Rattle.spec_run.specs.Going.{Going, at_start, opened, given}
 use Rattle.spec_run.specs.Meaning.{current_by}
 use Rattle.spec_run.specs.Content.{plan_of}
 use Rattle.xt_tree.specs.declared.node_ref.NodeRef.{NodeRef}
+use Rattle.xp_axes.specs.View.{same_ref}
 
 -- what a run waits for
 pub data Waiting (N : Type 0) : Type 0 where
@@ -39,7 +40,7 @@ abbrev pub supplies_for : {N : Type 0} → Call N → Supplies N
 supplies_for c = record { position = unwrap_or c.position 1; size = unwrap_or c.size 1; rule = current_by c.ruling; globals = [] }
 
 abbrev pub started : Call NodeRef → ℕ → Progress
-started c room = record { left = plan_of c; going = at_start; supplies = supplies_for c; waits = ForNothing; room = room }
+started c room = record { left = plan_of same_ref c; going = at_start; supplies = supplies_for c; waits = ForNothing; room = room }
 
 -- where a run goes on from, or that it is refused
 pub data Start (N : Type 0) : Type 0 where

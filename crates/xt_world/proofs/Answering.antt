@@ -8,7 +8,7 @@ use Rattle.std.specs.Global.{Global}
 use Rattle.spec_document.specs.Name.{Expanded}
 use Rattle.spec_document.specs.Forest.{Document}
 use Rattle.spec_document.specs.Order.{Entry, entries_of}
-use Rattle.spec_stylesheet.specs.Sheet.{Unit as Piece, Rule, Sheet}
+use Rattle.spec_stylesheet.specs.Sheet.{Alias, Unit as Piece, Rule, Sheet}
 use Rattle.spec_stylesheet.specs.Sheet as sheets
 use Rattle.spec_meaning.specs.Question as question
 use Rattle.spec_meaning.specs.Question.{Question, Answer, Chosen, Candidates, ChosenRule}
@@ -38,7 +38,7 @@ use Rattle.xt_world.proofs.Turns.{unit_is}
 -- the stylesheet holds what its units and rules are
 pub record IsOf (sheet : Sheet) (s : Stylesheet) : Type 0 where
   pub elements : s.elements.items ≡ called_among sheet.units sheet.units
-  pub units : map (λ (r : Rc ResolvedUnit Global). resolved_of r.value) s.units.items ≡ resolved_among sheet.units sheet.units
+  pub units : map (λ (r : Rc ResolvedUnit Global). resolved_of r.value) s.units.items ≡ resolved_among sheet.aliases sheet.units sheet.units
   pub rules : rules_of s.rules ≡ sheet.rules
 
 -- ---- units
@@ -47,13 +47,13 @@ units_of : (rs : List (Rc ResolvedUnit Global))
 units_of [] = refl
 units_of (r ∷ rs) = ap (λ (l : List Piece). unit_in r ∷ l) (units_of rs)
 
-unresolved : (all us : List Piece) → map (λ (u : question.ResolvedUnit NodeRef). u.unit) (resolved_among all us) ≡ us
-unresolved all [] = refl
-unresolved all (u ∷ us) = ap (λ (l : List Piece). u ∷ l) (unresolved all us)
+unresolved : (aliases : List Alias) (all us : List Piece) → map (λ (u : question.ResolvedUnit NodeRef). u.unit) (resolved_among aliases all us) ≡ us
+unresolved aliases all [] = refl
+unresolved aliases all (u ∷ us) = ap (λ (l : List Piece). u ∷ l) (unresolved aliases all us)
 
 units_are : (sheet : Sheet) (s : Stylesheet) → IsOf sheet s → units_in s.units.items ≡ sheet.units
 units_are sheet s h =
-    units_of s.units.items ∙ ap (map (λ (u : question.ResolvedUnit NodeRef). u.unit)) h.units ∙ unresolved sheet.units sheet.units
+    units_of s.units.items ∙ ap (map (λ (u : question.ResolvedUnit NodeRef). u.unit)) h.units ∙ unresolved sheet.aliases sheet.units sheet.units
 
 -- ---- rules
 chosen_is : (us : List Piece) (rule : Rule) (o : Option Piece)
@@ -116,7 +116,7 @@ truth_is sheet s h parameters document (question.Choice node mode candidates) =
     ap (λ (a : Answer NodeRef). told_of (λ (e : Entry ℕ). a) (entry_named ref_of same_ref (entries_of document) node))
     (choice_is sheet s h document node mode candidates)
 truth_is sheet s h parameters document (question.Copy node) = refl
-truth_is sheet s h parameters document (question.Unit element) = unit_is sheet.units element s.elements.items s.units.items h.elements h.units
+truth_is sheet s h parameters document (question.Unit element) = unit_is sheet.aliases sheet.units element s.elements.items s.units.items h.elements h.units
 truth_is sheet s h parameters document (question.External name) = refl
 
 -- what the source answers, among the questions of the program

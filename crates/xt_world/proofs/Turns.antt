@@ -8,7 +8,7 @@ use Rattle.std.proofs.lemmas.Option.{slice_get-map}
 use Rattle.std.specs.declared.rc.Rc.{Rc}
 use Rattle.std.specs.Global.{Global}
 use Rattle.spec_stylesheet.specs.Place.{Place}
-use Rattle.spec_stylesheet.specs.Sheet.{Unit as Piece}
+use Rattle.spec_stylesheet.specs.Sheet.{Alias, Unit as Piece}
 use Rattle.spec_meaning.specs.Question as question
 use Rattle.spec_meaning.specs.Question.{Answer, Gone, Resolved}
 use Rattle.spec_run.specs.World.{same_element, unit_at, unit_by}
@@ -127,26 +127,26 @@ told_as element None unit = refl
 told_as element (Some name) None = refl
 told_as element (Some name) (Some unit) = refl
 
-at_turn : (us : List Piece) (element : NodeRef) (o : Option Piece)
-    → called_so element (option_map (λ (u : Piece). element_called us u.site.place) o) (option_map (λ (u : Piece). resolved_by us u) o)
-    ≡ unit_by (element_called us) us (picked (λ (u : Piece). same_ref element (element_called us u.site.place)) o)
-at_turn us element None = refl
-at_turn us element (Some u) = by (same_ref element (element_called us u.site.place))
+at_turn : (aliases : List Alias) (us : List Piece) (element : NodeRef) (o : Option Piece)
+    → called_so element (option_map (λ (u : Piece). element_called us u.site.place) o) (option_map (λ (u : Piece). resolved_by aliases us u) o)
+    ≡ unit_by (element_called us) aliases us (picked (λ (u : Piece). same_ref element (element_called us u.site.place)) o)
+at_turn aliases us element None = refl
+at_turn aliases us element (Some u) = by (same_ref element (element_called us u.site.place))
   where
-    by : (b : Bool) → cond b (Resolved (resolved_by us u)) Gone ≡ unit_by (element_called us) us (cond b (Some u) None)
+    by : (b : Bool) → cond b (Resolved (resolved_by aliases us u)) Gone ≡ unit_by (element_called us) aliases us (cond b (Some u) None)
     by true = refl
     by false = refl
 
-pub unit_is : (us : List Piece) (element : NodeRef) (names : List NodeRef) (rs : List (Rc ResolvedUnit Global)) → names ≡ called_among us us
-    → map (λ (r : Rc ResolvedUnit Global). resolved_of r.value) rs ≡ resolved_among us us
+pub unit_is : (aliases : List Alias) (us : List Piece) (element : NodeRef) (names : List NodeRef) (rs : List (Rc ResolvedUnit Global)) → names ≡ called_among us us
+    → map (λ (r : Rc ResolvedUnit Global). resolved_of r.value) rs ≡ resolved_among aliases us us
     → unit_called element (slice_get names element.node.number) (slice_get rs element.node.number)
-    ≡ unit_at (element_called us) same_ref us element
-unit_is us element names rs named are =
+    ≡ unit_at (element_called us) same_ref aliases us element
+unit_is aliases us element names rs named are =
     let k = element.node.number in
     let name = ap (λ (l : List NodeRef). slice_get l k) named ∙ slice_get-map (λ (u : Piece). element_called us u.site.place) us k in
     let unit =
     sym (slice_get-map (λ (r : Rc ResolvedUnit Global). resolved_of r.value) rs k)
-    ∙ ap (λ (l : List (question.ResolvedUnit NodeRef)). slice_get l k) are ∙ slice_get-map (λ (u : Piece). resolved_by us u) us k in
-    told_as element (slice_get names k) (slice_get rs k) ∙ (λ i. called_so element (name i) (unit i)) ∙ at_turn us element (slice_get us k)
-    ∙ ap (λ (o : Option Piece). unit_by (element_called us) us o)
+    ∙ ap (λ (l : List (question.ResolvedUnit NodeRef)). slice_get l k) are ∙ slice_get-map (λ (u : Piece). resolved_by aliases us u) us k in
+    told_as element (slice_get names k) (slice_get rs k) ∙ (λ i. called_so element (name i) (unit i)) ∙ at_turn aliases us element (slice_get us k)
+    ∙ ap (λ (o : Option Piece). unit_by (element_called us) aliases us o)
     (sym (found (same_part element.part (part.Attribute 0)) k us (λ p. false) 0 k (omega arith)))

@@ -29,4 +29,9 @@ truth_by_numbers s parameters document = truth_by ref_of same_ref (element_calle
 
 abbrev pub setting_by_numbers : Sheet → Parameters → Document ℕ → Setting NodeRef
 setting_by_numbers s parameters document =
-    record { ask = truth_by_numbers s parameters document; root = ref_to document.root; globals = globals_of (element_called s.units) s.units }
+    record {
+      ask = truth_by_numbers s parameters document;
+      same = same_ref;
+      root = ref_to document.root;
+      globals = globals_of (element_called s.units) s.units;
+    }

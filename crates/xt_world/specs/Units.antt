@@ -1,23 +1,29 @@
 -- The units of a stylesheet, and what their names name.
-use Rattle.std.specs.Prelude.{List, [], map}
-use Rattle.std.specs.List.{flat_map}
+use Rattle.std.specs.Prelude.{List, map}
+use Rattle.std.specs.List.{filter, flat_map}
 use Rattle.std.specs.declared.rc.Rc.{Rc}
+use Rattle.std.specs.declared.vec.Vec.{Vec}
 use Rattle.std.specs.Global.{Global}
 use Rattle.std.specs.Borrow.{Bor}
+use Rattle.spec_document.specs.Name.{Expanded}
 use Rattle.spec_stylesheet.specs.Place as stylesheet
 use Rattle.spec_stylesheet.specs.Sheet as sheet
 use Rattle.spec_meaning.specs.Question as question
 use Rattle.spec_run.specs.Meaning.{NamedGlobal}
-use Rattle.spec_run.specs.World.{templates_called, called_in_unit, counts, global_by, global_in, globals_of}
+use Rattle.spec_run.specs.World.{global_by, global_in, globals_of, is_set, resolved_in}
 use Rattle.xt_tree.specs.declared.node_ref.NodeRef.{NodeRef}
-use Rattle.xp_syntax.specs.SheetView.{unit_of}
+use Rattle.xp_syntax.specs.SheetView.{alias_of, unit_of}
 use Rattle.xp_syntax.specs.PartView.{place_of}
+use Rattle.xp_syntax.specs.declared.sheet.Alias.{Alias}
 use Rattle.xp_syntax.specs.declared.unit.Unit.{Unit}
 use Rattle.xt_base.specs.declared.place.Place.{Place}
 use Rattle.xt_world.specs.Numbered.{element_called}
 
 abbrev pub plain_units : List (Rc Unit Global) → List sheet.Unit
 plain_units units = map (λ u. unit_of u.value) units
+
+abbrev pub plain_aliases : Rc (Vec Alias Global) Global → List sheet.Alias
+plain_aliases aliases = map alias_of aliases.value.items
 
 abbrev pub place_in : Bor Place → stylesheet.Place
 place_in place = place_of place.now
@@ -30,18 +36,17 @@ called_among units some = map (λ u. element_called units u.site.place) some
 abbrev pub global_before : List sheet.Unit → sheet.Unit → List sheet.Unit → List (NamedGlobal NodeRef)
 global_before units u later = flat_map (global_by (element_called units) u later) (global_in u.declared)
 
+-- the elements of the attribute sets of a name among some units of a stylesheet
+abbrev pub elements_named : List sheet.Unit → Expanded → List sheet.Unit → List NodeRef
+elements_named units name some = map (λ u. element_called units u.site.place) (filter (λ u. is_set name u.declared) some)
+
 -- a unit with what its names name
-abbrev pub resolved_by : List sheet.Unit → sheet.Unit → question.ResolvedUnit NodeRef
-resolved_by units u = record {
-  unit = u;
-  templates = templates_called (element_called units) units (called_in_unit u.declared);
-  sets = [];
-  counts = counts units u;
-}
+abbrev pub resolved_by : List sheet.Alias → List sheet.Unit → sheet.Unit → question.ResolvedUnit NodeRef
+resolved_by aliases units u = resolved_in (element_called units) aliases units u
 
 -- the globals that count among some units of a stylesheet
 abbrev pub globals_among : List sheet.Unit → List sheet.Unit → List (NamedGlobal NodeRef)
 globals_among units some = globals_of (element_called units) some
 
-abbrev pub resolved_among : List sheet.Unit → List sheet.Unit → List (question.ResolvedUnit NodeRef)
-resolved_among units some = map (λ u. resolved_by units u) some
+abbrev pub resolved_among : List sheet.Alias → List sheet.Unit → List sheet.Unit → List (question.ResolvedUnit NodeRef)
+resolved_among aliases units some = map (λ u. resolved_by aliases units u) some

@@ -16,6 +16,7 @@ mod parameters;
 mod resolve;
 mod source;
 mod stylesheet;
+mod used;
 mod world;
 
 pub use laws::same_run;

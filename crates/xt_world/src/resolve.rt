@@ -5,15 +5,16 @@ ghost use Rattle.std.specs.Option.{option_map};
 ghost use Rattle.spec_run.specs.World as definition;
 ghost use Rattle.xp_syntax.specs.PartView.{place_of};
 ghost use Rattle.xp_syntax.specs.SheetView.{declared_of, global_of, unit_of};
-ghost use Rattle.xt_ask.specs.View.{template_of, resolved_of};
+ghost use Rattle.xt_ask.specs.View.{template_of, sets_of, resolved_of};
 ghost use Rattle.xt_world.specs.Numbered.{element_called, index_from};
-ghost use Rattle.xt_world.specs.Units.{place_in, plain_units, resolved_by};
+ghost use Rattle.xt_world.specs.Units.{elements_named, place_in, plain_aliases, plain_units, resolved_by};
 
 use crate::called::add_called;
+use crate::used::add_used;
 use std::alloc::Global;
 use std::rc::Rc;
-use xp_syntax::{Declared, GlobalBinding, Unit};
-use xt_ask::{NamedTemplate, ResolvedUnit, copy_name};
+use xp_syntax::{Alias, Declared, GlobalBinding, Unit};
+use xt_ask::{NamedSets, NamedTemplate, ResolvedUnit, copy_name};
 use xt_base::Place;
 use xt_names::Expanded;
 use xt_text::Memory;
@@ -69,6 +70,15 @@ fn is_global(name: &Expanded, declared: &Declared) -> bool
 {
     match declared {
         Declared::Global(global) => global.binding.name.same(name),
+        _ => false,
+    }
+}
+
+fn is_set(name: &Expanded, declared: &Declared) -> bool
+    ensures { result ≡ definition.is_set name.now (declared_of declared.now) }
+{
+    match declared {
+        Declared::AttributeSet(set) => set.name.same(name),
         _ => false,
     }
 }
@@ -148,6 +158,45 @@ fn templates_called(
     Ok(templates)
 }
 
+/// The elements of all attribute sets of this name, in the order of the units (XSLT 1.0, section 7.1.4).
+fn sets_named(alloc: Global, units: &[Rc<Unit>], name: &Expanded) -> Result<Vec<NodeRef>, Memory>
+    ensures { IfOk result (λ list. list.items ≡ elements_named (plain_units units.now) name.now (plain_units units.now)) }
+{
+    let mut elements = Vec::new(alloc);
+    for unit in units {
+        if is_set(name, &unit.declared) {
+            elements.push(element_called(units, &unit.site.place))?;
+        }
+    }
+    Ok(elements)
+}
+
+/// All attribute sets of this name.
+fn named_sets(alloc: Global, units: &[Rc<Unit>], name: Expanded) -> Result<NamedSets, Memory>
+    ensures { IfOk result (λ sets. sets_of sets ≡ definition.sets_of_name (element_called (plain_units units.now)) (plain_units units.now) name) }
+{
+    let elements = sets_named(alloc, units, &name)?;
+    Ok(NamedSets { name, elements })
+}
+
+/// The attribute sets that a unit uses.
+fn sets_used(
+    alloc: Global,
+    units: &[Rc<Unit>],
+    declared: &Declared,
+) -> Result<Vec<NamedSets>, Memory>
+    ensures { IfOk result (λ list. map sets_of list.items ≡ definition.sets_used (element_called (plain_units units.now)) (plain_units units.now) (definition.used_in_unit (declared_of declared.now))) }
+{
+    let mut names = Vec::new(alloc);
+    add_used(alloc, declared, &mut names)?;
+    let mut sets = Vec::new(alloc);
+    for name in names {
+        let named = named_sets(alloc, units, name)?;
+        sets.push(named)?;
+    }
+    Ok(sets)
+}
+
 // Whether the last of its name is the one that stands at this place.
 fn is_last(place: &Place, last: Option<&Place>) -> bool
     ensures { result ≡ definition.is_element (place_of place.now) (option_map place_in last.entry) }
@@ -180,20 +229,23 @@ fn counts(units: &[Rc<Unit>], unit: &Unit) -> bool
     }
 }
 
-/// A unit with what its names name.
+/// A unit with what its names name. The aliases are shared.
 pub fn resolve(
     alloc: Global,
+    aliases: &Rc<Vec<Alias>>,
     units: &[Rc<Unit>],
     unit: &Rc<Unit>,
 ) -> Result<Rc<ResolvedUnit>, Memory>
-    ensures { IfOk result (λ r. resolved_of r.value ≡ resolved_by (plain_units units.now) (unit_of unit.now.value)) }
+    ensures { IfOk result (λ r. resolved_of r.value ≡ resolved_by (plain_aliases aliases.now) (plain_units units.now) (unit_of unit.now.value)) }
 {
     let templates = templates_called(alloc, units, &unit.declared)?;
+    let sets = sets_used(alloc, units, &unit.declared)?;
     let counts = counts(units, unit);
     let resolved = ResolvedUnit {
         unit: unit.clone()?,
         templates,
-        sets: Vec::new(alloc),
+        sets,
+        aliases: aliases.clone()?,
         counts,
     };
     Ok(Rc::new(alloc, resolved)?)

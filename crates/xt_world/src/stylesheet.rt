@@ -10,13 +10,13 @@ ghost use Rattle.xt_ask.specs.View.{resolved_of};
 ghost use Rattle.xt_tree.specs.declared.node_ref.NodeRef.{NodeRef};
 ghost use Rattle.xt_world.specs.Numbered.{element_called, truth_by_numbers};
 ghost use Rattle.xt_run.specs.View.{named_of};
-ghost use Rattle.xt_world.specs.Units.{called_among, global_before, globals_among, plain_units, resolved_among};
+ghost use Rattle.xt_world.specs.Units.{called_among, global_before, globals_among, plain_aliases, plain_units, resolved_among};
 ghost use Rattle.xt_world.specs.View.{truth_in};
 
 use crate::resolve::{element_called, has_global, name_of, resolve};
 use std::alloc::Global;
 use std::rc::Rc;
-use xp_syntax::{Declared, Rules, Sheet, Unit};
+use xp_syntax::{Alias, Declared, Rules, Sheet, Unit};
 use xt_ask::{ResolvedUnit, copy_name};
 use xt_names::Expanded;
 use xt_run::NamedGlobal;
@@ -28,7 +28,7 @@ use xt_tree::NodeRef;
 pub struct Stylesheet {
     /// The template rules, the one that counts for most first.
     pub rules: Rules,
-    /// In the order of the stylesheet.
+    /// In the order of the stylesheet. They share its aliases.
     pub units: Vec<Rc<ResolvedUnit>>,
     /// What the element of each unit is called.
     pub elements: Vec<NodeRef>,
@@ -43,10 +43,11 @@ impl Stylesheet {
         ensures globals { IfOk result (λ s. map named_of s.globals.items ≡ globals_of (element_called (sheet_of sheet).units) (sheet_of sheet).units) }
     {
         let rules = sheet.rules;
+        let aliases = Rc::new(alloc, sheet.aliases)?;
         let units = shared(alloc, sheet.units)?;
         let elements = elements(alloc, units.as_slice())?;
         let globals = globals(alloc, units.as_slice())?;
-        let units = resolved(alloc, units.as_slice())?;
+        let units = resolved(alloc, &aliases, units.as_slice())?;
         Ok(Stylesheet {
             rules,
             units,
@@ -128,13 +129,17 @@ fn add_named(
     Ok(())
 }
 
-/// The units with what their names name.
-fn resolved(alloc: Global, units: &[Rc<Unit>]) -> Result<Vec<Rc<ResolvedUnit>>, Memory>
-    ensures { IfOk result (λ list. map (λ r. resolved_of r.value) list.items ≡ resolved_among (plain_units units.now) (plain_units units.now)) }
+/// The units with what their names name. All of them share the aliases.
+fn resolved(
+    alloc: Global,
+    aliases: &Rc<Vec<Alias>>,
+    units: &[Rc<Unit>],
+) -> Result<Vec<Rc<ResolvedUnit>>, Memory>
+    ensures { IfOk result (λ list. map (λ r. resolved_of r.value) list.items ≡ resolved_among (plain_aliases aliases.now) (plain_units units.now) (plain_units units.now)) }
 {
     let mut list = Vec::new(alloc);
     for unit in units {
-        list.push(resolve(alloc, units, unit)?)?;
+        list.push(resolve(alloc, aliases, units, unit)?)?;
     }
     Ok(list)
 }

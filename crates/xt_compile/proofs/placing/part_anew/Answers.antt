@@ -1,10 +1,13 @@
-use Rattle.std.proofs.Common.{ℕ, List, ap, sym, subst, ◌∙◌}
+use Rattle.std.proofs.Common.{List, ap, subst, ◌∙◌}
 use Rattle.std.specs.List.{filter}
+use Rattle.std.specs.Str.{chars}
 use Rattle.spec_compile.specs.Unit as unit
-use Rattle.spec_compile.specs.Sheet.{is_at, said_by}
+use Rattle.spec_compile.specs.Sheet.{is_at}
 use Rattle.xt_units.specs.View.{top_levels_in}
 use Rattle.xt_compile.specs.Opened.{IsLeft}
+use Rattle.xt_compile.proofs.Opening.{opened_more}
 use Rattle.xt_compile.proofs.Places.{all_found, all_left, still_left}
+use Rattle.xt_compile.proofs.Stocked.{put_found}
 use Rattle.xt_compile.proofs.placing.part_anew.Goals as goal
 
 pub returns-clause-found : goal.returns-clause-found
@@ -17,10 +20,15 @@ returns-clause-found c said says placing =
 pub returns-clause-stays : goal.returns-clause-stays
 returns-clause-stays c said says placing =
     let path = c.args.part.now.path in
+    let name = c.args.part.now.module_name in
+    let es = c.args.placing.now.opened.entries in
+    let new = c.insert.new.self.entries in
+    let rest = c.take_at.new.opened in
     let all = top_levels_in c.in_ok-top_levels.top_levels.items in
-    let left = still_left path all c.in_ok-opened.opened.entries c.take_at.new.opened.entries c.in_ok-taken.ensures.rest (all_left all c.in_ok-opened.opened.entries c.in_ok-opened.ensures) in
-    let same = c.in_ok-top_levels.ensures.taken said says placing.stock ∙ ap (λ (n : List ℕ). said_by n said) (sym c.in_ok-name.ensures) in
+    let left = still_left path all c.in_ok-opened.opened.entries rest.entries c.in_ok-taken.ensures.rest (all_left all c.in_ok-opened.opened.entries c.in_ok-opened.ensures) in
+    let put = put_found es new c.in_ok-name.name name rest (ap chars c.in_ok-name.ensures.ok ∙ c.as_str.ensures.characters) (c.in_ok-insert.ensures {u = tt}).entries in
     record {
       stock = c.in_ok-top_levels.ensures.stays said placing.stock;
-      current = subst (λ (ts : List unit.TopLevel). IsLeft ts c.take_at.new.opened.entries) same left;
+      opened = opened_more name said es new rest put
+          (subst (λ (ts : List unit.TopLevel). IsLeft ts rest.entries) (c.in_ok-top_levels.ensures.taken said says placing.stock) left) placing.opened;
     }

@@ -22,4 +22,4 @@ returns c =
     let mode : c.take_name-mode.result ≡ at name_in (codes "mode") old
     = c.take_name-mode.ensures.taken ∙ kept_at name_in (codes "select") (codes "mode") _ _ c.take_expr.ensures.others refl in
     view-ApplyTemplates _ _
-    ∙ (λ i. made.apply_templates (record { select = select i; mode = mode i; keys = map sort_key_of c.args.parts.sort_keys.items }) (made.bindings (map binding_of (c.in_ok-parameters.ensures.ok i).items)))
+    ∙ (λ i. made.apply_templates (record { select = select i; mode = mode i; keys = map sort_key_of (c.in_ok-keys.ensures.ok i).items }) (made.bindings (map binding_of (c.in_ok-parameters.ensures.ok i).items)))

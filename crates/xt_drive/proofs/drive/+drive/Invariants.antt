@@ -2,7 +2,9 @@ use Rattle.std.proofs.Common.{◌≡◌, suc, ◌+◌, ◌*◌}
 use Rattle.xt_tree.specs.StreamView.{streams_of}
 use Rattle.xt_run.specs.View.{call_of}
 use Rattle.xt_run.specs.Advances.{gift_of}
+use Rattle.xt_drive.specs.Referring.{entries_of}
 use Rattle.xt_drive.specs.Stands.{level_of, Stands, work_left}
+use Rattle.xt_drive.proofs.Onward.{Onward}
 use Rattle.xt_drive.proofs.drive.+drive.Given as goal
 
 abbrev pub decreases-means : goal.decreases-means
@@ -17,6 +19,7 @@ invariant-means-loop-standing g l =
     let s = l.standing.value in
     record {
       stands : Stands (level_of truth l.globals l.below (call_of l.call)) (g.E.Engine.progress s.run) (gift_of s.given) (streams_of s.parts.items);
+      onward : Onward (level_of truth l.globals l.below (call_of l.call)) (entries_of l.fn.memo) (entries_of l.memo) s.spare (g.E.Engine.progress s.run) (gift_of s.given);
       room : suc l.below ≡ l.levels;
       truth : (g.W.World.state l.world).truth ≡ truth;
       name : g.W.World.name l.world ≡ g.W.World.name l.fn.world;

@@ -1,12 +1,16 @@
-use Rattle.std.proofs.Common.{◌∙◌, ◌+◌, [], map, drop, None, sym, ap, refl, arith}
+use Rattle.std.proofs.Common.{◌∙◌, ◌+◌, ◌++◌, [], map, drop, None, sym, ap, refl, arith}
 use Rattle.spec_meaning.specs.Question.{Choice, AllRules}
+use Rattle.spec_result.specs.Recovery.{messages_of}
 use Rattle.spec_run.specs.Plan.{nowhere}
 use Rattle.spec_run.specs.Content.{rule_call}
-use Rattle.spec_run.specs.Meaning.{root_call, run}
+use Rattle.spec_run.specs.Meaning.{at_turn, root_call, run}
+use Rattle.xt_tree.specs.StreamView.{stream_of}
 use Rattle.xt_run.specs.View.{named_of}
 use Rattle.xt_drive.specs.View.{held_of, setting_in, supplied_of}
+use Rattle.xt_drive.specs.Referring.{entries_of}
 use Rattle.xt_drive.proofs.Standing.{if_ok}
-use Rattle.xt_drive.proofs.Turns.{meant_here, root_here, turn_made, next_turn, turn_held, turn_refused, values_more, last_turn}
+use Rattle.xt_drive.proofs.Turns.{root_here, turn_made, next_turn, turn_held, turn_refused, values_more, last_turn}
+use Rattle.xt_drive.proofs.Turning.{remembers_here, turns_here, remembers_next, nothing_yet}
 use Rattle.xt_drive.proofs.whole.run_in.Goals as goal
 
 pub loop-global-init : goal.loop-global-init
@@ -14,9 +18,15 @@ loop-global-init g c =
     let s = setting_in (g.W.World.state c.args.world.now).truth c.args.root c.args.named.now in
     record {
       same = ap (λ vs. run s c.args.levels s.globals (map held_of vs) c.new-told.result.items (root_call s)) c.new-values.ensures.items ∙ ap (λ t. run s c.args.levels s.globals [] t (root_call s)) c.new-told.ensures.items;
+      remembers = nothing_yet s (at_turn (map held_of c.new-values.result.items)) c.nothing_remembered-memo.ensures;
       truth = refl;
       name = refl;
     }
+
+pub turn-requires : goal.turn-requires
+turn-requires g c =
+    let inv = c.loop-global.invariant in
+    remembers_here c.args.root c.args.named.now (entries_of c.loop-global.memo) inv.truth c.as_slice.ensures.value (c.as_slice-in-loop-global.ensures.value ∙ c.new-none.ensures.items) inv.remembers
 
 pub loop-global-preserved : goal.loop-global-preserved
 loop-global-preserved g c =
@@ -32,13 +42,18 @@ loop-global-preserved g c =
     let call = root_call s in
     let n = c.global-item.result in
     let next = next_turn s levels named i n values told call (omega arith) c.global-item.is in
-    let here = meant_here root named levels n inv.truth c.as_slice.ensures.value (c.as_slice-in-loop-global.ensures.value ∙ c.new-none.ensures.items) in
-    let made = turn_made c.in_ok-value.ensures.held c.in_ok-value.ensures.told here in
+    let t = c.in_ok-turned.turned in
+    let memo = entries_of c.turn.new.memo in
+    let turns = turns_here root named t (named_of n) levels memo inv.truth c.as_slice.ensures.value (c.as_slice-in-loop-global.ensures.value ∙ c.new-none.ensures.items) c.in_ok-turned.ensures.turns in
+    let more = c.add_messages.new.told.items in
+    let made = turn_made turns.turned.held turns.turned.content (c.in_ok-add_messages.ensures ∙ ap (λ x. told ++ messages_of (stream_of x)) c.deref.ensures) in
     let gs = map named_of (drop (i + 1) named) in
-    let held = turn_held s levels (named_of n) gs values told c.turn.new.told.items call c.in_ok-value.field-0 c.in-Value.value made c.in-Value.is in
-    let more = values_more c.loop-global.values.items c.in_ok-held_global-in-Value.field-0 c.in_ok-push-in-Value.ensures.items c.in_ok-held_global-in-Value.ensures in
+    let v = c.in-Value.value in
+    let held = turn_held s levels (named_of n) gs values told more call t.held v made c.in-Value.is in
+    let all = values_more c.loop-global.values.items c.in_ok-held_global-in-Value.field-0 c.in_ok-push-in-Value.ensures.items c.in_ok-held_global-in-Value.ensures in
     record {
-      same = ap (λ vs. run s levels gs vs c.turn.new.told.items call) more ∙ held ∙ sym next ∙ inv.same;
+      same = ap (λ vs. run s levels gs vs more call) all ∙ held ∙ sym next ∙ inv.same;
+      remembers = remembers_next s values _ (named_of n) memo t.held v turns.remembers c.in-Value.is all;
       truth = c.turn.ensures.truth ∙ inv.truth;
       name = c.turn.ensures.name ∙ inv.name;
     }
@@ -57,12 +72,19 @@ returns-in-Refused-clause-run g c =
     let call = root_call s in
     let n = c.global-item.result in
     let next = next_turn s levels named i n values told call (omega arith) c.global-item.is in
-    let here = meant_here root named levels n inv.truth c.as_slice.ensures.value (c.as_slice-in-loop-global.ensures.value ∙ c.new-none.ensures.items) in
-    let made = turn_made c.in_ok-value.ensures.held c.in_ok-value.ensures.told here in
+    let t = c.in_ok-turned.turned in
+    let turns = turns_here root named t (named_of n) levels (entries_of c.turn.new.memo) inv.truth c.as_slice.ensures.value (c.as_slice-in-loop-global.ensures.value ∙ c.new-none.ensures.items) c.in_ok-turned.ensures.turns in
+    let more = c.add_messages.new.told.items in
+    let made = turn_made turns.turned.held turns.turned.content (c.in_ok-add_messages.ensures ∙ ap (λ x. told ++ messages_of (stream_of x)) c.deref.ensures) in
     let gs = map named_of (drop (i + 1) named) in
     let why = c.in-Refused.why in
-    let refused = turn_refused s levels (named_of n) gs values told c.turn.new.told.items call c.in_ok-value.field-0 why made (ap supplied_of c.in-Refused.is) in
+    let refused = turn_refused s levels (named_of n) gs values told more call t.held why made (ap supplied_of c.in-Refused.is) in
     if_ok c.halted.result c.halted.ensures (λ w h. h ∙ refused ∙ sym next ∙ inv.same)
+
+pub means-came-requires : goal.means-came-requires
+means-came-requires g c =
+    let inv = c.loop-global.invariant in
+    remembers_here c.args.root c.args.named.now (entries_of c.loop-global.memo) (c.root_call.ensures.truth ∙ inv.truth) c.as_slice-2.ensures.value (c.as_slice-3.ensures.value ∙ c.new-none.ensures.items) inv.remembers
 
 pub returns-clause-run : goal.returns-clause-run
 returns-clause-run g c =

@@ -4,6 +4,7 @@ use Rattle.spec_meaning.specs.Context.{Bound}
 use Rattle.spec_run.specs.Plan.{Target, SameRule, nowhere}
 use Rattle.spec_run.specs.Going.{at_start}
 use Rattle.spec_run.specs.Content.{plan_of}
+use Rattle.xp_axes.specs.View.{same_ref}
 use Rattle.xt_run.specs.Progress.{Progress, ForNothing, supplies_for}
 use Rattle.xt_ask.specs.View.{bindings_of}
 use Rattle.xt_run.specs.View.{call_of, target_of}
@@ -13,7 +14,7 @@ pub returns : goal.returns
 returns c =
     let call = c.args.call.now in
     let P : Target NodeRef → List (Bound NodeRef) → Progress = λ t given. record {
-      left = plan_of (record { target = t; node = call.node; parameters = given; position = None; size = None; ruling = SameRule; by = nowhere });
+      left = plan_of same_ref (record { target = t; node = call.node; parameters = given; position = None; size = None; ruling = SameRule; by = nowhere });
       going = at_start;
       supplies = supplies_for (call_of call);
       waits = ForNothing;

@@ -1,6 +1,10 @@
 use Rattle.std.proofs.Common.{refl, sym, ap, ◌∙◌, arith}
+use Rattle.spec_run.specs.Plan.{Plan}
 use Rattle.spec_run.specs.Content.{declared_planned}
+use Rattle.xp_syntax.specs.declared.unit.Declared.{Declared}
+use Rattle.xp_syntax.specs.PartView.{place_of}
 use Rattle.xp_syntax.specs.SheetView.{declared_of}
+use Rattle.xt_tree.specs.declared.node_ref.NodeRef.{NodeRef}
 use Rattle.xt_ask.specs.View.{bindings_of}
 use Rattle.xt_frames.specs.View.{here_of}
 use Rattle.xt_frames.proofs.Lefts.{if_ok}
@@ -11,29 +15,25 @@ use Rattle.xt_engine.proofs.start.begin_declared.Goals as goal
 pub returns-in-Template-clause-does : goal.returns-in-Template-clause-does
 returns-in-Template-clause-does g c =
     let truth = (g.W.World.state c.args.world.now).truth in
-    let given = bindings_of c.args.parameters in
-    let here = here_of c.args.here in
-    let same = ap (λ d. declared_planned (declared_of d) given here) c.in-Template.is in
-    if_ok c.begin_template.result c.begin_template.ensures (λ next h. does_as (sym same) (h truth))
+    let F : Declared → Plan NodeRef = λ d. declared_planned (place_of c.args.unit.now.site.place) (declared_of d) (bindings_of c.args.parameters) (here_of c.args.here) in
+    if_ok c.begin_template.result c.begin_template.ensures (λ next h. does_as (sym (ap F c.in-Template.is)) (h truth))
 
 pub begin_global-requires-clause-stands : goal.begin_global-requires-clause-stands
 begin_global-requires-clause-stands g c = c.requires.stands ∙ ap declared_of c.in-Global.is
 
 pub returns-in-Global-clause-does : goal.returns-in-Global-clause-does
 returns-in-Global-clause-does g c =
-    let given = bindings_of c.args.parameters in
-    let here = here_of c.args.here in
-    let same = ap (λ d. declared_planned (declared_of d) given here) c.in-Global.is in
-    if_ok c.begin_global.result c.begin_global.ensures.does (λ next h. does_as (sym same) h)
+    let F : Declared → Plan NodeRef = λ d. declared_planned (place_of c.args.unit.now.site.place) (declared_of d) (bindings_of c.args.parameters) (here_of c.args.here) in
+    if_ok c.begin_global.result c.begin_global.ensures.does (λ next h. does_as (sym (ap F c.in-Global.is)) h)
 
 pub returns-in-AttributeSet-clause-does : goal.returns-in-AttributeSet-clause-does
 returns-in-AttributeSet-clause-does g c =
+    let truth = (g.W.World.state c.args.world.now).truth in
     let given = bindings_of c.args.parameters in
-    let here = here_of c.args.here in
-    nothing_does (g.W.World.state c.args.world.now).truth _ 2 c.args.run.now (omega arith) (ap (λ d. declared_planned (declared_of d) given here) c.in-AttributeSet.is) c.requires.none
+    let F : Declared → Plan NodeRef = λ d. declared_planned (place_of c.args.unit.now.site.place) (declared_of d) given (here_of c.args.here) in
+    if_ok c.begin_set.result c.begin_set.ensures (λ next h. does_as (sym (ap F c.in-AttributeSet.is)) (h given truth))
 
 pub returns-in-Key-clause-does : goal.returns-in-Key-clause-does
 returns-in-Key-clause-does g c =
-    let given = bindings_of c.args.parameters in
-    let here = here_of c.args.here in
-    nothing_does (g.W.World.state c.args.world.now).truth _ 2 c.args.run.now (omega arith) (ap (λ d. declared_planned (declared_of d) given here) c.in-Key.is) c.requires.none
+    let F : Declared → Plan NodeRef = λ d. declared_planned (place_of c.args.unit.now.site.place) (declared_of d) (bindings_of c.args.parameters) (here_of c.args.here) in
+    nothing_does (g.W.World.state c.args.world.now).truth _ 3 c.args.run.now (omega arith) (ap F c.in-Key.is) c.requires.none

@@ -25,8 +25,8 @@ returns-in-Some-clause-does g c =
     let named = c.in_ok-name.ensures ∙ c.local.ensures ∙ ap (λ (n : Expanded). n.local) (name_is c.args.global.now.binding) in
     let is = ap later (sym c.in_ok-answer.ensures.answer) ∙ c.text_given.ensures own ∙ ap (λ t. unless_text t own) c.in-Some.is in
     does_as (ap (λ n. Inquire (External n) later) named)
-    (asks_first truth (External c.in_ok-name.name) later 2 r mid mid (Gave (values.Text c.in-Some.text)) c.in_ok-answer.ensures.noted refl refl
-    (gave truth _ 2 mid (values.Text c.in-Some.text) is))
+    (asks_first truth (External c.in_ok-name.name) later 3 r mid mid (Gave (values.Text c.in-Some.text)) c.in_ok-answer.ensures.noted refl refl
+    (gave truth _ 3 mid (values.Text c.in-Some.text) is))
 
 pub returns-in-None-clause-does : goal.returns-in-None-clause-does
 returns-in-None-clause-does g c =
@@ -40,4 +40,4 @@ returns-in-None-clause-does g c =
     let stands = ap (λ d. global_left d (here_of c.args.here)) c.requires.stands in
     if_ok c.begin_own.result c.begin_own.ensures (λ next h.
     does_as (ap (λ n. Inquire (External n) later) named)
-    (asks_first truth (External c.in_ok-name.name) later 2 r mid c.begin_own.new.run next c.in_ok-answer.ensures.noted refl refl (does_as (stands ∙ sym is) (h truth))))
+    (asks_first truth (External c.in_ok-name.name) later 3 r mid c.begin_own.new.run next c.in_ok-answer.ensures.noted refl refl (does_as (stands ∙ sym is) (h truth))))

@@ -4,6 +4,12 @@ use Rattle.xt_frames.specs.Left.{StepsFrom}
 use Rattle.xt_engine.proofs.Onwards.{steps_of}
 use Rattle.xt_engine.proofs.step.go_on.Goals as goal
 
+pub returns-in-Sets-clause-does : goal.returns-in-Sets-clause-does
+returns-in-Sets-clause-does g c = steps_of c.args.run.now c.go_on_sets.new.run (g.W.World.state c.args.world.now).truth c.go_on_sets.result c.in-Sets.is c.go_on_sets.ensures
+
+pub returns-in-Inside-clause-does : goal.returns-in-Inside-clause-does
+returns-in-Inside-clause-does g c = steps_of c.args.run.now c.go_on_inside.new.run (g.W.World.state c.args.world.now).truth c.go_on_inside.result c.in-Inside.is c.go_on_inside.ensures
+
 pub returns-in-Loop-clause-does : goal.returns-in-Loop-clause-does
 returns-in-Loop-clause-does g c = steps_of c.args.run.now c.go_on_loop.new.run (g.W.World.state c.args.world.now).truth c.go_on_loop.result c.in-Loop.is c.go_on_loop.ensures
 

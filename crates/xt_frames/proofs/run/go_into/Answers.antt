@@ -3,6 +3,8 @@ use Rattle.spec_expression.specs.declared.code.DynCode.TheVariants.{TooDeep}
 use Rattle.spec_stylesheet.specs.Instruction.{instrs}
 use Rattle.xp_syntax.specs.PartView.{place_of}
 use Rattle.xp_syntax.specs.InstrView.{instr_of}
+use Rattle.xp_syntax.specs.SheetView.{alias_of}
+use Rattle.xp_axes.specs.View.{same_ref}
 use Rattle.xt_ask.specs.View.{bindings_of, template_of, sets_of}
 use Rattle.xt_frames.specs.declared.run.Run.{Run}
 use Rattle.xt_frames.specs.View.{here_of}
@@ -20,4 +22,4 @@ returns c ask =
     let h = c.args.here in
     let mid : Run = record { room = r.room; supplies = r.supplies; waiting = r.waiting; frames = r.frames; going = c.deepen.new.self } in
     goes_into ask r mid c.push.new.run (place_of c.args.place.now) c.args.content h (record { focus = h.focus; bindings = h.bindings; depth = h.depth + 1; ruled = h.ruled; unit = h.unit }) (omega arith) refl refl refl (h.depth + 1) (add-one h.depth) c.deepen.ensures c.in_ok-push.ensures
-    (ap (λ d. record { node = h.focus.node; position = h.focus.position; size = h.focus.size; bindings = bindings_of h.bindings; depth = d; ruled = h.ruled; templates = map template_of h.unit.value.templates.items; sets = map sets_of h.unit.value.sets.items }) (add-one h.depth))
+    (ap (λ d. record { node = h.focus.node; position = h.focus.position; size = h.focus.size; bindings = bindings_of h.bindings; depth = d; ruled = h.ruled; templates = map template_of h.unit.value.templates.items; sets = map sets_of h.unit.value.sets.items; aliases = map alias_of h.unit.value.aliases.value.items; same = same_ref }) (add-one h.depth))

@@ -2,7 +2,6 @@ use Rattle.std.proofs.Common.{◌≡◌, ℕ, List, ap, ◌∙◌}
 use Rattle.spec_meaning.specs.Stream as stream
 use Rattle.spec_meaning.specs.Stream.{Stream, followed, holes}
 use Rattle.xt_tree.specs.StreamView.{stream_of}
-use Rattle.spec_result.specs.Shape.{with_prefix}
 use Rattle.xt_frames.proofs.Items.{view-Text}
 use Rattle.xt_perform.proofs.attributes.item_of.Goals as goal
 
@@ -13,8 +12,10 @@ made_of name uri content named located text empty e f n c = λ i. stream.Attribu
 
 pub returns-clause-item : goal.returns-clause-item
 returns-clause-item c =
+    let named = rw (c.aliased_prefix-prefix.ensures, c.for_attribute-aliases.ensures, c.uri-own.ensures, c.local.ensures) at c.in_ok-name.ensures in
+    let located = rw (c.aliased_uri.ensures, c.for_attribute-aliases.ensures, c.uri-own.ensures) at c.in_ok-uri.ensures in
     c.attribute_with.ensures
-    ∙ made_of _ _ (stream_of c.in_ok-shared.shared.value) _ _ c.args.text (stream_of c.new-content.result) (c.in_ok-name.ensures ∙ ap (with_prefix c.args.attribute.now.prefix) c.local.ensures) (c.in_ok-uri.ensures ∙ c.uri.ensures) c.new-content.ensures (ap stream_of c.in_ok-shared.ensures.ok ∙ rw view-Text at c.in_ok-push.ensures.ok)
+    ∙ made_of _ _ (stream_of c.in_ok-shared.shared.value) _ _ c.args.text (stream_of c.new-content.result) named located c.new-content.ensures (ap stream_of c.in_ok-shared.ensures.ok ∙ rw view-Text at c.in_ok-push.ensures.ok)
 
 pub returns-clause-whole : goal.returns-clause-whole
 returns-clause-whole c = ap holes (returns-clause-item c)

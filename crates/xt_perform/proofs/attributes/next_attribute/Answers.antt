@@ -10,11 +10,10 @@ use Rattle.xt_frames.specs.Left.{left_in, Performs}
 use Rattle.xt_frames.proofs.Lefts.{if_ok}
 use Rattle.xt_frames.proofs.Performs.{does_more}
 use Rattle.spec_run.specs.Plan.{Put}
-use Rattle.spec_run.specs.Content.{asked}
+use Rattle.spec_run.specs.Content.{asked, attribute_aliased}
 use Rattle.spec_transform.specs.Expansion.{expanded}
 use Rattle.xp_syntax.specs.PartView.{avt_of, literal_attribute_of}
 use Rattle.xt_frames.specs.View.{attributes_left_of, left_frame}
-use Rattle.xt_perform.specs.Copied.{attribute_item}
 use Rattle.xt_perform.proofs.Left.{attributes_from, attribute_none, attribute_next}
 use Rattle.xt_perform.proofs.attributes.next_attribute.Goals as goal
 
@@ -45,4 +44,4 @@ returns-clause-does g c =
     let P : Plan NodeRef → Type 0 = λ p. IfOk c.put_attribute.result (λ next. Performs truth (frames.Attributes a) p old c.put_attribute.new.run next) in
     let one = attribute_next c.args.tag.now.attributes.items a.next x s (here_of a.here) after (omega (arith, e)) (rw c.as_slice-list.ensures.value at c.index-list-attributes.is) in
     let two : attributes_from c.args.tag.now.attributes.items (a.next + 1) s (here_of a.here) after ≡ left_frame f (left_in old) = ap (λ o. attributes_left_of (here_of a.here) (a.next + 1) o (left_in old)) (sym c.requires) in
-    subst P (sym (one ∙ ap (λ l. asked s (here_of a.here) (expanded (avt_of x.value)) (λ t. Put (attribute_item (literal_attribute_of x) t) l)) two)) c.put_attribute.ensures.does
+    subst P (sym (one ∙ ap (λ l. asked s (here_of a.here) (expanded (avt_of x.value)) (λ t. Put (attribute_aliased (here_of a.here).aliases (literal_attribute_of x) t) l)) two)) c.put_attribute.ensures.does

@@ -3,7 +3,7 @@ use Rattle.spec_run.specs.Plan.{Put}
 use Rattle.xp_syntax.specs.PartView.{literal_attribute_of}
 use Rattle.xt_frames.specs.View.{left_frame}
 use Rattle.xt_frames.proofs.Performs.{put_does}
-use Rattle.xt_perform.specs.Copied.{attribute_item}
+use Rattle.spec_run.specs.Content.{attribute_aliased}
 use Rattle.xt_tree.specs.declared.node_ref.NodeRef.{NodeRef}
 use Rattle.spec_run.specs.Plan.{Plan}
 use Rattle.xp_syntax.specs.PartView.{site_of, place_of}
@@ -20,11 +20,12 @@ returns-in_ok-push-in-Is-clause-does g c =
     let old = c.args.run.now in
     let b = c.args.attributes in
     let f = frames.Attributes (record { content = b.content; number = b.number; next = b.next + 1; here = b.here }) in
-    let k : List ℕ → Plan NodeRef = λ t. Put (attribute_item (literal_attribute_of c.args.attribute.now) t) (left_frame f (left_in old)) in
+    let k : List ℕ → Plan NodeRef = λ t. Put (attribute_aliased (here_of b.here).aliases (literal_attribute_of c.args.attribute.now) t) (left_frame f (left_in old)) in
     let found = rw c.in-Is.is at c.in_ok-text.ensures.found k in
     let still = c.put_item.ensures.still in
-    let does = put_does truth (attribute_item (literal_attribute_of c.args.attribute.now) c.in-Is.text) (frames.Attributes c.advanced.result) c.expansion.new.run c.put_item.new.run c.push.new.run still.frames still.room still.supplies c.in_ok-put_item-in-Is.ensures.going c.in_ok-push-in-Is.ensures in
-    perform_is truth _ (λ l. Put (attribute_item (literal_attribute_of c.args.attribute.now) c.in-Is.text) (left_frame f l)) (frames.Attributes b) old c.expansion.new.run c.push.new.run _ found.so c.expansion.ensures.still (rw c.advanced.ensures at does)
+    let going = rw (c.as_slice-aliases.ensures.value, c.deref-in-Is.ensures, c.deref.ensures) at c.in_ok-put_item-in-Is.ensures.going in
+    let does = put_does truth (attribute_aliased (here_of b.here).aliases (literal_attribute_of c.args.attribute.now) c.in-Is.text) (frames.Attributes c.advanced.result) c.expansion.new.run c.put_item.new.run c.push.new.run still.frames still.room still.supplies going c.in_ok-push-in-Is.ensures in
+    perform_is truth _ (λ l. Put (attribute_aliased (here_of b.here).aliases (literal_attribute_of c.args.attribute.now) c.in-Is.text) (left_frame f l)) (frames.Attributes b) old c.expansion.new.run c.push.new.run _ found.so c.expansion.ensures.still (rw c.advanced.ensures at does)
 
 pub returns-in-Halts-clause-does : goal.returns-in-Halts-clause-does
 returns-in-Halts-clause-does g c =
@@ -32,7 +33,7 @@ returns-in-Halts-clause-does g c =
     let old = c.args.run.now in
     let b = c.args.attributes in
     let f = frames.Attributes (record { content = b.content; number = b.number; next = b.next + 1; here = b.here }) in
-    let k : List ℕ → Plan NodeRef = λ t. Put (attribute_item (literal_attribute_of c.args.attribute.now) t) (left_frame f (left_in old)) in
+    let k : List ℕ → Plan NodeRef = λ t. Put (attribute_aliased (here_of b.here).aliases (literal_attribute_of c.args.attribute.now) t) (left_frame f (left_in old)) in
     let found = rw c.in-Halts.is at c.in_ok-text.ensures.found k in
     perform_halts truth _ _ old c.expansion.new.run c.in-Halts.why found.so c.expansion.ensures.still
 
@@ -42,7 +43,7 @@ returns-in-Lacks-clause-does g c =
     let old = c.args.run.now in
     let b = c.args.attributes in
     let f = frames.Attributes (record { content = b.content; number = b.number; next = b.next + 1; here = b.here }) in
-    let k : List ℕ → Plan NodeRef = λ t. Put (attribute_item (literal_attribute_of c.args.attribute.now) t) (left_frame f (left_in old)) in
+    let k : List ℕ → Plan NodeRef = λ t. Put (attribute_aliased (here_of b.here).aliases (literal_attribute_of c.args.attribute.now) t) (left_frame f (left_in old)) in
     let found = rw c.in-Lacks.is at c.in_ok-text.ensures.found k in
     if_both c.lack.result c.lack.ensures.needs c.lack.ensures.pushed (λ next e back.
     perform_lacks truth _ (frames.Attributes b) old c.expansion.new.run c.lack.new.run c.in-Lacks.name b.here.depth (place_of c.args.site.now.place) next found.so c.expansion.ensures.still e back)

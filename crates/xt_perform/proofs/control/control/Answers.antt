@@ -1,7 +1,7 @@
 use Rattle.std.proofs.Common.{IfOk, subst, sym, ap, ◌∙◌, map}
 use Rattle.spec_stylesheet.specs.Instruction as made
 use Rattle.spec_run.specs.Content.{planned_control}
-use Rattle.xp_syntax.specs.PartView.{site_of, sort_key_of}
+use Rattle.xp_syntax.specs.PartView.{site_of}
 use Rattle.xp_syntax.specs.InstrView.{control_of}
 use Rattle.xt_frames.specs.declared.frame.Frame.TheVariants as frames
 use Rattle.xt_frames.specs.View.{here_of, after_body}
@@ -17,7 +17,7 @@ returns-in-ForEach-clause-does g c =
     let old = c.args.run.now in
     let b = c.args.body in
     let P : made.Control → Type 0 = λ x. IfOk c.for_each.result (λ next. Performs truth (frames.Body b) (planned_control (site_of c.args.site.now) x (here_of b.here) (after_body b (left_in old))) old c.for_each.new.run next) in
-    subst P (sym (ap control_of c.in-ForEach.is ∙ view-ForEach _ c.in-ForEach.field-1 _)) (if_ok c.for_each.result c.for_each.ensures.does (λ next h. h (map sort_key_of c.in-ForEach.field-1.items)))
+    subst P (sym (ap control_of c.in-ForEach.is ∙ view-ForEach _ _ _)) c.for_each.ensures.does
 
 pub returns-in-If-clause-does : goal.returns-in-If-clause-does
 returns-in-If-clause-does g c =

@@ -5,7 +5,7 @@ use Rattle.spec_expression.specs.Syntax.{OfType}
 use Rattle.spec_stylesheet.specs.Instruction.{instrs}
 use Rattle.spec_meaning.specs.Question.{Step, nodes_in, written_in, uri_in}
 use Rattle.spec_run.specs.Plan.{Plan, Wrapping, Begin, Wrap, AsElement}
-use Rattle.spec_run.specs.Content.{namespaces_read}
+use Rattle.spec_run.specs.Content.{namespaces_read, sets_used}
 use Rattle.xp_syntax.specs.PartView.{place_of}
 use Rattle.xp_syntax.specs.InstrView.{instr_of}
 use Rattle.xt_names.specs.View.{entry_of, Entry}
@@ -29,10 +29,11 @@ returns-clause-does g c =
     let a = answer_of c.args.called in
     let after = after_body b (left_in r) in
     let content = inside (place_of c.args.site.now.place) (instrs (map instr_of c.args.content.now.value.items)) (here_of b.here) in
-    let k : List Entry → Plan NodeRef = λ namespaces. Begin (content (Wrap (AsElement (written_in a) (uri_in a) namespaces) after)) in
+    let used = sets_used (place_of c.args.site.now.place) (here_of b.here) c.args.sets.now.items in
+    let k : List Entry → Plan NodeRef = λ namespaces. Begin (used (content (Wrap (AsElement (written_in a) (uri_in a) namespaces) after))) in
     let nodes = c.as_slice.ensures.value ∙ c.into_nodes-nodes.ensures ∙ ap nodes_in c.in_ok-answer.ensures.answer in
     let reads = passes_in c.ask.ensures.truth (c.in_ok-namespaces.ensures.passes (hand r) r.room k) in
-    if_ok c.collect.result c.collect.ensures (λ next h.
-    let P : Wrapping → Type 0 = λ w. Does truth (Begin (content (Wrap w after))) (suc (length r.frames.items)) low c.collect.new.run next in
-    inquired truth (Step b.here.focus.node axis.Namespace (OfType type.Node)) (λ ns. namespaces_read (nodes_in ns) [] k) _ r mid c.collect.new.run next c.in_ok-answer.ensures.noted refl refl
-    (passed truth _ _ _ mid low c.collect.new.run next (rw nodes at reads) refl refl (subst P c.in_ok-end.ensures (h truth))))
+    if_ok c.collect_with_sets.result c.collect_with_sets.ensures (λ next h.
+    let P : Wrapping → Type 0 = λ w. Does truth (Begin (used (content (Wrap w after)))) (suc (length r.frames.items)) low c.collect_with_sets.new.run next in
+    inquired truth (Step b.here.focus.node axis.Namespace (OfType type.Node)) (λ ns. namespaces_read (nodes_in ns) [] k) _ r mid c.collect_with_sets.new.run next c.in_ok-answer.ensures.noted refl refl
+    (passed truth _ _ _ mid low c.collect_with_sets.new.run next (rw nodes at reads) refl refl (subst P c.in_ok-end.ensures (h truth))))

@@ -9,7 +9,7 @@ returns-in-Literal-clause-does g c =
     if_ok c.literal.result c.literal.ensures (λ next h. rw c.in-Literal.is (does_performs truth _ (frames.Body c.args.body) c.args.run.now c.literal.new.run next (h truth)))
 
 pub returns-in-Element-clause-does : goal.returns-in-Element-clause-does
-returns-in-Element-clause-does g c = if_ok c.element.result c.element.ensures.does (λ next h. rw c.in-Element.is (h c.in-Element.field-1.items))
+returns-in-Element-clause-does g c = if_ok c.element.result c.element.ensures.does (λ next h. rw c.in-Element.is h)
 
 pub returns-in-Comment-clause-does : goal.returns-in-Comment-clause-does
 returns-in-Comment-clause-does g c =

@@ -8,11 +8,6 @@ returns-in_ok-text-in-Text-clause-does g c =
     let truth = (g.W.World.state c.args.world.now).truth in
     if_ok c.write_text.result c.write_text.ensures (λ next h. rw c.in-Text.is (does_performs truth _ (frames.Body c.args.body) c.args.run.now c.write_text.new.run next (rw (c.advanced.ensures, c.in_ok-text-in-Text.ensures) at h truth)))
 
-pub returns-in-Number-clause-does : goal.returns-in-Number-clause-does
-returns-in-Number-clause-does g c =
-    let truth = (g.W.World.state c.args.world.now).truth in
-    if_ok c.nothing.result c.nothing.ensures (λ next h. rw c.in-Number.is (does_performs truth _ (frames.Body c.args.body) c.args.run.now c.nothing.new.run next (h truth)))
-
 pub returns-in-ApplyImports-clause-does : goal.returns-in-ApplyImports-clause-does
 returns-in-ApplyImports-clause-does g c =
     let truth = (g.W.World.state c.args.world.now).truth in
@@ -21,4 +16,4 @@ returns-in-ApplyImports-clause-does g c =
 pub returns-in-Fallback-clause-does : goal.returns-in-Fallback-clause-does
 returns-in-Fallback-clause-does g c =
     let truth = (g.W.World.state c.args.world.now).truth in
-    if_ok c.nothing-in-Fallback.result c.nothing-in-Fallback.ensures (λ next h. rw c.in-Fallback.is (does_performs truth _ (frames.Body c.args.body) c.args.run.now c.nothing-in-Fallback.new.run next (h truth)))
+    if_ok c.nothing.result c.nothing.ensures (λ next h. rw c.in-Fallback.is (does_performs truth _ (frames.Body c.args.body) c.args.run.now c.nothing.new.run next (h truth)))

@@ -1,8 +1,10 @@
 use Rattle.std.proofs.Common.{ap, map}
+use Rattle.xp_syntax.specs.SheetView.{alias_of}
+use Rattle.xp_axes.specs.View.{same_ref}
 use Rattle.xt_ask.specs.View.{template_of, sets_of}
 use Rattle.xt_frames.proofs.standing.Standing.with_variable.Goals as goal
 
 pub returns : goal.returns
 returns c =
     let s = c.args.self in
-    ap (λ bs. record { node = s.focus.node; position = s.focus.position; size = s.focus.size; bindings = bs; depth = s.depth; ruled = s.ruled; templates = map template_of s.unit.value.templates.items; sets = map sets_of s.unit.value.sets.items }) c.in_ok-bindings.ensures
+    ap (λ bs. record { node = s.focus.node; position = s.focus.position; size = s.focus.size; bindings = bs; depth = s.depth; ruled = s.ruled; templates = map template_of s.unit.value.templates.items; sets = map sets_of s.unit.value.sets.items; aliases = map alias_of s.unit.value.aliases.value.items; same = same_ref }) c.in_ok-bindings.ensures

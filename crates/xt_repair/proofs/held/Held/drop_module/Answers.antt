@@ -1,6 +1,6 @@
 use Rattle.std.proofs.Common.{subst, sym}
 use Rattle.spec_run.specs.Documents.{Documents}
-use Rattle.xt_repair.specs.Refusal.{IsThere}
+use Rattle.xt_repair.specs.StylesheetView.{IsThere}
 use Rattle.xt_repair.proofs.Dropped.{is_held}
 use Rattle.xt_repair.proofs.held.Held.drop_module.Goals as goal
 

@@ -1,5 +1,8 @@
-use Rattle.std.proofs.Common.{ap, ◌∙◌, refl}
-use Rattle.xp_syntax.specs.SheetView.{sheet_of}
+use Rattle.std.proofs.Common.{ap, ◌∙◌, map, refl}
+use Rattle.std.specs.declared.vec.Vec.{Vec}
+use Rattle.std.specs.Global.{Global}
+use Rattle.xp_syntax.specs.SheetView.{alias_of, sheet_of}
+use Rattle.xp_syntax.specs.declared.sheet.Alias.{Alias}
 use Rattle.xt_world.specs.Units.{called_among, globals_among, plain_units, resolved_among}
 use Rattle.xt_world.proofs.Answering.{truth_is}
 use Rattle.xt_world.proofs.stylesheet.Stylesheet.new.Goals as goal
@@ -8,12 +11,13 @@ pub returns-clause-truth : goal.returns-clause-truth
 returns-clause-truth c =
     let first = ap plain_units c.as_slice.ensures.value ∙ c.in_ok-units.ensures in
     let last = ap plain_units c.as_slice-3.ensures.value ∙ c.in_ok-units.ensures in
+    let aliases = ap (λ (list : Vec Alias Global). map alias_of list.items) c.in_ok-aliases.ensures.ok in
     λ parameters document q.
     truth_is (sheet_of c.args.sheet)
     (record { rules = c.args.sheet.rules; units = c.in_ok-units-2.units; elements = c.in_ok-elements.elements; globals = c.in_ok-globals.globals })
     (record {
       elements = c.in_ok-elements.ensures ∙ (λ i. called_among (first i) (first i));
-      units = c.in_ok-units-2.ensures {u = tt} ∙ (λ i. resolved_among (last i) (last i));
+      units = c.in_ok-units-2.ensures {u = tt} ∙ (λ i. resolved_among (aliases i) (last i) (last i));
       rules = refl;
     })
     parameters document q

@@ -1,0 +1,20 @@
+use Rattle.std.proofs.Common.{◌≡◌, drop}
+use Rattle.spec_meaning.specs.Supplies.{at_hand}
+use Rattle.spec_transform.specs.Numbering.{is_counted, of_first}
+use Rattle.xp_axes.specs.View.{same_ref}
+use Rattle.xt_ask.specs.declared.context.Focus.{Focus}
+use Rattle.xt_ask.specs.View.{context_of, supplies_of}
+use Rattle.xt_ask.specs.Runs.{Continues}
+use Rattle.xt_number.specs.View.{counted_of}
+use Rattle.xt_number.proofs.levels.of_first.Given as goal
+
+abbrev pub invariant-loop-node : goal.invariant-loop-node
+invariant-loop-node g l =
+    let state = g.W.World.state in
+    record {
+      same : (f : Focus) →
+          Continues (at_hand (supplies_of l.supplies) l.context.depth) l.context.depth
+          (of_first (is_counted same_ref (context_of f l.context) (counted_of l.counted)) (drop l.node-index l.nodes)) (state l.world)
+          (of_first (is_counted same_ref (context_of f l.context) (counted_of l.counted)) l.nodes) (state l.fn.world);
+      name : g.W.World.name l.world ≡ g.W.World.name l.fn.world;
+    }
