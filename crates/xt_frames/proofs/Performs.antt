@@ -110,6 +110,14 @@ put_does ask s f old mid new frames room supplies going h =
     let m : length mid.frames.items ≡ length old.frames.items = ap (λ (fs : Vec Frame Global). length fs.items) frames in
     goes ask _ (left_frame f (left_in old)) (put s (going_of old.going)) old new (pushed mid new f h.frames ∙ ap (λ (fs : Vec Frame Global). left_frame f (left_over fs.items End)) frames) (ap going_of h.going ∙ going) (puts stays) (omega arith) (omega (arith, n, m)) (h.room ∙ room) (h.supplies ∙ supplies)
 
+-- the same where the frame comes first
+pub put_behind : (ask : Question NodeRef → Answer NodeRef) (s : Stream) (f : Frame) (old mid new : Run) → Pushed f old mid → new.frames ≡ mid.frames → new.room ≡ mid.room → new.supplies ≡ mid.supplies → going_of new.going ≡ put s (going_of mid.going)
+    → Does ask (Put s (left_frame f (left_in old))) (suc (length old.frames.items)) old new Went
+put_behind ask s f old mid new h frames room supplies going =
+    let low : Run = record { room = old.room; supplies = old.supplies; waiting = old.waiting; frames = old.frames; going = new.going } in
+    put_does ask s f old low new refl refl refl (going ∙ ap (λ g. put s (going_of g)) h.going)
+    (record { frames = ap (λ (fs : Vec Frame Global). fs.items) frames ∙ h.frames; going = refl; room = room ∙ h.room; supplies = supplies ∙ h.supplies })
+
 pub put_nothing : {N : Type 0} (g : Going N) → put Ended g ≡ g
 put_nothing g = ap (λ s. record { top = s; outer = g.outer; trace = g.trace; height = g.height; streams = g.streams }) (followed-Ended g.top)
 

@@ -1,18 +1,22 @@
 // What variables and parameters hold (XSLT 1.0, section 11).
-ghost use Rattle.std.specs.Prelude.{◌≡◌, suc, length, map, None, IfOk};
+ghost use Rattle.std.specs.Prelude.{◌≡◌, [], suc, length, map, None, IfOk, OnOk};
 ghost use Rattle.std.specs.Option.{option_map};
 ghost use Rattle.spec_stylesheet.specs.Instruction.{instrs};
-ghost use Rattle.spec_meaning.specs.Stream.{Ended};
+ghost use Rattle.spec_meaning.specs.Stream.{Ended, filled};
+ghost use Rattle.spec_meaning.specs.Value as values;
 ghost use Rattle.spec_meaning.specs.Meaning.{meaning};
 ghost use Rattle.spec_meaning.specs.Question as question;
 ghost use Rattle.spec_run.specs.Plan.{Plan, Put};
+ghost use Rattle.spec_run.specs.Going.{taken, aside};
 ghost use Rattle.spec_run.specs.Content.{asked, is_empty, valued};
 ghost use Rattle.xp_syntax.specs.View.{expr_of};
 ghost use Rattle.xp_syntax.specs.PartView.{site_of};
 ghost use Rattle.xp_syntax.specs.InstrView.{instr_of};
 ghost use Rattle.xt_tree.specs.declared.node_ref.NodeRef.{NodeRef};
 ghost use Rattle.xt_tree.specs.ValueView.{value_of};
+ghost use Rattle.xt_going.specs.View.{going_of};
 ghost use Rattle.xt_frames.specs.declared.frame.Frame.TheVariants as Frame;
+ghost use Rattle.xt_frames.specs.declared.frame.Holder.TheVariants as holders;
 ghost use Rattle.xt_frames.specs.View.{here_of, inside, left_frame, left_with};
 ghost use Rattle.xt_frames.specs.Left.{left_in, Does, Performs, StepsFrom};
 
@@ -25,6 +29,8 @@ use std::alloc::Global;
 use std::rc::Rc;
 use xp_syntax::{Expr, Instr, Site};
 use xt_ask::World;
+use xt_going::Going;
+use xt_names::Expanded;
 use xt_streams::fragment_of;
 use xt_text::{Memory, Text};
 use xt_tree::Value;
@@ -34,35 +40,60 @@ pub fn holding(alloc: Global, holder: Holder, value: Value) -> Result<Frame, Mem
     ensures { IfOk result (λ f. (after : Plan NodeRef) → left_frame f after ≡ left_with holder (value_of value) after) }
 {
     match holder {
-        Holder::Variable(name, body) => {
-            let here = body.here.with_variable(alloc, name, value)?;
-            Ok(Frame::Body(Body {
-                content: body.content,
-                next: body.next,
-                here,
-            }))
-        }
-        Holder::Argument(name, arguments) => {
-            let done = one_more(alloc, name, value, arguments.done)?;
-            Ok(Frame::Arguments(Arguments {
-                bindings: arguments.bindings,
-                next: arguments.next,
-                done,
-                here: arguments.here,
-                to: arguments.to,
-            }))
-        }
-        Holder::Parameter(name, parameters) => {
-            let here = parameters.here.with_variable(alloc, name, value)?;
-            Ok(Frame::Parameters(Parameters {
-                bindings: parameters.bindings,
-                next: parameters.next,
-                given: parameters.given,
-                content: parameters.content,
-                here,
-            }))
-        }
+        Holder::Variable(name, body) => with_variable(alloc, name, value, body),
+        Holder::Argument(name, arguments) => with_argument(alloc, name, value, arguments),
+        Holder::Parameter(name, parameters) => with_parameter(alloc, name, value, parameters),
     }
+}
+
+// A body that sees one more variable.
+fn with_variable(alloc: Global, name: Expanded, value: Value, body: Body) -> Result<Frame, Memory>
+    ensures { IfOk result (λ f. (after : Plan NodeRef) → left_frame f after ≡ left_with (holders.Variable name body) (value_of value) after) }
+{
+    let here = body.here.with_variable(alloc, name, value)?;
+    Ok(Frame::Body(Body {
+        content: body.content,
+        next: body.next,
+        here,
+    }))
+}
+
+// One more argument that is passed.
+fn with_argument(
+    alloc: Global,
+    name: Expanded,
+    value: Value,
+    arguments: Arguments,
+) -> Result<Frame, Memory>
+    ensures { IfOk result (λ f. (after : Plan NodeRef) → left_frame f after ≡ left_with (holders.Argument name arguments) (value_of value) after) }
+{
+    let done = one_more(alloc, name, value, arguments.done)?;
+    Ok(Frame::Arguments(Arguments {
+        bindings: arguments.bindings,
+        next: arguments.next,
+        done,
+        here: arguments.here,
+        to: arguments.to,
+    }))
+}
+
+// The parameters of a template that see one more.
+fn with_parameter(
+    alloc: Global,
+    name: Expanded,
+    value: Value,
+    parameters: Parameters,
+) -> Result<Frame, Memory>
+    ensures { IfOk result (λ f. (after : Plan NodeRef) → left_frame f after ≡ left_with (holders.Parameter name parameters) (value_of value) after) }
+{
+    let here = parameters.here.with_variable(alloc, name, value)?;
+    Ok(Frame::Parameters(Parameters {
+        bindings: parameters.bindings,
+        next: parameters.next,
+        given: parameters.given,
+        content: parameters.content,
+        here,
+    }))
 }
 
 /// What the element at this site holds, by its select or its content, and then what is left once that is held.
@@ -84,7 +115,10 @@ pub fn hold<W: World>(
 {
     match select {
         Some(expr) => hold_selected(alloc, run, site, expr, here, holder, back, world),
-        None => hold_content(alloc, run, site, content, here, holder),
+        None => {
+            drop(back);
+            hold_content(alloc, run, site, content, here, holder)
+        }
     }
 }
 
@@ -124,8 +158,8 @@ fn hold_content(
     if content.is_empty() {
         return hold_value(alloc, run, holder, Value::Text(Text::new(alloc)));
     }
-    run.going.begin(alloc)?;
     push(run, Frame::Take(holder))?;
+    run.going.begin(alloc)?;
     let inner = share_content(content)?;
     let here = here.share()?;
     go_into(alloc, run, &site.place, inner, here)
@@ -135,11 +169,20 @@ fn hold_content(
 pub fn take_held(alloc: Global, run: &mut Run, holder: Holder) -> Result<Next, Memory>
     ensures { IfOk result (λ next. (ask : question.Question NodeRef → question.Answer NodeRef) → StepsFrom ask (Frame.Take holder) run.old run.new next) }
 {
-    let items = run.going.take(alloc)?;
-    let fragment = fragment_of(alloc, &items)?;
-    let frame = holding(alloc, holder, Value::Fragment(fragment))?;
+    let value = taken_value(alloc, &mut run.going)?;
+    let frame = holding(alloc, holder, value)?;
     push(run, frame)?;
     Ok(Next::Went)
+}
+
+// The value that the innermost sink makes, which is taken.
+fn taken_value(alloc: Global, going: &mut Going) -> Result<Value, Memory>
+    ensures value { IfOk result (λ v. value_of v ≡ values.Fragment (filled (taken (going_of going.old)) [])) }
+    ensures going { OnOk result (going_of going.new ≡ aside (going_of going.old)) }
+{
+    let items = going.take(alloc)?;
+    let fragment = fragment_of(alloc, &items)?;
+    Ok(Value::Fragment(fragment))
 }
 
 // Nothing is written, and this value is held.

@@ -1,6 +1,7 @@
 // A world that takes note of what is read of another, which it borrows.
-ghost use Rattle.std.specs.Prelude.{◌≡◌};
+ghost use Rattle.std.specs.Prelude.{◌≡◌, [], ◌∷◌, ◌++◌, map, OnOk};
 ghost use Rattle.spec_meaning.specs.Meaning.{meaning};
+ghost use Rattle.spec_meaning.specs.Program.{Asked};
 ghost use Rattle.spec_meaning.specs.Supplies.{at_hand};
 ghost use Rattle.spec_transform.specs.Expansion.{expanded};
 ghost use Rattle.spec_transform.specs.Sorted.{criterion_meant, key_meant};
@@ -11,7 +12,7 @@ ghost use Rattle.xp_syntax.specs.View.{expr_of};
 ghost use Rattle.xp_syntax.specs.PartView.{avt_of, made_name_of, numbering_of, sort_key_of};
 ghost use Rattle.xp_axes.specs.View.{same_ref};
 ghost use Rattle.xt_tree.specs.ValueView.{value_of};
-ghost use Rattle.xt_ask.specs.View.{context_of, supplies_of};
+ghost use Rattle.xt_ask.specs.View.{context_of, supplies_of, question_of, answer_of, read_of};
 ghost use Rattle.xt_ask.specs.Runs.{Runs, itself, items};
 ghost use Rattle.xt_run.specs.View.{wrapping_of};
 ghost use Rattle.xt_sort.specs.View.{criterion_of, key_of};
@@ -49,10 +50,8 @@ impl<'a, W: World> World for Noting<'a, W> {
     ghost name = { λ n. n.world.ghost_name ∷ n.reads.ghost_name ∷ W.name n.world.now };
 
     fn ask(&mut self, question: &Question) -> Result<Answer, Memory> {
-        let asked = question.copy(self.alloc)?;
         let answer = self.world.ask(question)?;
-        let kept = answer.copy(self.alloc)?;
-        self.reads.push(Read::Asked(asked, kept))?;
+        note_asked(self.alloc, self.reads, question, &answer)?;
         Ok(answer)
     }
 
@@ -62,6 +61,21 @@ impl<'a, W: World> World for Noting<'a, W> {
         self.reads.push(Read::Saw(wanted, depth, given))?;
         Ok(())
     }
+}
+
+// Adds a question and its answer to the reads.
+fn note_asked(
+    alloc: Global,
+    reads: &mut Vec<Read>,
+    question: &Question,
+    answer: &Answer,
+) -> Result<(), Memory>
+    ensures { OnOk result (map read_of reads.new.items ≡ map read_of reads.old.items ++ Asked (question_of question.now) (answer_of answer.now) ∷ []) }
+{
+    let question = question.copy(alloc)?;
+    let answer = answer.copy(alloc)?;
+    reads.push(Read::Asked(question, answer))?;
+    Ok(())
 }
 
 impl<'a, W: World> Evaluate for Noting<'a, W> {

@@ -2,13 +2,13 @@
 ghost use Rattle.std.specs.Prelude.{◌≡◌, suc, length, [], ◌∷◌, ◌++◌, map, IfOk, OnOk};
 ghost use Rattle.spec_stylesheet.specs.Instruction.{instrs};
 ghost use Rattle.spec_meaning.specs.Question as question;
-ghost use Rattle.spec_run.specs.Plan.{Put, Begin, Enter};
+ghost use Rattle.spec_run.specs.Plan.{Put, Begin, Wrap, Enter};
 ghost use Rattle.spec_run.specs.Going.{begun};
 ghost use Rattle.spec_run.specs.Content.{text_item};
 ghost use Rattle.xp_syntax.specs.PartView.{place_of};
 ghost use Rattle.xp_syntax.specs.InstrView.{instr_of};
 ghost use Rattle.xt_tree.specs.declared.node_ref.NodeRef.{NodeRef};
-ghost use Rattle.xt_run.specs.View.{call_of};
+ghost use Rattle.xt_run.specs.View.{call_of, wrapping_of};
 ghost use Rattle.xt_going.specs.View.{going_of};
 ghost use Rattle.xt_frames.specs.View.{here_of, inside, left_frame};
 ghost use Rattle.xt_frames.specs.Left.{left_in, Does, Pushed, HasNeeds};
@@ -23,7 +23,7 @@ use xt_ask::{Supplies, copy_place};
 use xt_base::Place;
 use xt_going::Going;
 use xt_names::Expanded;
-use xt_run::{Call, Refused};
+use xt_run::{Call, Refused, Wrapping};
 use xt_text::{Memory, Text};
 use xt_tree::{Fragment, Item, Value};
 
@@ -93,8 +93,8 @@ pub fn lack(
     ensures needs { IfOk result (HasNeeds name depth (place_of place.now)) }
     ensures pushed { OnOk result (Pushed frame run.old run.new) }
 {
-    let place = copy_place(alloc, place)?;
     push(run, frame)?;
+    let place = copy_place(alloc, place)?;
     Ok(Next::Needs(name, depth, place))
 }
 
@@ -102,8 +102,8 @@ pub fn lack(
 pub fn write_text(run: &mut Run, text: Text, rest: Frame) -> Result<Next, Memory>
     ensures { IfOk result (λ next. (ask : question.Question NodeRef → question.Answer NodeRef) → Does ask (Put (text_item text) (left_frame rest (left_in run.old))) (suc (length run.old.frames.items)) run.old run.new next) }
 {
-    run.going.put(Item::Text(text))?;
     push(run, rest)?;
+    run.going.put(Item::Text(text))?;
     Ok(Next::Went)
 }
 
@@ -111,8 +111,8 @@ pub fn write_text(run: &mut Run, text: Text, rest: Frame) -> Result<Next, Memory
 pub fn write_fragment(run: &mut Run, fragment: &Fragment, rest: Frame) -> Result<Next, Memory>
     ensures { IfOk result (λ next. (ask : question.Question NodeRef → question.Answer NodeRef) → Does ask (Put fragment.now (left_frame rest (left_in run.old))) (suc (length run.old.frames.items)) run.old run.new next) }
 {
-    run.going.put_fragment(fragment)?;
     push(run, rest)?;
+    run.going.put_fragment(fragment)?;
     Ok(Next::Went)
 }
 
@@ -161,20 +161,20 @@ pub fn go_into(
     Ok(Next::Went)
 }
 
-/// Begins a sink for a content one level deeper, whose end is this, before the rest.
+/// Begins a sink for a content one level deeper, which ends with this, before the rest.
 pub fn sink(
     alloc: Global,
     run: &mut Run,
     rest: Frame,
-    end: Frame,
+    end: Wrapping,
     place: &Place,
     content: &Rc<Vec<Instr>>,
     here: Standing,
 ) -> Result<Next, Memory>
-    ensures { IfOk result (λ next. (ask : question.Question NodeRef → question.Answer NodeRef) → Does ask (Begin (inside (place_of place.now) (instrs (map instr_of content.now.value.items)) (here_of here) (left_frame end (left_frame rest (left_in run.old))))) (suc (length run.old.frames.items)) run.old run.new next) }
+    ensures { IfOk result (λ next. (ask : question.Question NodeRef → question.Answer NodeRef) → Does ask (Begin (inside (place_of place.now) (instrs (map instr_of content.now.value.items)) (here_of here) (Wrap (wrapping_of end) (left_frame rest (left_in run.old))))) (suc (length run.old.frames.items)) run.old run.new next) }
 {
     begin(alloc, run, rest)?;
-    push(run, end)?;
+    push(run, Frame::Wrap(end))?;
     let inner = share_content(content)?;
     go_into(alloc, run, place, inner, here)
 }
@@ -186,6 +186,6 @@ fn begin(alloc: Global, run: &mut Run, rest: Frame) -> Result<(), Memory>
     ensures room { OnOk result (run.new.room ≡ run.old.room) }
     ensures supplies { OnOk result (run.new.supplies ≡ run.old.supplies) }
 {
-    run.going.begin(alloc)?;
-    push(run, rest)
+    push(run, rest)?;
+    run.going.begin(alloc)
 }

@@ -1,19 +1,26 @@
 -- Into the content of an instruction of a body.
-use Rattle.std.proofs.Common.{◌≡◌, ℕ, suc, ◌+◌, length, refl, sym, ap, ◌∙◌, subst}
+use Rattle.std.proofs.Common.{◌≡◌, ℕ, suc, ◌+◌, length, refl, sym, ap, ◌∙◌, subst, arith}
 use Rattle.spec_stylesheet.specs.Place.{Place}
 use Rattle.spec_stylesheet.specs.Instruction.{Instrs}
+use Rattle.spec_meaning.specs.Stream.{Ended}
 use Rattle.spec_meaning.specs.Question.{Question, Answer}
-use Rattle.spec_run.specs.Plan.{Plan}
+use Rattle.spec_run.specs.Plan.{Plan, Put}
+use Rattle.spec_run.specs.Going.{put}
+use Rattle.spec_run.specs.Passes.{stays, puts}
 use Rattle.spec_run.specs.Content.{Here}
 use Rattle.xt_tree.specs.declared.node_ref.NodeRef.{NodeRef}
 use Rattle.xt_frames.specs.declared.standing.Standing.{Standing}
 use Rattle.xt_frames.specs.declared.frame.Body.{Body}
+use Rattle.xt_frames.specs.declared.frame.Frame.{Frame}
 use Rattle.xt_frames.specs.declared.frame.Frame.TheVariants as frames
 use Rattle.xt_frames.specs.declared.run.Run.{Run}
 use Rattle.xt_frames.specs.declared.run.Next.{Next}
+use Rattle.xt_frames.specs.declared.run.Next.TheVariants.{Went}
 use Rattle.xt_frames.specs.View.{here_of, inside, after_body, left_frame}
 use Rattle.xt_frames.specs.Left.{left_in, Does, Pushed}
-use Rattle.xt_frames.proofs.Performs.{after_frame}
+use Rattle.xt_going.specs.View.{going_of}
+use Rattle.xt_frames.proofs.Lefts.{pushed, one_more, steps_at, passes_at}
+use Rattle.xt_frames.proofs.Performs.{after_frame, put_nothing}
 
 pub into_body : (ask : Question NodeRef → Answer NodeRef) (old mid new : Run) (place : Place) (is : Instrs) (b rest : Body) (here : Standing) (next : Next) → here_of here ≡ here_of b.here
     → rest ≡ record { content = b.content; next = b.next + 1; here = b.here } → Pushed (frames.Body rest) old mid → Does ask (inside place is (here_of here) (left_in mid)) (length mid.frames.items) mid new next
@@ -22,3 +29,19 @@ into_body ask old mid new place is b rest here next same is_rest h does =
     let P : Here NodeRef → Type 0 = λ x. Does ask (inside place is x (left_frame (frames.Body rest) (left_in old))) (suc (length old.frames.items)) old new next in
     let Q : Body → Type 0 = λ r. Does ask (inside place is (here_of b.here) (left_frame (frames.Body r) (left_in old))) (suc (length old.frames.items)) old new next in
     subst Q is_rest (subst P same (after_frame ask (inside place is (here_of here)) (frames.Body rest) old mid new next h does))
+
+-- a frame more, where none was taken off, and nothing is written
+pub frame_more : (ask : Question NodeRef → Answer NodeRef) (e : Frame) (old new : Run) → Pushed e old new → Does ask (Put Ended (left_frame e (left_in old))) (length old.frames.items) old new Went
+frame_more ask e old new a =
+    let n = one_more old.frames.items new.frames.items e a.frames in
+    let left = pushed old new e a.frames in
+    let going : going_of new.going ≡ put Ended (going_of old.going) = ap going_of a.going ∙ sym (put_nothing (going_of old.going)) in
+    let s = steps_at ask old new a.room a.supplies left going in
+    record { so = (passes_at left going (puts stays), omega (arith, s, n)); room = a.room; supplies = a.supplies }
+
+-- what comes behind the rest of a body
+pub behind_body : (ask : Question NodeRef → Answer NodeRef) (then : Plan NodeRef → Plan NodeRef) (old mid new : Run) (b rest : Body) (next : Next) → rest ≡ record { content = b.content; next = b.next + 1; here = b.here } → Pushed (frames.Body rest) old mid
+    → Does ask (then (left_in mid)) (length mid.frames.items) mid new next → Does ask (then (after_body b (left_in old))) (suc (length old.frames.items)) old new next
+behind_body ask then old mid new b rest next is_rest h does =
+    let Q : Body → Type 0 = λ r. Does ask (then (left_frame (frames.Body r) (left_in old))) (suc (length old.frames.items)) old new next in
+    subst Q is_rest (after_frame ask then (frames.Body rest) old mid new next h does)

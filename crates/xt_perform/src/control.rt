@@ -28,7 +28,7 @@ use xt_ask::{Bindings, NamedTemplate, World, copy_name_if, copy_place};
 use xt_base::Place;
 use xt_frames::{
     Application, Body, Branches, Came, Frame, Loop, Next, Ordered, Passing, Run, Standing, lack,
-    nodes, push, share_content, share_keys, truth,
+    nodes, push, share_bindings, share_content, share_keys, truth,
 };
 use xt_names::Expanded;
 use xt_run::{Call, Ruling, Target};
@@ -234,20 +234,23 @@ fn apply_to(
     requires { body.next < usize.MAX }
     ensures { IfOk result (λ next. (ask : question.Question NodeRef → question.Answer NodeRef) → let h = here_of body.here in Does ask (Put Ended (contents.passed (made.bindings (map binding_of bindings.now.value.items)) h [] (λ parameters. contents.sorted (map sort_key_of selection.now.keys.value.items) h nodes.items (λ ns. contents.applied_to (site_of site.now).place selection.now.mode parameters h.depth ns (after_body body (left_in run.old)))))) (suc (length run.old.frames.items)) run.old run.new next) }
 {
+    let bindings = share_bindings(bindings)?;
+    let here = body.here.share()?;
+    push(run, Frame::Body(advanced(body)))?;
     let to = Application {
         place: copy_place(alloc, &site.place)?,
         mode: copy_name_if(alloc, &selection.mode)?,
         parameters: Bindings::Empty,
         nodes,
         next: 0,
-        depth: body.here.depth,
+        depth: here.depth,
     };
     if selection.keys.is_empty() {
-        return pass(run, bindings, Passing::Rules(to), body);
+        return pass(run, bindings, here, Passing::Rules(to));
     }
     let keys = share_keys(&selection.keys)?;
-    let here = body.here.share()?;
-    pass(run, bindings, Passing::Sorted(keys, here, to), body)
+    let standing = here.share()?;
+    pass(run, bindings, here, Passing::Sorted(keys, standing, to))
 }
 
 /// xsl:call-template (XSLT 1.0, section 6). A name that is no template's writes nothing.
@@ -292,18 +295,21 @@ fn call_element(
     requires { body.next < usize.MAX }
     ensures { IfOk result (λ next. (ask : question.Question NodeRef → question.Answer NodeRef) → Does ask (contents.called (site_of site.now) (here_of body.here) (λ k. contents.passed (made.bindings (map binding_of bindings.now.value.items)) (here_of body.here) [] k) (Some element) (after_body body (left_in run.old))) (suc (length run.old.frames.items)) run.old run.new next) }
 {
-    let focus = body.here.focus;
-    let depth = body.here.depth;
+    let bindings = share_bindings(bindings)?;
+    let here = body.here.share()?;
+    push(run, Frame::Body(advanced(body)))?;
+    let focus = here.focus;
+    let depth = here.depth;
     let call = Call {
         target: Target::Unit(element),
         node: focus.node,
         parameters: Bindings::Empty,
         position: focus.position,
         size: focus.size,
-        ruling: ruling_at(&body.here),
+        ruling: ruling_at(&here),
         by: copy_place(alloc, &site.place)?,
     };
-    pass(run, bindings, Passing::Template(call, depth), body)
+    pass(run, bindings, here, Passing::Template(call, depth))
 }
 
 /// The current rule of a template that is called here: that of the instantiation where it is the current one.

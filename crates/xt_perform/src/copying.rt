@@ -20,7 +20,7 @@ ghost use Rattle.xt_run.specs.View.{wrapping_of};
 ghost use Rattle.xt_going.specs.View.{going_of};
 ghost use Rattle.xt_perform.specs.Copied.{element_copied};
 ghost use Rattle.xt_frames.specs.declared.frame.Frame.TheVariants as Frame;
-ghost use Rattle.xt_frames.specs.View.{here_of, inside, after_body, left_frame};
+ghost use Rattle.xt_frames.specs.View.{here_of, inside, after_body};
 ghost use Rattle.xt_frames.specs.Left.{left_in, Does, Performs};
 
 use crate::namespaces::read_namespaces;
@@ -41,60 +41,65 @@ use xt_streams::without_attributes;
 use xt_text::{Memory, Text};
 use xt_tree::{Fragment, NodeRef, Value};
 
-/// Writes a value, before the rest: a number or a boolean as its text.
+/// Writes a value, before the rest of the body: a number or a boolean as its text.
 pub(crate) fn write_value(
     alloc: Global,
     run: &mut Run,
     value: Value,
-    rest: Frame,
+    body: Body,
 ) -> Result<Next, Memory>
-    ensures { IfOk result (λ next. (ask : question.Question NodeRef → question.Answer NodeRef) → Does ask (value_copied (value_of value) (left_frame rest (left_in run.old))) (suc (length run.old.frames.items)) run.old run.new next) }
+    requires { body.next < usize.MAX }
+    ensures { IfOk result (λ next. (ask : question.Question NodeRef → question.Answer NodeRef) → Does ask (value_copied (value_of value) (after_body body (left_in run.old))) (suc (length run.old.frames.items)) run.old run.new next) }
 {
     match value {
-        Value::Nodes(nodes) => write_nodes(run, nodes, rest),
-        Value::Fragment(fragment) => write_plain(alloc, run, fragment, rest),
-        Value::Text(text) => write_text(run, text, rest),
-        Value::Number(number) => write_number(alloc, run, number, rest),
-        Value::Boolean(boolean) => write_boolean(alloc, run, boolean, rest),
+        Value::Nodes(nodes) => write_nodes(run, nodes, body),
+        Value::Fragment(fragment) => write_plain(alloc, run, fragment, body),
+        Value::Text(text) => write_text(run, text, Frame::Body(advanced(body))),
+        Value::Number(number) => write_number(alloc, run, number, body),
+        Value::Boolean(boolean) => write_boolean(alloc, run, boolean, body),
     }
 }
 
-/// Leaves the copies of these nodes, before the rest.
-fn write_nodes(run: &mut Run, nodes: Vec<NodeRef>, rest: Frame) -> Result<Next, Memory>
-    ensures { IfOk result (λ next. (ask : question.Question NodeRef → question.Answer NodeRef) → Does ask (plan.Put Ended (nodes_copied nodes.items (left_frame rest (left_in run.old)))) (suc (length run.old.frames.items)) run.old run.new next) }
+/// Leaves the copies of these nodes, before the rest of the body.
+fn write_nodes(run: &mut Run, nodes: Vec<NodeRef>, body: Body) -> Result<Next, Memory>
+    requires { body.next < usize.MAX }
+    ensures { IfOk result (λ next. (ask : question.Question NodeRef → question.Answer NodeRef) → Does ask (plan.Put Ended (nodes_copied nodes.items (after_body body (left_in run.old)))) (suc (length run.old.frames.items)) run.old run.new next) }
 {
-    push(run, rest)?;
+    push(run, Frame::Body(advanced(body)))?;
     push(run, Frame::Copies(Copies { nodes, next: 0 }))?;
     Ok(Next::Went)
 }
 
-/// Writes a fragment without the attributes beside its nodes, before the rest.
+/// Writes a fragment without the attributes beside its nodes, before the rest of the body.
 fn write_plain(
     alloc: Global,
     run: &mut Run,
     fragment: Fragment,
-    rest: Frame,
+    body: Body,
 ) -> Result<Next, Memory>
-    ensures { IfOk result (λ next. (ask : question.Question NodeRef → question.Answer NodeRef) → Does ask (plan.Put (without_attributes fragment) (left_frame rest (left_in run.old))) (suc (length run.old.frames.items)) run.old run.new next) }
+    requires { body.next < usize.MAX }
+    ensures { IfOk result (λ next. (ask : question.Question NodeRef → question.Answer NodeRef) → Does ask (plan.Put (without_attributes fragment) (after_body body (left_in run.old))) (suc (length run.old.frames.items)) run.old run.new next) }
 {
     let kept = without_attributes(alloc, &fragment)?;
-    write_fragment(run, &kept, rest)
+    write_fragment(run, &kept, Frame::Body(advanced(body)))
 }
 
-/// Writes a number as its text, before the rest.
-fn write_number(alloc: Global, run: &mut Run, number: Num, rest: Frame) -> Result<Next, Memory>
-    ensures { IfOk result (λ next. (ask : question.Question NodeRef → question.Answer NodeRef) → Does ask (plan.Put (text_item (text_of number)) (left_frame rest (left_in run.old))) (suc (length run.old.frames.items)) run.old run.new next) }
+/// Writes a number as its text, before the rest of the body.
+fn write_number(alloc: Global, run: &mut Run, number: Num, body: Body) -> Result<Next, Memory>
+    requires { body.next < usize.MAX }
+    ensures { IfOk result (λ next. (ask : question.Question NodeRef → question.Answer NodeRef) → Does ask (plan.Put (text_item (text_of number)) (after_body body (left_in run.old))) (suc (length run.old.frames.items)) run.old run.new next) }
 {
     let text = number.text(alloc)?;
-    write_text(run, text, rest)
+    write_text(run, text, Frame::Body(advanced(body)))
 }
 
-/// Writes a boolean as its text, before the rest.
-fn write_boolean(alloc: Global, run: &mut Run, boolean: bool, rest: Frame) -> Result<Next, Memory>
-    ensures { IfOk result (λ next. (ask : question.Question NodeRef → question.Answer NodeRef) → Does ask (plan.Put (text_item (convert.text_of_boolean boolean)) (left_frame rest (left_in run.old))) (suc (length run.old.frames.items)) run.old run.new next) }
+/// Writes a boolean as its text, before the rest of the body.
+fn write_boolean(alloc: Global, run: &mut Run, boolean: bool, body: Body) -> Result<Next, Memory>
+    requires { body.next < usize.MAX }
+    ensures { IfOk result (λ next. (ask : question.Question NodeRef → question.Answer NodeRef) → Does ask (plan.Put (text_item (convert.text_of_boolean boolean)) (after_body body (left_in run.old))) (suc (length run.old.frames.items)) run.old run.new next) }
 {
     let text = text_of_boolean(alloc, boolean)?;
-    write_text(run, text, rest)
+    write_text(run, text, Frame::Body(advanced(body)))
 }
 
 fn text_of_boolean(alloc: Global, boolean: bool) -> Result<Text, Memory>
@@ -125,7 +130,7 @@ pub(crate) fn copy<W: World>(
     let answer = run
         .going
         .ask(alloc, world, Question::Name(body.here.focus.node))?;
-    copy_as(alloc, run, site, sets, content, body, answer, world)
+    copy_as(alloc, run, site, sets, content, body, &answer, world)
 }
 
 /// The copy of the current node, whose kind and names are these.
@@ -136,15 +141,15 @@ fn copy_as<W: World>(
     sets: &Vec<Expanded>,
     content: &Rc<Vec<Instr>>,
     body: Body,
-    called: Answer,
+    called: &Answer,
     world: &mut W,
 ) -> Result<Next, Memory>
     requires { body.next < usize.MAX }
-    ensures does { IfOk result (Does (W.state world.old).truth (copied_as (site_of site.now).place (here_of body.here) sets.now.items (answer_of called) (inside (site_of site.now).place (instrs (map instr_of content.now.value.items)) (here_of body.here)) (after_body body (left_in run.old))) (suc (length run.old.frames.items)) run.old run.new) }
+    ensures does { IfOk result (Does (W.state world.old).truth (copied_as (site_of site.now).place (here_of body.here) sets.now.items (answer_of called.now) (inside (site_of site.now).place (instrs (map instr_of content.now.value.items)) (here_of body.here)) (after_body body (left_in run.old))) (suc (length run.old.frames.items)) run.old run.new) }
     ensures truth { (W.state world.new).truth ≡ (W.state world.old).truth }
     ensures name { W.name world.new ≡ W.name world.old }
 {
-    match kind_in(&called) {
+    match kind_in(called) {
         Kind::Root => into_content(alloc, run, site, content, body),
         Kind::Element => copy_element(alloc, run, site, sets, content, body, called, world),
         Kind::Attribute => copy_node(alloc, run, body, world),
@@ -173,11 +178,11 @@ fn copy_element<W: World>(
     sets: &Vec<Expanded>,
     content: &Rc<Vec<Instr>>,
     body: Body,
-    called: Answer,
+    called: &Answer,
     world: &mut W,
 ) -> Result<Next, Memory>
     requires { body.next < usize.MAX }
-    ensures does { IfOk result (Does (W.state world.old).truth (element_copied (site_of site.now).place (here_of body.here) sets.now.items (answer_of called) (inside (site_of site.now).place (instrs (map instr_of content.now.value.items)) (here_of body.here)) (after_body body (left_in run.old))) (suc (length run.old.frames.items)) run.old run.new) }
+    ensures does { IfOk result (Does (W.state world.old).truth (element_copied (site_of site.now).place (here_of body.here) sets.now.items (answer_of called.now) (inside (site_of site.now).place (instrs (map instr_of content.now.value.items)) (here_of body.here)) (after_body body (left_in run.old))) (suc (length run.old.frames.items)) run.old run.new) }
     ensures truth { (W.state world.new).truth ≡ (W.state world.old).truth }
     ensures name { W.name world.new ≡ W.name world.old }
 {
@@ -193,16 +198,17 @@ fn copy_element<W: World>(
 /// The element of this name, with these namespace nodes.
 fn element_called(
     alloc: Global,
-    called: Answer,
+    called: &Answer,
     namespaces: Vec<Namespace>,
 ) -> Result<Wrapping, Memory>
-    ensures { IfOk result (λ w. wrapping_of w ≡ plan.AsElement (question.written_in (answer_of called)) (question.uri_in (answer_of called)) (map entry_of namespaces.items)) }
+    ensures { IfOk result (λ w. wrapping_of w ≡ plan.AsElement (question.written_in (answer_of called.now)) (question.uri_in (answer_of called.now)) (map entry_of namespaces.items)) }
 {
     match called {
         Answer::Named(_, name, written) => {
-            let uri = uri_of(alloc, &name)?;
+            let uri = uri_of(alloc, name)?;
+            let name = written.copy(alloc)?;
             Ok(Wrapping::Element {
-                name: written,
+                name,
                 uri,
                 namespaces,
             })

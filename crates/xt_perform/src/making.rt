@@ -43,7 +43,7 @@ pub(crate) fn collect(
         alloc,
         run,
         rest,
-        Frame::Wrap(end),
+        end,
         &site.place,
         content,
         here,
@@ -156,6 +156,6 @@ fn last_message(
     ensures { IfOk result (λ next. (ask : question.Question NodeRef → question.Answer NodeRef) → Does ask (Begin (inside (site_of site.now).place (instrs (map instr_of content.now.value.items)) (here_of here) (Wrap AsMessage (Stop (terminated (site_of site.now).place))))) (suc (length run.old.frames.items)) run.old run.new next) }
 {
     let rest = Frame::Terminate(copy_place(alloc, &site.place)?);
-    let end = Frame::Wrap(Wrapping::Message);
+    let end = Wrapping::Message;
     sink(alloc, run, rest, end, &site.place, content, here)
 }

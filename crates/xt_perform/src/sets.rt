@@ -89,15 +89,16 @@ pub(crate) fn collect_with_sets(
     if sets.is_empty() {
         return collect(alloc, run, site, end, content, body);
     }
-    let used = used_sets(alloc, &site.place, sets.as_slice(), &body.here)?;
-    let inner = Inside {
-        place: copy_place(alloc, &site.place)?,
-        content: share_content(content)?,
-        here: body.here.share()?,
-    };
+    let here = body.here.share()?;
     run.going.begin(alloc)?;
     push(run, Frame::Body(advanced(body)))?;
     push(run, Frame::Wrap(end))?;
+    let used = used_sets(alloc, &site.place, sets.as_slice(), &here)?;
+    let inner = Inside {
+        place: copy_place(alloc, &site.place)?,
+        content: share_content(content)?,
+        here,
+    };
     push(run, Frame::Inside(inner))?;
     push_sets(run, used)?;
     Ok(Next::Went)

@@ -153,7 +153,7 @@ fn copy_of<W: World>(
     ensures name { W.name world.new ≡ W.name world.old }
 {
     match value(alloc, run, select, site, &body.here, world)? {
-        Came::Is(value) => write_value(alloc, run, value, Frame::Body(advanced(body))),
+        Came::Is(value) => write_value(alloc, run, value, body),
         Came::Halts(why) => Ok(Next::Halt(why)),
         Came::Lacks(name) => {
             let depth = body.here.depth;

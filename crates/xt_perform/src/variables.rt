@@ -12,7 +12,7 @@ ghost use Rattle.xp_syntax.specs.PartView.{site_of};
 ghost use Rattle.xp_syntax.specs.InstrView.{binding_of, instr_of};
 ghost use Rattle.xt_tree.specs.declared.node_ref.NodeRef.{NodeRef};
 ghost use Rattle.xt_frames.specs.declared.frame.Frame.TheVariants as Frame;
-ghost use Rattle.xt_frames.specs.View.{here_of, inside, after_body, following, passed_to};
+ghost use Rattle.xt_frames.specs.View.{here_of, inside, following, passed_to};
 ghost use Rattle.xt_frames.specs.Left.{left_in, Does, Performs};
 
 use crate::simple::advanced;
@@ -21,7 +21,7 @@ use std::rc::Rc;
 use xp_syntax::{Binding, Expr, Instr, Site};
 use xt_ask::{Bindings, World, copy_name};
 use xt_frames::{
-    Arguments, Body, Frame, Holder, Next, Passing, Run, hold, push, share_bindings, share_content,
+    Arguments, Body, Frame, Holder, Next, Passing, Run, Standing, hold, push, share_content,
 };
 use xt_names::Expanded;
 use xt_text::Memory;
@@ -67,24 +67,22 @@ fn share_body(body: &Body) -> Result<Body, Memory>
     })
 }
 
-/// Passes these to templates, before the rest of the body.
+/// Passes these parameters to templates, from an instruction that stands here.
 pub(crate) fn pass(
     run: &mut Run,
-    bindings: &Rc<Vec<Binding>>,
+    bindings: Rc<Vec<Binding>>,
+    here: Standing,
     to: Passing,
-    body: Body,
 ) -> Result<Next, Memory>
-    requires { body.next < usize.MAX }
-    ensures { IfOk result (λ next. (ask : question.Question NodeRef → question.Answer NodeRef) → Does ask (Put Ended (passed (made.bindings (map binding_of bindings.now.value.items)) (here_of body.here) [] (λ parameters. passed_to to parameters (after_body body (left_in run.old))))) (suc (length run.old.frames.items)) run.old run.new next) }
+    ensures { IfOk result (λ next. (ask : question.Question NodeRef → question.Answer NodeRef) → Does ask (Put Ended (passed (made.bindings (map binding_of bindings.value.items)) (here_of here) [] (λ parameters. passed_to to parameters (left_in run.old)))) (length run.old.frames.items) run.old run.new next) }
 {
     let arguments = Arguments {
-        bindings: share_bindings(bindings)?,
+        bindings,
         next: 0,
         done: Bindings::Empty,
-        here: body.here.share()?,
+        here,
         to,
     };
-    push(run, Frame::Body(advanced(body)))?;
     push(run, Frame::Arguments(arguments))?;
     Ok(Next::Went)
 }

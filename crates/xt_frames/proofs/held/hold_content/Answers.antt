@@ -1,4 +1,4 @@
-use Rattle.std.proofs.Common.{◌≡◌, ◌<◌, length, map, refl, subst, arith}
+use Rattle.std.proofs.Common.{◌≡◌, ◌<◌, length, map, refl, ap, ◌∙◌, subst, arith}
 use Rattle.std.proofs.lemmas.Bool.Decides.{nat_tests}
 use Rattle.spec_stylesheet.specs.Instruction.{instrs}
 use Rattle.xp_syntax.specs.PartView.{site_of}
@@ -8,6 +8,8 @@ use Rattle.xt_frames.specs.declared.run.Run.{Run}
 use Rattle.xt_frames.specs.View.{here_of, inside}
 use Rattle.xt_frames.specs.Left.{left_in, Does}
 use Rattle.spec_run.specs.Content.{Here}
+use Rattle.spec_run.specs.Going.{begun}
+use Rattle.xt_going.specs.View.{going_of}
 use Rattle.xt_tree.specs.declared.node_ref.NodeRef.{NodeRef}
 use Rattle.xt_frames.proofs.Lefts.{if_ok, no_content, some_content, held_in_sink}
 use Rattle.xt_frames.proofs.held.hold_content.Goals as goal
@@ -24,10 +26,12 @@ returns c =
     let some : 0 < length items = grind (arith, nat_tests, c.args.content.now.value.ok.0, c.is_empty.ensures, c.deref.ensures, c.if-is_empty.false) in
     let old = c.args.run.now in
     let low : Run = record { room = old.room; supplies = old.supplies; waiting = old.waiting; frames = old.frames; going = c.begin.new.self } in
-    let mid = c.push.new.run in
+    let p = c.push.new.run in
+    let b = c.in_ok-push.ensures in
+    let mid : Run = record { room = p.room; supplies = p.supplies; waiting = p.waiting; frames = p.frames; going = c.begin.new.self } in
     let is = instrs (map instr_of items) in
     rw (some_content items some)
     (if_ok c.go_into.result c.go_into.ensures (λ next h ask.
     let At : Here NodeRef → Type 0 = λ x. Does ask (inside (site_of c.args.site.now).place is x (left_in mid)) (length mid.frames.items) mid c.go_into.new.run next in
     held_in_sink ask old low mid c.go_into.new.run (site_of c.args.site.now).place is (here_of c.args.here.now) (frames.Take c.args.holder) next
-    refl refl refl c.in_ok-begin.ensures c.in_ok-push.ensures (subst At c.in_ok-here.ensures.here (rw c.in_ok-inner.ensures at h ask))))
+    refl refl refl (c.in_ok-begin.ensures ∙ ap (λ g. begun (going_of g)) b.going) (record { frames = b.frames; going = refl; room = b.room; supplies = b.supplies }) (subst At c.in_ok-here.ensures.here (rw c.in_ok-inner.ensures at h ask))))

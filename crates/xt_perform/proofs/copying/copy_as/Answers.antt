@@ -17,7 +17,7 @@ returns-in-Root-clause-does g c =
     let truth = (g.W.World.state c.args.world.now).truth in
     let r = c.args.run.now in
     let b = c.args.body in
-    let e = copied_is kind.Root (place_of c.args.site.now.place) (here_of b.here) c.args.sets.now.items (answer_of c.args.called) (inside (place_of c.args.site.now.place) (instrs (map instr_of c.args.content.now.value.items)) (here_of b.here)) (after_body b (left_in r)) c.in-Root.ensures in
+    let e = copied_is kind.Root (place_of c.args.site.now.place) (here_of b.here) c.args.sets.now.items (answer_of c.args.called.now) (inside (place_of c.args.site.now.place) (instrs (map instr_of c.args.content.now.value.items)) (here_of b.here)) (after_body b (left_in r)) c.in-Root.ensures in
     if_ok c.into_content.result c.into_content.ensures (λ next h.
     let P : Plan NodeRef → Type 0 = λ p. Does truth p (suc (length r.frames.items)) r c.into_content.new.run next in
     subst P e (h truth))
@@ -27,7 +27,7 @@ returns-in-Element-clause-does g c =
     let truth = (g.W.World.state c.args.world.now).truth in
     let r = c.args.run.now in
     let b = c.args.body in
-    let e = copied_is kind.Element (place_of c.args.site.now.place) (here_of b.here) c.args.sets.now.items (answer_of c.args.called) (inside (place_of c.args.site.now.place) (instrs (map instr_of c.args.content.now.value.items)) (here_of b.here)) (after_body b (left_in r)) c.in-Element.ensures in
+    let e = copied_is kind.Element (place_of c.args.site.now.place) (here_of b.here) c.args.sets.now.items (answer_of c.args.called.now) (inside (place_of c.args.site.now.place) (instrs (map instr_of c.args.content.now.value.items)) (here_of b.here)) (after_body b (left_in r)) c.in-Element.ensures in
     if_ok c.copy_element.result c.copy_element.ensures.does (λ next h.
     let P : Plan NodeRef → Type 0 = λ p. Does truth p (suc (length r.frames.items)) r c.copy_element.new.run next in
     subst P e h)
@@ -37,7 +37,7 @@ returns-in-Attribute-clause-does g c =
     let truth = (g.W.World.state c.args.world.now).truth in
     let r = c.args.run.now in
     let b = c.args.body in
-    let e = copied_is kind.Attribute (place_of c.args.site.now.place) (here_of b.here) c.args.sets.now.items (answer_of c.args.called) (inside (place_of c.args.site.now.place) (instrs (map instr_of c.args.content.now.value.items)) (here_of b.here)) (after_body b (left_in r)) c.in-Attribute.ensures in
+    let e = copied_is kind.Attribute (place_of c.args.site.now.place) (here_of b.here) c.args.sets.now.items (answer_of c.args.called.now) (inside (place_of c.args.site.now.place) (instrs (map instr_of c.args.content.now.value.items)) (here_of b.here)) (after_body b (left_in r)) c.in-Attribute.ensures in
     if_ok c.copy_node.result c.copy_node.ensures.does (λ next h.
     let P : Plan NodeRef → Type 0 = λ p. Does truth p (suc (length r.frames.items)) r c.copy_node.new.run next in
     subst P e h)
@@ -47,7 +47,7 @@ returns-in-Namespace-clause-does g c =
     let truth = (g.W.World.state c.args.world.now).truth in
     let r = c.args.run.now in
     let b = c.args.body in
-    let e = copied_is kind.Namespace (place_of c.args.site.now.place) (here_of b.here) c.args.sets.now.items (answer_of c.args.called) (inside (place_of c.args.site.now.place) (instrs (map instr_of c.args.content.now.value.items)) (here_of b.here)) (after_body b (left_in r)) c.in-Namespace.ensures in
+    let e = copied_is kind.Namespace (place_of c.args.site.now.place) (here_of b.here) c.args.sets.now.items (answer_of c.args.called.now) (inside (place_of c.args.site.now.place) (instrs (map instr_of c.args.content.now.value.items)) (here_of b.here)) (after_body b (left_in r)) c.in-Namespace.ensures in
     if_ok c.copy_node-in-Namespace.result c.copy_node-in-Namespace.ensures.does (λ next h.
     let P : Plan NodeRef → Type 0 = λ p. Does truth p (suc (length r.frames.items)) r c.copy_node-in-Namespace.new.run next in
     subst P e h)
@@ -57,7 +57,7 @@ returns-in-Text-clause-does g c =
     let truth = (g.W.World.state c.args.world.now).truth in
     let r = c.args.run.now in
     let b = c.args.body in
-    let e = copied_is kind.Text (place_of c.args.site.now.place) (here_of b.here) c.args.sets.now.items (answer_of c.args.called) (inside (place_of c.args.site.now.place) (instrs (map instr_of c.args.content.now.value.items)) (here_of b.here)) (after_body b (left_in r)) c.in-Text.ensures in
+    let e = copied_is kind.Text (place_of c.args.site.now.place) (here_of b.here) c.args.sets.now.items (answer_of c.args.called.now) (inside (place_of c.args.site.now.place) (instrs (map instr_of c.args.content.now.value.items)) (here_of b.here)) (after_body b (left_in r)) c.in-Text.ensures in
     if_ok c.copy_node-in-Text.result c.copy_node-in-Text.ensures.does (λ next h.
     let P : Plan NodeRef → Type 0 = λ p. Does truth p (suc (length r.frames.items)) r c.copy_node-in-Text.new.run next in
     subst P e h)
@@ -67,7 +67,7 @@ returns-in-Comment-clause-does g c =
     let truth = (g.W.World.state c.args.world.now).truth in
     let r = c.args.run.now in
     let b = c.args.body in
-    let e = copied_is kind.Comment (place_of c.args.site.now.place) (here_of b.here) c.args.sets.now.items (answer_of c.args.called) (inside (place_of c.args.site.now.place) (instrs (map instr_of c.args.content.now.value.items)) (here_of b.here)) (after_body b (left_in r)) c.in-Comment.ensures in
+    let e = copied_is kind.Comment (place_of c.args.site.now.place) (here_of b.here) c.args.sets.now.items (answer_of c.args.called.now) (inside (place_of c.args.site.now.place) (instrs (map instr_of c.args.content.now.value.items)) (here_of b.here)) (after_body b (left_in r)) c.in-Comment.ensures in
     if_ok c.copy_node-in-Comment.result c.copy_node-in-Comment.ensures.does (λ next h.
     let P : Plan NodeRef → Type 0 = λ p. Does truth p (suc (length r.frames.items)) r c.copy_node-in-Comment.new.run next in
     subst P e h)
@@ -77,7 +77,7 @@ returns-in-Instruction-clause-does g c =
     let truth = (g.W.World.state c.args.world.now).truth in
     let r = c.args.run.now in
     let b = c.args.body in
-    let e = copied_is kind.Instruction (place_of c.args.site.now.place) (here_of b.here) c.args.sets.now.items (answer_of c.args.called) (inside (place_of c.args.site.now.place) (instrs (map instr_of c.args.content.now.value.items)) (here_of b.here)) (after_body b (left_in r)) c.in-Instruction.ensures in
+    let e = copied_is kind.Instruction (place_of c.args.site.now.place) (here_of b.here) c.args.sets.now.items (answer_of c.args.called.now) (inside (place_of c.args.site.now.place) (instrs (map instr_of c.args.content.now.value.items)) (here_of b.here)) (after_body b (left_in r)) c.in-Instruction.ensures in
     if_ok c.copy_node-in-Instruction.result c.copy_node-in-Instruction.ensures.does (λ next h.
     let P : Plan NodeRef → Type 0 = λ p. Does truth p (suc (length r.frames.items)) r c.copy_node-in-Instruction.new.run next in
     subst P e h)

@@ -26,7 +26,7 @@ returns-clause-does g c =
     let b = c.args.body in
     let mid : Run = record { room = r.room; supplies = r.supplies; waiting = r.waiting; frames = r.frames; going = c.ask.new.self } in
     let low : Run = record { room = r.room; supplies = r.supplies; waiting = r.waiting; frames = r.frames; going = c.read_namespaces.new.going } in
-    let a = answer_of c.args.called in
+    let a = answer_of c.args.called.now in
     let after = after_body b (left_in r) in
     let content = inside (place_of c.args.site.now.place) (instrs (map instr_of c.args.content.now.value.items)) (here_of b.here) in
     let used = sets_used (place_of c.args.site.now.place) (here_of b.here) c.args.sets.now.items in

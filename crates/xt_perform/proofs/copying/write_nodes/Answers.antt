@@ -4,4 +4,5 @@ use Rattle.xt_perform.proofs.copying.write_nodes.Goals as goal
 
 pub returns : goal.returns
 returns c ask =
-    two_frames ask c.args.rest (frames.Copies (record { nodes = c.args.nodes; next = 0 })) c.args.run.now c.push.new.run c.push-2.new.run c.in_ok-push.ensures c.in_ok-push-2.ensures
+    let does = two_frames ask (frames.Body c.advanced.result) (frames.Copies (record { nodes = c.args.nodes; next = 0 })) c.args.run.now c.push.new.run c.push-2.new.run c.in_ok-push.ensures c.in_ok-push-2.ensures in
+    rw c.advanced.ensures at does

@@ -19,7 +19,7 @@ returns-in-Is-clause-does g c =
     let k : Value NodeRef → Plan NodeRef = λ v. value_copied v (after_body b (left_in old)) in
     let found = rw c.in-Is.is at c.in_ok-value.ensures.found k in
     if_ok c.write_value.result c.write_value.ensures (λ next h.
-    perform_is truth _ (λ l. value_copied (value_of c.in-Is.value) (after_body b l)) (frames.Body b) old c.value.new.run c.write_value.new.run next found.so c.value.ensures.still (rw c.advanced.ensures at h truth))
+    perform_is truth _ (λ l. value_copied (value_of c.in-Is.value) (after_body b l)) (frames.Body b) old c.value.new.run c.write_value.new.run next found.so c.value.ensures.still (h truth))
 
 pub returns-in-Halts-clause-does : goal.returns-in-Halts-clause-does
 returns-in-Halts-clause-does g c =
