@@ -1,5 +1,5 @@
 // One call with all that it enters and all globals that it needs. Each call is run each time, and a global is
-// evaluated once for all references to it before its turn.
+// evaluated once for all references to it before its turn that have the levels for it.
 ghost use Rattle.std.specs.Prelude.{◌≡◌, ◌-◌, IfOk, OnOk};
 ghost use Rattle.spec_run.specs.Meaning.{meaning};
 ghost use Rattle.xp_syntax.specs.PartView.{place_of};

@@ -221,8 +221,9 @@ fn run_in<E: Engine, W: World>(
 }
 
 /// Runs a stylesheet in a world: its globals in stylesheet order, and then the rule for the root of the source
-/// (XSLT 1.0, sections 5.1 and 11.4), with 1,200 levels of contents. A global is evaluated once, at its turn or for
-/// the first reference to it before that; its messages stand at its turn. A refusal is no error: the run then ends there.
+/// (XSLT 1.0, sections 5.1 and 11.4), with 1,200 levels of contents. A global is evaluated at its turn or for the
+/// first reference to it before that, and anew only where a reference has fewer levels left than it takes; its messages
+/// stand at its turn. A refusal is no error: the run then ends there.
 ///
 /// # Errors
 /// Want of memory. What is true in the world stays in any case.
