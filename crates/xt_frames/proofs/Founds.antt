@@ -1,27 +1,26 @@
 -- What expressions come to, before what follows them.
-use Rattle.std.proofs.Common.{◌≡◌, ℕ, List, [], ◌++◌, map, Option, Some, Result, Ok, Err, refl, sym, ap, ◌∙◌, subst}
+use Rattle.std.proofs.Common.{◌≡◌, ℕ, List, [], ◌++◌, map, Result, Ok, Err, refl, sym, ap, ◌∙◌, subst}
 use Rattle.std.proofs.lemmas.List.{append-nil}
 use Rattle.spec_document.specs.Name.{Expanded}
 use Rattle.spec_stylesheet.specs.Place.{Place, Site}
 use Rattle.spec_meaning.specs.Stream.{filled}
 use Rattle.spec_meaning.specs.Question.{Question, Answer}
-use Rattle.spec_meaning.specs.Program.{Supply, Program, Global, Ending, run}
+use Rattle.spec_meaning.specs.Program.{Supply, Program, Ending, run}
 use Rattle.spec_meaning.specs.Context.{Context}
 use Rattle.spec_run.specs.Content.{Here, context_at, asked}
-use Rattle.spec_run.specs.Plan.{Plan, lift, Refused, located}
+use Rattle.spec_run.specs.Plan.{Plan, lift, Refused}
 use Rattle.spec_run.specs.Going.{Going, closed}
 use Rattle.spec_run.specs.Passes.{Passes}
 use Rattle.xt_tree.specs.declared.node_ref.NodeRef.{NodeRef}
 use Rattle.xt_ask.specs.declared.read.Read.{Read}
 use Rattle.xt_ask.specs.declared.fault.EvalFault.{EvalFault}
 use Rattle.xt_ask.specs.declared.fault.EvalFault.TheVariants as faults
-use Rattle.xt_ask.specs.View.{read_of, refusal_of}
+use Rattle.xt_ask.specs.View.{read_of}
 use Rattle.xt_ask.specs.Runs.{Runs}
-use Rattle.xt_run.specs.View.{refused_of}
 use Rattle.xt_run.specs.Advances.{Stops, Misses}
 use Rattle.xt_frames.specs.declared.run.Came.{Came}
 use Rattle.xt_frames.specs.declared.run.Came.TheVariants as came
-use Rattle.xt_frames.specs.Noted.{noted_in, event_at, traced, read_in, Settled, SettledSo}
+use Rattle.xt_frames.specs.Noted.{noted_in, traced, read_in, Settled, SettledSo}
 use Rattle.xt_frames.specs.Left.{Found, FoundSo}
 use Rattle.xt_frames.proofs.Passed.{Lifted, lifted}
 

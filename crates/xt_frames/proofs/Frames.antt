@@ -1,30 +1,20 @@
 -- What comes of a frame that was taken off.
-use Rattle.std.proofs.Common.{◌≡◌, ℕ, suc, ◌+◌, ◌<◌, ◌≤◌, List, [], ◌∷◌, ◌++◌, length, get_or, drop, map, Option, Some, None, Vec, Global, refl, sym, ap, ◌∙◌, subst, arith, add-one}
-use Rattle.std.proofs.lemmas.List.{at_drop_more, at_drop_all}
-use Rattle.spec_document.specs.Name.{Expanded}
-use Rattle.spec_stylesheet.specs.Place.{Place}
-use Rattle.spec_stylesheet.specs.Instruction.{instrs, branches}
+use Rattle.std.proofs.Common.{◌≡◌, ℕ, suc, [], ◌∷◌, ◌++◌, length, refl, sym, ap, subst, arith}
 use Rattle.spec_meaning.specs.Question.{Question, Answer}
-use Rattle.spec_run.specs.Plan.{Plan, End, Inquire}
-use Rattle.spec_run.specs.Going.{Going, Asked, noted}
-use Rattle.spec_run.specs.Content.{planned, at, each, applied, rule_call, nodes_copied, planned_branches}
-use Rattle.spec_run.specs.Passes.{Passes, stays, asks}
-use Rattle.xp_syntax.specs.declared.instr.Instr.{Instr}
-use Rattle.xp_syntax.specs.InstrView.{instr_of}
+use Rattle.spec_run.specs.Plan.{Plan}
+use Rattle.spec_run.specs.Passes.{Passes, stays}
 use Rattle.xt_tree.specs.declared.node_ref.NodeRef.{NodeRef}
 use Rattle.xt_run.specs.Advances.{Misses}
 use Rattle.xt_going.specs.View.{going_of}
 use Rattle.xt_frames.specs.declared.frame.Frame.{Frame}
-use Rattle.xt_frames.specs.declared.frame.Frame.TheVariants as frames
-use Rattle.xt_frames.specs.declared.frame.Body.{Body}
 use Rattle.xt_frames.specs.declared.run.Run.{Run}
 use Rattle.xt_frames.specs.declared.run.Next.{Next}
 use Rattle.xt_frames.specs.declared.run.Next.TheVariants.{Went}
-use Rattle.xt_frames.specs.View.{here_of, left_frame, left_over, rest_of}
-use Rattle.xt_frames.specs.Left.{left_in, hand, steps, Comes, Does, IsBack, Performs, IsLeft, Steps, StepsFrom, Pushed}
+use Rattle.xt_frames.specs.View.{left_frame}
+use Rattle.xt_frames.specs.Left.{left_in, hand, steps, Does, Performs, Steps, StepsFrom}
 use Rattle.xt_frames.proofs.Passed.{passes_then}
 use Rattle.xt_frames.proofs.Lefts.{pushed, one_more, steps_at, passes_at, comes_after, moved, misses_moved}
-use Rattle.xt_frames.proofs.Performs.{goes, does_performs}
+use Rattle.xt_frames.proofs.Performs.{does_performs}
 
 pub does_steps : (ask : Question NodeRef → Answer NodeRef) (p : Plan NodeRef) (k : ℕ) (old new : Run) (next : Next) → Does ask p k old new next → Steps ask p k old new next
 does_steps ask p k old new next does = comes_after ask p p k k old old new next does stays (omega arith) refl refl (λ n d l x. absurd x)

@@ -1,5 +1,5 @@
 -- Items that have no holes.
-use Rattle.std.proofs.Common.{◌≡◌, ℕ, List, [], ◌∷◌, Global, rules, refl, sym, ap, ◌∙◌}
+use Rattle.std.proofs.Common.{◌≡◌, ℕ, List, [], ◌∷◌, Global, rules, sym, ap, ◌∙◌}
 use Rattle.std.specs.declared.rc.Rc.{Rc}
 use Rattle.spec_meaning.specs.Stream.{Stream, Ended, Text, Attribute, holes}
 use Rattle.xt_ask.specs.declared.context.Bindings as bindings

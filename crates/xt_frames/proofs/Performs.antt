@@ -1,11 +1,10 @@
 -- What comes of instructions.
-use Rattle.std.proofs.Common.{◌≡◌, ℕ, suc, ◌<◌, ◌≤◌, List, [], ◌∷◌, length, Global, Vec, refl, sym, ap, ◌∙◌, subst, arith}
+use Rattle.std.proofs.Common.{◌≡◌, ℕ, suc, ◌<◌, ◌≤◌, length, Global, Vec, refl, sym, ap, ◌∙◌, subst, arith}
 use Rattle.spec_document.specs.Name.{Expanded}
 use Rattle.spec_stylesheet.specs.Place.{Place}
 use Rattle.spec_meaning.specs.Stream.{Stream, Ended, filled}
 use Rattle.spec_meaning.specs.Question.{Question, Answer}
 use Rattle.spec_meaning.specs.Program.{Supply}
-use Rattle.spec_run.specs.Plan as plan
 use Rattle.spec_run.specs.Plan.{Plan, End, Put, Take, Inquire}
 use Rattle.spec_run.specs.Going.{Going, Asked, noted, put, taken, aside, closed}
 use Rattle.spec_run.specs.Passes.{Passes, stays, asks, uses, puts, begins, wraps, takes, goes_deep, is_too_deep}

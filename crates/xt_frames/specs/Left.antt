@@ -1,10 +1,10 @@
 -- What a run has left to do, and what its steps do with it.
-use Rattle.std.specs.Prelude.{◌≡◌, ℕ, suc, ◌<◌, ◌+◌, ◌*◌, List, [], ◌∷◌, ◌++◌, length, Option, nat_lt, if◌then◌else◌}
+use Rattle.std.specs.Prelude.{◌≡◌, ℕ, suc, ◌<◌, ◌+◌, ◌*◌, [], ◌∷◌, ◌++◌, length, nat_lt, if◌then◌else◌}
 use Rattle.spec_document.specs.Name.{Expanded}
 use Rattle.spec_stylesheet.specs.Place.{Place}
 use Rattle.spec_meaning.specs.Stream.{Stream, filled}
 use Rattle.spec_meaning.specs.Question.{Question, Answer}
-use Rattle.spec_meaning.specs.Program.{Wanted, Given, Supply, if_given}
+use Rattle.spec_meaning.specs.Program.{Supply, if_given}
 use Rattle.spec_meaning.specs.Supplies.{at_hand}
 use Rattle.spec_run.specs.Plan.{Plan, End, Yield, Stop, Inquire, Use, Put, Begin, Wrap, Take, Deep, Enter}
 use Rattle.spec_run.specs.Direct.{Known}

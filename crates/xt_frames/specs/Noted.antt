@@ -1,5 +1,5 @@
 -- A world whose reads are noted in a list, and the events that they are at an element.
-use Rattle.std.specs.Prelude.{◌≡◌, ℕ, List, Some, map, ◌++◌, Result, Ok, Err}
+use Rattle.std.specs.Prelude.{◌≡◌, List, Some, map, ◌++◌, Result, Ok, Err}
 use Rattle.spec_stylesheet.specs.Place.{Place}
 use Rattle.spec_meaning.specs.Question.{Question, Answer}
 use Rattle.spec_meaning.specs.Program as program

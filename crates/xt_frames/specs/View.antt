@@ -1,6 +1,5 @@
 -- Where instructions stand, and the plans that frames are.
 use Rattle.std.specs.Prelude.{ℕ, suc, ◌+◌, List, [], ◌∷◌, ◌++◌, map, drop, length, slice_get, Option, None, Some}
-use Rattle.spec_document.specs.Name.{Expanded}
 use Rattle.spec_stylesheet.specs.Place.{Place, Site}
 use Rattle.spec_stylesheet.specs.Instruction as made
 use Rattle.spec_stylesheet.specs.Instruction.{Form, with_content, Instrs, Instr, instrs, branches, bindings}

@@ -1,5 +1,5 @@
 -- Keys that are asked, one after another.
-use Rattle.std.proofs.Common.{◌≡◌, ℕ, suc, ◌≤◌, length, Vec, Global, refl, sym, ap, ◌∙◌, subst, arith}
+use Rattle.std.proofs.Common.{◌≡◌, ℕ, length, Vec, Global, refl, sym, ap, ◌∙◌, subst, arith}
 use Rattle.spec_document.specs.Name.{Expanded}
 use Rattle.spec_stylesheet.specs.Place.{Place}
 use Rattle.spec_meaning.specs.Stream.{filled}
@@ -22,7 +22,7 @@ use Rattle.xt_frames.specs.declared.run.Came.TheVariants as came
 use Rattle.xt_frames.specs.declared.run.Next.{Next}
 use Rattle.xt_frames.specs.declared.run.Next.TheVariants.{Went, Want, Needs, Done, Gave, Halt}
 use Rattle.xt_frames.specs.View.{left_frame}
-use Rattle.xt_frames.specs.Left.{left_in, hand, Steps, StepsFrom, IsStill, Pushed, HasNeeds, NeedsSo}
+use Rattle.xt_frames.specs.Left.{left_in, hand, StepsFrom, IsStill, Pushed, HasNeeds, NeedsSo}
 use Rattle.xt_frames.proofs.Passed.{passes_then}
 use Rattle.xt_frames.proofs.Lefts.{pushed, steps_at, passes_at, comes_after, moved, misses_moved, stops_after, stops_moved}
 use Rattle.xt_frames.proofs.Performs.{fewer, left_still}

@@ -1,5 +1,5 @@
 -- Branches that were looked at, one after another.
-use Rattle.std.proofs.Common.{◌≡◌, ℕ, suc, ◌+◌, ◌<◌, ◌≤◌, List, [], ◌∷◌, length, get_or, drop, map, Bool, true, false, Option, None, Some, Vec, Global, refl, sym, ap, ◌∙◌, subst, arith}
+use Rattle.std.proofs.Common.{◌≡◌, ℕ, suc, ◌+◌, ◌<◌, ◌≤◌, List, length, get_or, drop, map, Bool, true, false, Vec, Global, refl, sym, ap, ◌∙◌, subst, arith}
 use Rattle.std.specs.Prelude.{if◌then◌else◌}
 use Rattle.std.proofs.lemmas.List.{at_drop_more, at_drop_all}
 use Rattle.spec_document.specs.Name.{Expanded}
@@ -8,7 +8,7 @@ use Rattle.spec_stylesheet.specs.Instruction as made
 use Rattle.spec_stylesheet.specs.Instruction.{branch, branches}
 use Rattle.spec_meaning.specs.Stream.{Ended, filled}
 use Rattle.spec_meaning.specs.Question.{Question, Answer}
-use Rattle.spec_run.specs.Plan.{Plan, Put, End}
+use Rattle.spec_run.specs.Plan.{Plan, Put}
 use Rattle.spec_run.specs.Going.{Going, put, closed}
 use Rattle.spec_run.specs.Content.{Here, planned_branches}
 use Rattle.spec_run.specs.Passes.{Passes, stays, puts}
@@ -27,8 +27,8 @@ use Rattle.xt_frames.specs.declared.run.Came.TheVariants as came
 use Rattle.xt_frames.specs.declared.run.Run.{Run}
 use Rattle.xt_frames.specs.declared.run.Next.{Next}
 use Rattle.xt_frames.specs.declared.run.Next.TheVariants.{Went, Want, Needs, Done, Gave, Halt}
-use Rattle.xt_frames.specs.View.{inside, left_frame, left_over}
-use Rattle.xt_frames.specs.Left.{left_in, hand, steps, Does, IsLeft, IsBack, Performs, Steps, Found, IsStill, Pushed, HasNeeds, NeedsSo}
+use Rattle.xt_frames.specs.View.{inside, left_frame}
+use Rattle.xt_frames.specs.Left.{left_in, hand, Does, Performs, Steps, Found, IsStill, Pushed, HasNeeds, NeedsSo}
 use Rattle.xt_frames.proofs.Passed.{passes_then}
 use Rattle.xt_frames.proofs.Lefts.{pushed, one_more, steps_at, passes_at, comes_after, moved, misses_moved, stops_after, stops_moved}
 use Rattle.xt_frames.proofs.Performs.{fewer, left_still, put_nothing}

@@ -1,5 +1,5 @@
 -- What sees a variable.
-use Rattle.std.proofs.Common.{◌≡◌, ℕ, ◌+◌, Option, Vec, Global, drop, map, sym, ap, ◌∙◌, subst}
+use Rattle.std.proofs.Common.{◌≡◌, ◌+◌, Option, Vec, Global, drop, map, ap, ◌∙◌, subst}
 use Rattle.spec_document.specs.Name.{Expanded}
 use Rattle.spec_expression.specs.Syntax.{Expr}
 use Rattle.spec_stylesheet.specs.Place.{Site}

@@ -1,5 +1,5 @@
 -- Into the content of an instruction of a body.
-use Rattle.std.proofs.Common.{◌≡◌, ℕ, suc, ◌+◌, length, refl, sym, ap, ◌∙◌, subst, arith}
+use Rattle.std.proofs.Common.{◌≡◌, suc, ◌+◌, length, sym, ap, ◌∙◌, subst, arith}
 use Rattle.spec_stylesheet.specs.Place.{Place}
 use Rattle.spec_stylesheet.specs.Instruction.{Instrs}
 use Rattle.spec_meaning.specs.Stream.{Ended}

@@ -1,18 +1,16 @@
 -- What is left of literal result elements.
-use Rattle.std.proofs.Common.{◌≡◌, ℕ, suc, ◌+◌, ◌<◌, ◌≤◌, List, [], ◌∷◌, length, get_or, drop, map, Option, None, Some, Vec, Global, refl, sym, ap, ◌∙◌, subst, arith}
+use Rattle.std.proofs.Common.{◌≡◌, ℕ, ◌+◌, ◌<◌, ◌≤◌, List, ◌∷◌, length, get_or, drop, map, Some, refl, sym, ap, ◌∙◌, arith}
 use Rattle.std.specs.Option.{option_map}
 use Rattle.std.specs.Prelude.{slice_get}
 use Rattle.std.proofs.lemmas.List.{at_drop_more, at_drop_all, drop-map}
 use Rattle.std.proofs.lemmas.Option.{slice_get-map, slice_get_read, slice_get_past}
-use Rattle.std.specs.declared.rc.Rc.{Rc}
 use Rattle.spec_stylesheet.specs.Place.{Site}
 use Rattle.spec_stylesheet.specs.Instruction as made
 use Rattle.spec_stylesheet.specs.Instruction.{Instrs, instrs}
 use Rattle.spec_meaning.specs.Question.{Question, Answer}
-use Rattle.spec_run.specs.Plan.{Plan, End, Begin, Wrap, Wrapping, Put}
-use Rattle.spec_run.specs.Going.{Going, begun}
+use Rattle.spec_run.specs.Plan.{Plan, Put}
 use Rattle.spec_run.specs.Content.{Here, attribute_aliased, attributes_put, asked}
-use Rattle.spec_run.specs.Passes.{Passes, stays, begins}
+use Rattle.spec_run.specs.Passes.{stays}
 use Rattle.spec_transform.specs.Expansion.{expanded}
 use Rattle.xp_syntax.specs.declared.instr.Instr.{Instr}
 use Rattle.xp_syntax.specs.declared.literal.LiteralAttribute.{LiteralAttribute}
@@ -21,18 +19,15 @@ use Rattle.xp_syntax.specs.declared.with_content.WithContent.TheVariants as with
 use Rattle.xp_syntax.specs.InstrView.{instr_of}
 use Rattle.xp_syntax.specs.PartView.{with_content_of, literal_attribute_of, avt_of}
 use Rattle.xt_tree.specs.declared.node_ref.NodeRef.{NodeRef}
-use Rattle.xt_run.specs.declared.wrapping.Wrapping as declared
-use Rattle.xt_run.specs.View.{wrapping_of}
 use Rattle.xt_going.specs.View.{going_of}
 use Rattle.xt_frames.specs.declared.frame.Attributes.{Attributes}
 use Rattle.xt_frames.specs.declared.frame.Frame.{Frame}
 use Rattle.xt_frames.specs.declared.frame.Frame.TheVariants as frames
 use Rattle.xt_frames.specs.declared.run.Run.{Run}
 use Rattle.xt_frames.specs.declared.run.Next.TheVariants.{Went}
-use Rattle.xt_frames.specs.View.{here_of, inside, attributes_left, attributes_left_of, left_frame, left_over}
-use Rattle.xt_frames.specs.Left.{left_in, hand, steps, Comes, Does, Performs, IsStill, Pushed}
-use Rattle.xt_frames.proofs.Lefts.{pushed, one_more, steps_at, passes_at, comes_after}
-use Rattle.xt_frames.proofs.Performs.{goes}
+use Rattle.xt_frames.specs.View.{here_of, attributes_left, attributes_left_of, left_frame}
+use Rattle.xt_frames.specs.Left.{left_in, hand, steps, Performs}
+use Rattle.xt_frames.proofs.Lefts.{passes_at}
 
 -- the instruction of this number
 pub instr_at : (is : List Instr) (n : ℕ) (x : Instr) → n < length is → x ≡ get_or is n x → slice_get (map instr_of is) n ≡ Some (instr_of x)

@@ -1,11 +1,10 @@
 -- Answers of other kinds than were asked for, and kinds of nodes.
-use Rattle.std.proofs.Common.{◌≡◌, ℕ, List, [], Option, refl, ap}
-use Rattle.std.specs.Prelude.{Vec}
+use Rattle.std.proofs.Common.{◌≡◌, ℕ, List, [], Option, refl}
 use Rattle.spec_document.specs.declared.kind.Kind.{Kind}
 use Rattle.spec_document.specs.declared.kind.Kind.TheVariants as kind
 use Rattle.spec_document.specs.Name.{Expanded}
 use Rattle.spec_stylesheet.specs.Place.{Place}
-use Rattle.spec_meaning.specs.Stream.{Stream, Ended}
+use Rattle.spec_meaning.specs.Stream.{Ended}
 use Rattle.spec_meaning.specs.Question as question
 use Rattle.spec_meaning.specs.Value as value
 use Rattle.spec_expression.specs.Number.{Number, text_of}

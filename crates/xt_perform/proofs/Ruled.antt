@@ -2,8 +2,7 @@
 use Rattle.std.specs.Prelude.{Vec}
 use Rattle.std.specs.Global.{Global}
 use Rattle.std.proofs.Common.{◌≡◌, ℕ, Bool, true, false, Option, None, suc, length, refl, sym, ap, subst, if◌then◌else◌}
-use Rattle.spec_document.specs.Name.{Expanded}
-use Rattle.spec_stylesheet.specs.Place.{Place, Site}
+use Rattle.spec_stylesheet.specs.Place.{Site}
 use Rattle.spec_stylesheet.specs.Instruction.{ApplyImports}
 use Rattle.spec_meaning.specs.Question.{Question, Answer}
 use Rattle.spec_meaning.specs.Program.{CurrentRule, Rule, Ruled, current_in}

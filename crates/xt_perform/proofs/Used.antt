@@ -7,7 +7,7 @@ use Rattle.spec_document.specs.Name.{Expanded, same_name}
 use Rattle.spec_stylesheet.specs.Place.{Place}
 use Rattle.spec_meaning.specs.Question.{Question, Answer}
 use Rattle.spec_run.specs.Plan.{Plan, End, Begin, Enter}
-use Rattle.spec_run.specs.Going.{Going, begun}
+use Rattle.spec_run.specs.Going.{begun}
 use Rattle.spec_run.specs.Passes.{stays, begins}
 use Rattle.spec_run.specs.Content.{Here, elements_named, set_call, sets_entered, sets_used}
 use Rattle.xp_syntax.specs.PartView.{place_of}
@@ -22,7 +22,7 @@ use Rattle.xt_frames.specs.declared.run.Run.{Run}
 use Rattle.xt_frames.specs.declared.run.Next.{Next}
 use Rattle.xt_frames.specs.declared.run.Next.TheVariants.{Went}
 use Rattle.xt_frames.specs.View.{here_of, left_frame, left_over}
-use Rattle.xt_frames.specs.Left.{left_in, hand, Does, Steps, Pushed}
+use Rattle.xt_frames.specs.Left.{left_in, Does, Steps, Pushed}
 use Rattle.xt_frames.proofs.Lefts.{pushed, one_more, steps_at, passes_at, comes_after}
 use Rattle.xt_perform.specs.Over.{IsOver}
 

@@ -1,5 +1,5 @@
 -- What comes of the keys of nodes that are asked one after another (XSLT 1.0, section 10).
-use Rattle.std.specs.Prelude.{◌≡◌, ℕ, map, Option, None, Some, slice_get, Vec}
+use Rattle.std.specs.Prelude.{ℕ, Option, None, Some, slice_get, Vec}
 use Rattle.std.specs.Global.{Global}
 use Rattle.spec_stylesheet.specs.Place.{Place}
 use Rattle.spec_stylesheet.specs.Instruction as made

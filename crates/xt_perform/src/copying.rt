@@ -71,12 +71,7 @@ fn write_nodes(run: &mut Run, nodes: Vec<NodeRef>, body: Body) -> Result<Next, M
 }
 
 /// Writes a fragment without the attributes beside its nodes, before the rest of the body.
-fn write_plain(
-    alloc: Global,
-    run: &mut Run,
-    fragment: Fragment,
-    body: Body,
-) -> Result<Next, Memory>
+fn write_plain(alloc: Global, run: &mut Run, fragment: Fragment, body: Body) -> Result<Next, Memory>
     requires { body.next < usize.MAX }
     ensures { IfOk result (λ next. (ask : question.Question NodeRef → question.Answer NodeRef) → Does ask (plan.Put (without_attributes fragment) (after_body body (left_in run.old))) (suc (length run.old.frames.items)) run.old run.new next) }
 {

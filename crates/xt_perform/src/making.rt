@@ -39,15 +39,7 @@ pub(crate) fn collect(
 {
     let here = body.here.share()?;
     let rest = Frame::Body(advanced(body));
-    sink(
-        alloc,
-        run,
-        rest,
-        end,
-        &site.place,
-        content,
-        here,
-    )
+    sink(alloc, run, rest, end, &site.place, content, here)
 }
 
 /// xsl:element (XSLT 1.0, section 7.1.2).

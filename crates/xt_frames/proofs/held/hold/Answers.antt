@@ -1,4 +1,4 @@
-use Rattle.std.proofs.Common.{◌≡◌, Bool, Option, None, map, length, suc, ap, sym, subst, IfOk}
+use Rattle.std.proofs.Common.{◌≡◌, Option, None, map, ap, sym, subst}
 use Rattle.std.specs.Option.{option_map}
 use Rattle.spec_expression.specs.Syntax.{Expr}
 use Rattle.spec_stylesheet.specs.Instruction.{instrs}
@@ -10,7 +10,6 @@ use Rattle.xp_syntax.specs.InstrView.{instr_of}
 use Rattle.xt_tree.specs.declared.node_ref.NodeRef.{NodeRef}
 use Rattle.xt_frames.specs.View.{here_of, inside, left_with}
 use Rattle.xt_frames.specs.Left.{left_in, Performs}
-use Rattle.xt_frames.specs.declared.run.Next.{Next}
 use Rattle.xt_frames.proofs.Lefts.{if_ok}
 use Rattle.xt_frames.proofs.Performs.{does_performs}
 use Rattle.xt_frames.proofs.held.hold.Goals as goal

@@ -1,4 +1,3 @@
-use Rattle.std.proofs.Common.{refl}
 use Rattle.xt_ask.proofs.Steps.{runs_then, runs_stop, runs_gives, exits}
 use Rattle.xt_frames.proofs.meant.truth_of.Goals as goal
 

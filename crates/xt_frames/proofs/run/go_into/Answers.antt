@@ -1,4 +1,4 @@
-use Rattle.std.proofs.Common.{refl, ap, arith, add-one, ◌∙◌, ◌+◌, map}
+use Rattle.std.proofs.Common.{refl, ap, arith, add-one, ◌+◌, map}
 use Rattle.spec_expression.specs.declared.code.DynCode.TheVariants.{TooDeep}
 use Rattle.spec_stylesheet.specs.Instruction.{instrs}
 use Rattle.xp_syntax.specs.PartView.{place_of}

@@ -1,7 +1,7 @@
-use Rattle.std.proofs.Common.{◌≡◌, IfOk, Some, refl, subst, sym, ap, ◌∙◌, map}
+use Rattle.std.proofs.Common.{IfOk, Some, subst, sym, ap, ◌∙◌}
 use Rattle.spec_stylesheet.specs.Instruction as made
 use Rattle.xp_syntax.specs.PartView.{site_of}
-use Rattle.xp_syntax.specs.InstrView.{instr_of, form_of}
+use Rattle.xp_syntax.specs.InstrView.{form_of}
 use Rattle.xp_syntax.specs.declared.instr.Instr.{out-Instr}
 use Rattle.xt_frames.specs.declared.frame.Frame.TheVariants as frames
 use Rattle.xt_frames.specs.View.{here_of, attributes_left}

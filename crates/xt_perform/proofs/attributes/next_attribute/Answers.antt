@@ -1,7 +1,7 @@
-use Rattle.std.proofs.Common.{◌≡◌, IfOk, ap, length, subst, sym, ◌∙◌, arith, map, ◌+◌, suc}
+use Rattle.std.proofs.Common.{◌≡◌, IfOk, ap, length, subst, sym, ◌∙◌, arith, map, ◌+◌}
 use Rattle.spec_stylesheet.specs.Instruction.{instrs}
 use Rattle.spec_run.specs.Plan.{Plan}
-use Rattle.xp_syntax.specs.PartView.{site_of, place_of}
+use Rattle.xp_syntax.specs.PartView.{site_of}
 use Rattle.xp_syntax.specs.InstrView.{instr_of}
 use Rattle.xt_tree.specs.declared.node_ref.NodeRef.{NodeRef}
 use Rattle.xt_frames.specs.declared.frame.Frame.TheVariants as frames

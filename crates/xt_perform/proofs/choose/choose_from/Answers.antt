@@ -1,4 +1,4 @@
-use Rattle.std.proofs.Common.{◌≡◌, ◌<◌, ◌≤◌, ◌+◌, refl, ap, length, get_or, drop, map, arith, subst, ◌∙◌}
+use Rattle.std.proofs.Common.{◌≡◌, ◌<◌, ◌+◌, refl, ap, length, get_or, drop, map, arith, subst, ◌∙◌}
 use Rattle.spec_stylesheet.specs.Instruction.{branches}
 use Rattle.spec_run.specs.Content.{Here}
 use Rattle.xp_syntax.specs.InstrView.{branch_of}

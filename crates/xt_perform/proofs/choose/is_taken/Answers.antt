@@ -1,10 +1,9 @@
-use Rattle.std.proofs.Common.{IfOk, Some, None, Bool, true, subst, sym}
+use Rattle.std.proofs.Common.{Bool, true, subst, sym}
 use Rattle.std.specs.Prelude.{if◌then◌else◌}
 use Rattle.spec_stylesheet.specs.Instruction as made
 use Rattle.spec_run.specs.Plan.{Plan}
 use Rattle.spec_run.specs.Content.{planned_branches}
 use Rattle.spec_run.specs.Passes.{stays}
-use Rattle.xp_syntax.specs.InstrView.{branch_of}
 use Rattle.xt_tree.specs.declared.node_ref.NodeRef.{NodeRef}
 use Rattle.xt_ask.specs.Runs.{itself}
 use Rattle.xt_going.specs.View.{going_of}

@@ -1,4 +1,4 @@
-use Rattle.std.proofs.Common.{◌≡◌, ℕ, ◌∙◌, Option, List, [], Vec, Global, subst, suc, length, map, sym, ap, arith}
+use Rattle.std.proofs.Common.{◌≡◌, ℕ, ◌∙◌, Option, [], Vec, Global, subst, suc, length, map, arith}
 use Rattle.std.proofs.lemmas.Bool.Decides.{nat_tests}
 use Rattle.spec_document.specs.Name.{Expanded}
 use Rattle.spec_stylesheet.specs.Place.{Place}

@@ -1,4 +1,4 @@
-use Rattle.std.proofs.Common.{◌≡◌, [], subst, suc, length, map, Option}
+use Rattle.std.proofs.Common.{[], subst, suc, length, map, Option}
 use Rattle.spec_stylesheet.specs.Instruction.{bindings}
 use Rattle.spec_run.specs.Content.{called, passed}
 use Rattle.xp_syntax.specs.PartView.{site_of}

@@ -1,4 +1,4 @@
-use Rattle.std.proofs.Common.{◌≡◌, ℕ, ◌∙◌, ap, [], Option, None, Vec, Global, subst, suc, length, map, if◌then◌else◌}
+use Rattle.std.proofs.Common.{◌≡◌, ℕ, [], None, Vec, Global, subst, suc, length, map, if◌then◌else◌}
 use Rattle.spec_stylesheet.specs.Place.{Place}
 use Rattle.spec_stylesheet.specs.Instruction.{bindings}
 use Rattle.spec_meaning.specs.Stream.{Ended}

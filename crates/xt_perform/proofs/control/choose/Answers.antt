@@ -1,4 +1,4 @@
-use Rattle.std.proofs.Common.{map, subst, suc, length, ◌≡◌, ◌+◌}
+use Rattle.std.proofs.Common.{map, subst, suc, length}
 use Rattle.spec_stylesheet.specs.Instruction.{branches}
 use Rattle.spec_run.specs.Content.{Here, planned_branches}
 use Rattle.xp_syntax.specs.InstrView.{branch_of}
@@ -6,7 +6,7 @@ use Rattle.xt_tree.specs.declared.node_ref.NodeRef.{NodeRef}
 use Rattle.xt_frames.specs.declared.frame.Body.{Body}
 use Rattle.xt_frames.specs.declared.frame.Frame.TheVariants as frames
 use Rattle.xt_frames.specs.View.{here_of, left_frame}
-use Rattle.xt_frames.specs.Left.{left_in, Performs, Steps}
+use Rattle.xt_frames.specs.Left.{left_in, Steps}
 use Rattle.xt_frames.proofs.Lefts.{if_ok}
 use Rattle.xt_perform.proofs.Chosen.{steps_after, steps_performs}
 use Rattle.xt_perform.proofs.control.choose.Goals as goal

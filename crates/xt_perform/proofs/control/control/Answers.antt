@@ -1,4 +1,4 @@
-use Rattle.std.proofs.Common.{IfOk, subst, sym, ap, ◌∙◌, map}
+use Rattle.std.proofs.Common.{IfOk, subst, sym, ap, ◌∙◌}
 use Rattle.spec_stylesheet.specs.Instruction as made
 use Rattle.spec_run.specs.Content.{planned_control}
 use Rattle.xp_syntax.specs.PartView.{site_of}

@@ -1,4 +1,4 @@
-use Rattle.std.proofs.Common.{◌≡◌, suc, length, subst, map}
+use Rattle.std.proofs.Common.{suc, length, subst, map}
 use Rattle.spec_document.specs.declared.kind.Kind.TheVariants as kind
 use Rattle.spec_stylesheet.specs.Instruction.{instrs}
 use Rattle.spec_run.specs.Plan.{Plan}

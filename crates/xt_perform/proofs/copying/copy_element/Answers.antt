@@ -1,4 +1,4 @@
-use Rattle.std.proofs.Common.{refl, ap, ◌∙◌, ◌≡◌, ℕ, List, [], suc, length, map, subst}
+use Rattle.std.proofs.Common.{refl, ap, ◌∙◌, List, [], suc, length, map, subst}
 use Rattle.spec_document.specs.declared.axis.Axis.TheVariants as axis
 use Rattle.spec_expression.specs.declared.NodeType.TheVariants as type
 use Rattle.spec_expression.specs.Syntax.{OfType}
@@ -8,7 +8,7 @@ use Rattle.spec_run.specs.Plan.{Plan, Wrapping, Begin, Wrap, AsElement}
 use Rattle.spec_run.specs.Content.{namespaces_read, sets_used}
 use Rattle.xp_syntax.specs.PartView.{place_of}
 use Rattle.xp_syntax.specs.InstrView.{instr_of}
-use Rattle.xt_names.specs.View.{entry_of, Entry}
+use Rattle.xt_names.specs.View.{Entry}
 use Rattle.xt_tree.specs.declared.node_ref.NodeRef.{NodeRef}
 use Rattle.xt_ask.specs.View.{answer_of}
 use Rattle.xt_frames.specs.declared.run.Run.{Run}
@@ -16,7 +16,7 @@ use Rattle.xt_frames.specs.View.{here_of, inside, after_body}
 use Rattle.xt_frames.specs.Left.{left_in, hand, Does}
 use Rattle.xt_frames.proofs.Lefts.{if_ok}
 use Rattle.xt_frames.proofs.Performs.{inquired}
-use Rattle.xt_perform.proofs.Asked.{passed, comes_in, passes_in}
+use Rattle.xt_perform.proofs.Asked.{passed, passes_in}
 use Rattle.xt_perform.proofs.copying.copy_element.Goals as goal
 
 pub returns-clause-does : goal.returns-clause-does

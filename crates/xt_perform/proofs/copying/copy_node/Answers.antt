@@ -1,4 +1,4 @@
-use Rattle.std.proofs.Common.{refl, ap, ◌∙◌}
+use Rattle.std.proofs.Common.{refl}
 use Rattle.spec_meaning.specs.Question.{Copy}
 use Rattle.spec_run.specs.Plan.{Put}
 use Rattle.spec_run.specs.Copy.{stream_in}

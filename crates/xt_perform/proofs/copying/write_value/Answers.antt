@@ -1,4 +1,4 @@
-use Rattle.std.proofs.Common.{◌≡◌, suc, length, subst, sym}
+use Rattle.std.proofs.Common.{suc, length, subst, sym}
 use Rattle.spec_run.specs.Plan.{Plan}
 use Rattle.xt_tree.specs.declared.node_ref.NodeRef.{NodeRef}
 use Rattle.xt_frames.specs.View.{after_body}

@@ -1,4 +1,4 @@
-use Rattle.std.proofs.Common.{Option, None, Some}
+use Rattle.std.proofs.Common.{None, Some}
 use Rattle.spec_stylesheet.specs.Instruction.{ApplyImports}
 use Rattle.spec_run.specs.Content.{imports_applied, planned_without}
 use Rattle.xp_syntax.specs.PartView.{site_of}
@@ -6,7 +6,6 @@ use Rattle.xt_ask.specs.View.{current_of}
 use Rattle.xt_frames.specs.View.{here_of, after_body}
 use Rattle.xt_frames.specs.Left.{left_in}
 use Rattle.xt_frames.proofs.Lefts.{if_ok}
-use Rattle.xt_perform.proofs.Asked.{comes_in}
 use Rattle.xt_perform.proofs.Ruled.{once_known}
 use Rattle.xt_perform.proofs.imports.apply_imports.Goals as goal
 

@@ -1,9 +1,8 @@
-use Rattle.std.proofs.Common.{◌≡◌, IfOk, Some, subst, sym, ap, ◌∙◌, map}
+use Rattle.std.proofs.Common.{IfOk, Some, subst, sym, ap, ◌∙◌}
 use Rattle.spec_stylesheet.specs.Instruction as made
 use Rattle.spec_run.specs.Content.{plan}
-use Rattle.xp_syntax.specs.PartView.{site_of, without_content_of, with_content_of}
-use Rattle.xp_syntax.specs.InstrView.{instr_of, form_of, control_of}
-use Rattle.xp_syntax.specs.declared.instr.Form.{Form}
+use Rattle.xp_syntax.specs.PartView.{site_of}
+use Rattle.xp_syntax.specs.InstrView.{form_of}
 use Rattle.xp_syntax.specs.declared.instr.Instr.{out-Instr}
 use Rattle.xt_frames.specs.declared.frame.Frame.TheVariants as frames
 use Rattle.xt_frames.specs.View.{here_of, following}

@@ -1,4 +1,4 @@
-use Rattle.std.proofs.Common.{◌≡◌, ℕ, ◌+◌, List, Option, Some, Vec, Global, suc, length, drop, refl, ap, ◌∙◌, map, subst}
+use Rattle.std.proofs.Common.{◌≡◌, List, Option, Vec, Global, suc, length, drop, refl, ap, ◌∙◌, map, subst}
 use Rattle.std.specs.List.{flat_map}
 use Rattle.std.specs.Prelude.{slice_get}
 use Rattle.spec_stylesheet.specs.Place.{Place}

@@ -1,5 +1,4 @@
-use Rattle.std.proofs.Common.{sym, ap, ◌∙◌, ◌++◌, ◌≡◌}
-use Rattle.std.specs.Prelude.{codes}
+use Rattle.std.proofs.Common.{sym, ◌∙◌}
 use Rattle.xt_perform.proofs.Written.{without_prefix, prefixed}
 use Rattle.xt_frames.proofs.Lefts.{if_ok}
 use Rattle.xt_perform.proofs.literal.written_name.Goals as goal

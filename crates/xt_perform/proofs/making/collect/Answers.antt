@@ -1,4 +1,4 @@
-use Rattle.std.proofs.Common.{map, ◌≡◌, subst, length, suc}
+use Rattle.std.proofs.Common.{map, subst, length, suc}
 use Rattle.spec_stylesheet.specs.Instruction.{instrs}
 use Rattle.spec_run.specs.Plan.{Begin, Wrap}
 use Rattle.spec_run.specs.Content.{Here}

@@ -1,9 +1,8 @@
-use Rattle.std.proofs.Common.{◌≡◌, ℕ, List, refl, ap, sym, subst, ◌∙◌}
-use Rattle.spec_meaning.specs.Question.{Question, Answer, Name, Text, local_in, text_in}
-use Rattle.spec_run.specs.Plan.{Plan, Inquire}
+use Rattle.std.proofs.Common.{refl, sym, subst}
+use Rattle.spec_meaning.specs.Question.{Name, Text, local_in, text_in}
+use Rattle.spec_run.specs.Plan.{Inquire}
 use Rattle.spec_run.specs.Passes.{Passes, stays}
 use Rattle.xt_names.specs.View.{Entry}
-use Rattle.xt_tree.specs.declared.node_ref.NodeRef.{NodeRef}
 use Rattle.xt_ask.specs.View.{answer_of}
 use Rattle.xt_going.specs.View.{going_of}
 use Rattle.xt_perform.proofs.Asked.{asked_more}

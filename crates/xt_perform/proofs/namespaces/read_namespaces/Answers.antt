@@ -1,10 +1,8 @@
-use Rattle.std.proofs.Common.{◌≡◌, ℕ, List, [], ◌∷◌, map, refl, ap, ◌∙◌, arith, subst, sym}
+use Rattle.std.proofs.Common.{List, [], ◌∷◌, map, refl, ap, ◌∙◌, arith, subst, sym}
 use Rattle.std.proofs.lemmas.List.{map-append}
-use Rattle.spec_run.specs.Plan.{Plan}
 use Rattle.spec_run.specs.Passes.{Passes, stays}
 use Rattle.spec_run.specs.Content.{namespaces_read}
 use Rattle.xt_names.specs.View.{entry_of, Entry}
-use Rattle.xt_tree.specs.declared.node_ref.NodeRef.{NodeRef}
 use Rattle.xt_going.specs.View.{going_of}
 use Rattle.xt_perform.proofs.Asked.{namespace_more, namespaces_end}
 use Rattle.xt_perform.proofs.namespaces.read_namespaces.Goals as goal

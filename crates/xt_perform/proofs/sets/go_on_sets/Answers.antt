@@ -1,4 +1,4 @@
-use Rattle.std.proofs.Common.{◌≡◌, ◌≤◌, ◌<◌, ◌+◌, length, drop, sym, ap, ◌∙◌, arith}
+use Rattle.std.proofs.Common.{◌<◌, ◌+◌, length, drop, sym, ap, ◌∙◌, arith}
 use Rattle.spec_run.specs.Plan.{Enter}
 use Rattle.spec_run.specs.Content.{sets_entered}
 use Rattle.xp_syntax.specs.PartView.{place_of}

@@ -3,9 +3,9 @@ use Rattle.spec_run.specs.Plan.{Put}
 use Rattle.spec_run.specs.Content.{text_item}
 use Rattle.xt_tree.specs.declared.node_ref.NodeRef.{NodeRef}
 use Rattle.spec_run.specs.Plan.{Plan}
-use Rattle.xp_syntax.specs.PartView.{site_of, place_of}
+use Rattle.xp_syntax.specs.PartView.{place_of}
 use Rattle.xt_frames.specs.declared.frame.Frame.TheVariants as frames
-use Rattle.xt_frames.specs.View.{here_of, inside, after_body}
+use Rattle.xt_frames.specs.View.{after_body}
 use Rattle.xt_frames.specs.Left.{left_in}
 use Rattle.xt_frames.proofs.Lefts.{if_ok, if_both}
 use Rattle.xt_frames.proofs.Performs.{perform_is, perform_halts, perform_lacks}

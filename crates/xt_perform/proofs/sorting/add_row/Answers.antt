@@ -1,4 +1,4 @@
-use Rattle.std.proofs.Common.{◌≡◌, ◌≤◌, ◌<◌, [], length, get_or, Vec, Global, ap, ◌∙◌, arith}
+use Rattle.std.proofs.Common.{◌≡◌, [], length, get_or, Vec, Global, ap, ◌∙◌, arith}
 use Rattle.xt_sort.specs.declared.row.KeyValue.{KeyValue}
 use Rattle.xt_perform.proofs.Rows.{IsNext, row_more}
 use Rattle.xt_perform.proofs.sorting.add_row.Goals as goal

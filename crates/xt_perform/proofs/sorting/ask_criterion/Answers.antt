@@ -1,4 +1,4 @@
-use Rattle.std.proofs.Common.{◌≡◌, ◌<◌, ◌+◌, ◌++◌, [], ◌∷◌, length, get_or, drop, map, refl, arith}
+use Rattle.std.proofs.Common.{◌≡◌, ◌+◌, ◌++◌, [], ◌∷◌, length, get_or, drop, map, refl, arith}
 use Rattle.spec_transform.specs.Sorted as sorts
 use Rattle.spec_transform.specs.Sorted.{criterion_meant}
 use Rattle.spec_run.specs.Plan.{Plan}

@@ -1,4 +1,4 @@
-use Rattle.std.proofs.Common.{◌≡◌, refl, ap, ◌∙◌, arith}
+use Rattle.std.proofs.Common.{refl, ap, ◌∙◌}
 use Rattle.xt_frames.specs.declared.frame.Sorting.{Sorting}
 use Rattle.xt_perform.specs.Asks.{with_rows}
 use Rattle.xt_perform.proofs.Askings.{nothing_asked, asks_in, asks_then}

@@ -1,6 +1,3 @@
-use Rattle.std.proofs.Common.{◌≡◌, ◌<◌, suc, length, get_or, sym, ap, ◌∙◌, arith}
-use Rattle.spec_run.specs.Content.{Here}
-use Rattle.xt_tree.specs.declared.node_ref.NodeRef.{NodeRef}
 use Rattle.xt_perform.proofs.Askings.{asks_same}
 use Rattle.xt_perform.proofs.sorting.ask_row.Goals as goal
 

@@ -1,7 +1,6 @@
 use Rattle.std.proofs.Common.{◌≡◌, length, arith}
-use Rattle.xt_frames.specs.declared.frame.Frame.TheVariants as frames
 use Rattle.xt_frames.proofs.Lefts.{if_ok, if_both}
-use Rattle.xt_perform.proofs.Askings.{asks_at, steps_asked, steps_halted, steps_in, steps_lacking}
+use Rattle.xt_perform.proofs.Askings.{asks_at, steps_asked, steps_halted, steps_lacking}
 use Rattle.xt_perform.proofs.sorting.go_on_rows.Goals as goal
 
 pub returns-in-Is-clause-does : goal.returns-in-Is-clause-does

@@ -1,4 +1,4 @@
-use Rattle.std.proofs.Common.{List, [], subst, length, map}
+use Rattle.std.proofs.Common.{List, subst, length, map}
 use Rattle.spec_stylesheet.specs.Instruction.{bindings}
 use Rattle.spec_meaning.specs.Stream.{Ended}
 use Rattle.spec_meaning.specs.Context.{Bound}
