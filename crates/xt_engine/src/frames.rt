@@ -11,13 +11,13 @@ ghost use Rattle.xt_frames.specs.Left.{StepsFrom};
 
 use spec_expression::DynCode;
 use std::alloc::Global;
-use xt_ask::{Candidates, Question, World, copy_name_if, copy_place};
+use xt_ask::{Candidates, Focus, Question, World, copy_name_if, copy_place};
 use xt_base::Place;
 use xt_frames::{
     Application, Body, Copies, Frame, Loop, Next, Run, Standing, go_into, push, share_content, want,
 };
-use xt_perform::{perform, put_copy, ruling_of_rule, target_of_rule};
-use xt_run::{Call, Refused, Wrapping};
+use xt_perform::{call_of_choice, perform, put_copy};
+use xt_run::{Refused, Wrapping};
 use xt_text::Memory;
 
 /// Goes on with a content.
@@ -102,15 +102,13 @@ pub(crate) fn go_on_application<W: World>(
     let question = Question::Choice(node, mode, Candidates::AllRules);
     let answer = run.going.ask(alloc, world, question)?;
     let rule = answer.into_rule();
-    let call = Call {
-        target: target_of_rule(alloc, &left.mode, &rule)?,
+    let focus = Focus {
         node,
-        parameters: left.parameters.share()?,
         position: Some(left.next as u64 + 1),
         size: Some(size),
-        ruling: ruling_of_rule(alloc, &left.mode, &rule)?,
-        by: copy_place(alloc, &left.place)?,
     };
+    let parameters = left.parameters.share()?;
+    let call = call_of_choice(alloc, &left.mode, &rule, focus, parameters, &left.place)?;
     let depth = left.depth;
     let rest = Frame::Application(Application {
         place: left.place,

@@ -236,9 +236,9 @@ fn go_on_argument<W: World>(
     ensures truth { (W.state world.new).truth ≡ (W.state world.old).truth }
     ensures name { W.name world.new ≡ W.name world.old }
 {
+    let here = left.here.share()?;
     let name = copy_name(alloc, &binding.name)?;
     let holder = Holder::Argument(name, past_argument(alloc, &left)?);
-    let here = left.here.share()?;
     hold(
         alloc,
         run,

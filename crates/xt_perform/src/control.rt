@@ -111,8 +111,9 @@ fn for_nodes(
         push(run, Frame::Loop(left))?;
         return Ok(Next::Went);
     }
+    let keys = share_keys(keys)?;
     let to = Ordered::Loop(loop_over(place, content, Vec::new(alloc), inner));
-    let left = unsorted(alloc, share_keys(keys)?, here, nodes, to);
+    let left = unsorted(alloc, keys, here, nodes, to);
     push(run, Frame::Sorting(left))?;
     Ok(Next::Went)
 }

@@ -7,10 +7,10 @@ ghost use Rattle.spec_meaning.specs.Question as question;
 ghost use Rattle.spec_run.specs.Plan.{Plan};
 ghost use Rattle.spec_run.specs.Passes.{Passes};
 ghost use Rattle.spec_run.specs.Content as contents;
-ghost use Rattle.xp_syntax.specs.PartView.{site_of};
+ghost use Rattle.xp_syntax.specs.PartView.{place_of, site_of};
 ghost use Rattle.xt_tree.specs.declared.node_ref.NodeRef.{NodeRef};
-ghost use Rattle.xt_ask.specs.View.{chosen_of, current_of};
-ghost use Rattle.xt_run.specs.View.{target_of, ruling_of};
+ghost use Rattle.xt_ask.specs.View.{bindings_of, chosen_of, current_of};
+ghost use Rattle.xt_run.specs.View.{call_of, target_of, ruling_of};
 ghost use Rattle.xt_going.specs.View.{going_of};
 ghost use Rattle.xt_frames.specs.declared.run.Run as declared;
 ghost use Rattle.xt_frames.specs.View.{here_of, after_body};
@@ -21,16 +21,17 @@ use spec_expression::DynCode;
 use std::alloc::Global;
 use xp_syntax::Site;
 use xt_ask::{
-    Bindings, Candidates, ChosenRule, CurrentRule, Given, Question, Wanted, World, copy_name_if,
-    copy_place, copy_rule_if,
+    Bindings, Candidates, ChosenRule, CurrentRule, Focus, Given, Question, Wanted, World,
+    copy_name_if, copy_place, copy_rule_if,
 };
+use xt_base::Place;
 use xt_frames::{Body, Frame, Next, Run, Standing, want};
 use xt_names::Expanded;
 use xt_run::{Call, Event, Refused, Ruling, Target};
 use xt_text::Memory;
 
 /// What this rule of a node in this mode enters; without one a built-in rule.
-pub fn target_of_rule(
+fn target_of_rule(
     alloc: Global,
     mode: &Option<Expanded>,
     rule: &Option<ChosenRule>,
@@ -44,7 +45,7 @@ pub fn target_of_rule(
 }
 
 /// The rule, in this mode, as the current one of what it enters. A built-in rule is none.
-pub fn ruling_of_rule(
+fn ruling_of_rule(
     alloc: Global,
     mode: &Option<Expanded>,
     rule: &Option<ChosenRule>,
@@ -59,6 +60,32 @@ pub fn ruling_of_rule(
             last: rule.last,
         }))),
     }
+}
+
+/// The call that enters, at this focus, the rule that was chosen in this mode, or the built-in rule where there is
+/// none.
+pub fn call_of_choice(
+    alloc: Global,
+    mode: &Option<Expanded>,
+    chosen: &Option<ChosenRule>,
+    focus: Focus,
+    parameters: Bindings,
+    by: &Place,
+) -> Result<Call, Memory>
+    ensures { IfOk result (λ c. call_of c ≡ record { target = contents.target_by mode.now (option_map chosen_of chosen.now); node = focus.node; parameters = bindings_of parameters; position = focus.position; size = focus.size; ruling = contents.ruling_by mode.now (option_map chosen_of chosen.now); by = place_of by.now }) }
+{
+    let by = copy_place(alloc, by)?;
+    let target = target_of_rule(alloc, mode, chosen)?;
+    let ruling = ruling_of_rule(alloc, mode, chosen)?;
+    Ok(Call {
+        target,
+        node: focus.node,
+        parameters,
+        position: focus.position,
+        size: focus.size,
+        ruling,
+        by,
+    })
 }
 
 /// xsl:apply-imports: what the stylesheet of the current rule imports for the current node, in the mode of that
@@ -136,14 +163,7 @@ fn apply_imported<W: World>(
     let question = Question::Choice(focus.node, mode, candidates);
     let answer = run.going.ask(alloc, world, question)?;
     let chosen = answer.into_rule();
-    let call = Call {
-        target: target_of_rule(alloc, &rule.mode, &chosen)?,
-        node: focus.node,
-        parameters: Bindings::Empty,
-        position: focus.position,
-        size: focus.size,
-        ruling: ruling_of_rule(alloc, &rule.mode, &chosen)?,
-        by: copy_place(alloc, &site.place)?,
-    };
+    let nothing = Bindings::Empty;
+    let call = call_of_choice(alloc, &rule.mode, &chosen, focus, nothing, &site.place)?;
     want(run, Frame::Body(advanced(body)), call, depth)
 }

@@ -25,7 +25,7 @@ mod variables;
 pub use attributes::go_on_attributes;
 pub use choose::choose_from;
 pub use copying::{kind_in, put_copy};
-pub use imports::{ruling_of_rule, target_of_rule};
+pub use imports::call_of_choice;
 pub use instruction::perform;
 pub use sets::{go_on_inside, go_on_sets, used_sets};
 pub use sorting::{go_on_sorting, unsorted};

@@ -36,7 +36,7 @@ pub(crate) fn literal(
     requires stands { slice_get (map instr_of body.content.value.items) body.next ≡ Some (record { site = site_of site.now; form = made.with_content (made.Literal (literal_tag_of tag.now)) (instrs (map instr_of content.now.value.items)) }) }
     ensures { IfOk result (λ next. (ask : question.Question NodeRef → question.Answer NodeRef) → Does ask (planned_with (site_of site.now) (here_of body.here) (made.Literal (literal_tag_of tag.now)) (inside (site_of site.now).place (instrs (map instr_of content.now.value.items)) (here_of body.here)) (after_body body (left_in run.old))) (suc (length run.old.frames.items)) run.old run.new next) }
 {
-    let end = element_of(alloc, tag, body.here.unit.aliases.as_slice())?;
+    run.going.begin(alloc)?;
     let sets = used_sets(alloc, &site.place, tag.sets.as_slice(), &body.here)?;
     let attributes = Attributes {
         content: share_content(&body.content)?,
@@ -44,7 +44,7 @@ pub(crate) fn literal(
         next: 0,
         here: body.here.share()?,
     };
-    run.going.begin(alloc)?;
+    let end = element_of(alloc, tag, body.here.unit.aliases.as_slice())?;
     push(run, Frame::Body(advanced(body)))?;
     push(run, Frame::Wrap(end))?;
     push(run, Frame::Attributes(attributes))?;

@@ -48,8 +48,8 @@ fn read_namespace<W: World>(
     ensures name { W.name world.new ≡ W.name world.old }
 {
     let called = going.ask(alloc, world, Question::Name(node))?;
+    let prefix = local_in(alloc, called)?;
     let told = going.ask(alloc, world, Question::Text(node))?;
-    let prefix = local_in(alloc, &called)?;
     Ok(Namespace {
         prefix,
         uri: told.into_text(alloc),
@@ -57,11 +57,11 @@ fn read_namespace<W: World>(
 }
 
 /// The local part of the name in an answer, empty without one.
-fn local_in(alloc: Global, answer: &Answer) -> Result<Text, Memory>
-    ensures { IfOk result (λ t. t ≡ question.local_in (answer_of answer.now)) }
+fn local_in(alloc: Global, answer: Answer) -> Result<Text, Memory>
+    ensures { IfOk result (λ t. t ≡ question.local_in (answer_of answer)) }
 {
     match answer {
-        Answer::Named(_, name, _) => local_of(alloc, name),
+        Answer::Named(_, name, _) => local_of(alloc, &name),
         _ => Ok(Text::new(alloc)),
     }
 }

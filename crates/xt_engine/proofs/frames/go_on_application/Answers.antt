@@ -33,4 +33,4 @@ returns-clause-does g c =
     if_ok c.want.result c.want.ensures (λ next h.
     from_same truth (frames.Application a) _ r c.want.new.run next (application_next a none (left_in r) (omega (arith, e)))
     (inquired truth (Choice n a.mode AllRules) (entered_then a n (a.next + 1) (left_frame (frames.Application j) (left_in r))) _ r mid c.want.new.run next (rw (c.in_ok-mode.ensures, slice) at c.in_ok-answer.ensures.noted) refl refl
-    (rw (c.in_ok-target_of_rule.ensures, c.in_ok-ruling_of_rule.ensures, c.into_rule-rule.ensures, c.in_ok-answer.ensures.answer, c.in_ok-mode.ensures, c.in_ok-copy_place.ensures, c.in_ok-share.ensures, slice) at h truth)))
+    (rw (c.in_ok-call.ensures, c.into_rule-rule.ensures, c.in_ok-answer.ensures.answer, c.in_ok-mode.ensures, c.in_ok-parameters.ensures, slice) at h truth)))

@@ -52,12 +52,12 @@ returns c ask =
     let F : Place → Vec Instr Global → Here NodeRef → Body → List NodeRef → Plan NodeRef = λ p is h n ms. each (inside_at p (instrs (map instr_of is.items)) (length ms) h) 1 ms (left_frame (frames.Body n) (left_in r)) in
     let k : List NodeRef → Plan NodeRef = λ ms. each (inside_at (place_of c.args.site.now.place) (instrs (map instr_of c.args.content.now.value.items)) (length ms) (here_of b.here)) 1 ms (after_body b (left_in r)) in
     let here = here_of c.in_ok-here.here in
-    let ks = c.in_ok-share_keys.field-0.value in
+    let ks = c.in_ok-keys.keys.value in
     let L : Loop → List NodeRef → Plan NodeRef = λ l ms. ordered_left (ordereds.Loop l) ms rest in
     let left = c.loop_over.result in
     let e : left_frame (frames.Sorting c.unsorted-left.result) rest ≡ G ks here (L left) = c.unsorted-left.ensures rest in
     let f : G ks here (L left) ≡ G ks here (F (place_of c.in_ok-place.place) c.in_ok-content.content.value (here_of c.in_ok-inner.inner) c.advanced.result) = ap (λ (l : Loop). G ks here (L l)) c.loop_over.ensures in
     let g : G ks here (F (place_of c.in_ok-place.place) c.in_ok-content.content.value (here_of c.in_ok-inner.inner) c.advanced.result) ≡ G keys (here_of b.here) k =
-    λ i. G (c.in_ok-share_keys.ensures i) (c.in_ok-here.ensures.here i) (F (c.in_ok-place.ensures i) (c.in_ok-content.ensures i) (c.in_ok-inner.ensures.here i) (c.advanced.ensures i)) in
+    λ i. G (c.in_ok-keys.ensures i) (c.in_ok-here.ensures.here i) (F (c.in_ok-place.ensures i) (c.in_ok-content.ensures i) (c.in_ok-inner.ensures.here i) (c.advanced.ensures i)) in
     let P : Plan NodeRef → Type 0 = λ p. Does ask (Put Ended p) (suc (length r.frames.items)) r c.push-2.new.run Went in
     subst P (e ∙ f ∙ g ∙ is_sorted keys.items (here_of b.here) ns k some) does

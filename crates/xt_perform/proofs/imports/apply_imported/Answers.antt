@@ -22,4 +22,4 @@ returns-clause-does g c =
     let entered : Answer NodeRef → Plan NodeRef = λ a. Enter (imported_call (site_of c.args.site.now) (here_of b.here) rule.mode a) b.here.depth (after_body b (left_in r)) in
     if_ok c.want.result c.want.ensures (λ next h.
     inquired truth (Choice b.here.focus.node rule.mode (Imported rule.first rule.last)) entered _ r mid c.want.new.run next (rw c.in_ok-mode.ensures at c.in_ok-answer.ensures.noted) refl refl
-    (rw (c.in_ok-target_of_rule.ensures, c.in_ok-ruling_of_rule.ensures, c.into_rule-chosen.ensures, c.in_ok-answer.ensures.answer, c.in_ok-mode.ensures, c.in_ok-copy_place.ensures, c.advanced.ensures, view-Empty) at h truth))
+    (rw (c.in_ok-call.ensures, c.into_rule-chosen.ensures, c.in_ok-answer.ensures.answer, c.in_ok-mode.ensures, c.advanced.ensures, view-Empty) at h truth))

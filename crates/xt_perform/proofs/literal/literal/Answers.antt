@@ -34,8 +34,8 @@ returns c ask =
     λ p k es i o w n. Begin (sets_entered p k es (attributes_left_of i 0 o (Wrap w (left_frame (frames.Body n) (left_in r))))) in
     let stands : slice_get (map instr_of content.value.items) b.next ≡ _ = ap (λ (v : Vec code.Instr Global). slice_get (map instr_of v.items) b.next) c.in_ok-share_content.ensures ∙ c.requires.stands in
     let named = elements_named h.sets in
-    let elements : drop used.next used.elements.items ≡ flat_map named c.args.tag.now.sets.items = ap (λ n. drop n used.elements.items) is_used.next ∙ is_used.elements ∙ ap (flat_map named) c.as_slice-2.ensures.value in
-    let end : wrapping_of c.in_ok-end.end ≡ element_aliased h.aliases (literal_tag_of c.args.tag.now) = rw (c.as_slice.ensures.value, c.deref-2.ensures, c.deref.ensures) at c.in_ok-end.ensures in
+    let elements : drop used.next used.elements.items ≡ flat_map named c.args.tag.now.sets.items = ap (λ n. drop n used.elements.items) is_used.next ∙ is_used.elements ∙ ap (flat_map named) c.as_slice.ensures.value in
+    let end : wrapping_of c.in_ok-end.end ≡ element_aliased h.aliases (literal_tag_of c.args.tag.now) = rw (c.as_slice-2.ensures.value, c.deref-2.ensures, c.deref.ensures) at c.in_ok-end.ensures in
     let e : F (place_of used.place) (here_of used.here) (drop used.next used.elements.items) (here_of inner) (slice_get (map instr_of content.value.items) b.next) (wrapping_of c.in_ok-end.end) c.advanced.result ≡ _ =
     λ i. F (is_used.place i) (is_used.here i) (elements i) (c.in_ok-share.ensures.here i) (stands i) (end i) (c.advanced.ensures i) in
     let P : Plan NodeRef → Type 0 = λ p. Does ask p (suc (length r.frames.items)) r c.push_sets.new.run Went in

@@ -1,0 +1,13 @@
+use Rattle.xt_ask.specs.View.{bindings_of}
+use Rattle.xt_perform.proofs.imports.call_of_choice.Goals as goal
+
+pub returns : goal.returns
+returns c = λ i. record {
+  target = c.in_ok-target.ensures i;
+  node = c.args.focus.node;
+  parameters = bindings_of c.args.parameters;
+  position = c.args.focus.position;
+  size = c.args.focus.size;
+  ruling = c.in_ok-ruling.ensures i;
+  by = c.in_ok-by.ensures i;
+}
