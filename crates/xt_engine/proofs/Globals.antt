@@ -1,5 +1,5 @@
 -- What globals hold.
-use Rattle.std.proofs.Common.{◌≡◌, ℕ, suc, ◌<◌, List, [], ◌∷◌, length, map, Bool, true, false, ◌==◌, Option, None, Some, Vec, Global, refl, sym, ap, ◌∙◌, subst, arith}
+use Rattle.std.proofs.Common.{◌≡◌, ℕ, suc, ◌<◌, List, [], ◌∷◌, length, map, true, false, ◌==◌, Option, None, Some, refl, sym, ap, ◌∙◌, arith}
 use Rattle.std.specs.Prelude.{if◌then◌else◌}
 use Rattle.std.proofs.lemmas.Bool.{ne_eqb}
 use Rattle.std.specs.Option.{option_map}
@@ -21,14 +21,12 @@ use Rattle.xt_tree.specs.declared.node_ref.NodeRef.{NodeRef}
 use Rattle.xt_tree.specs.declared.value.Value.{Value}
 use Rattle.xt_tree.specs.ValueView.{value_of}
 use Rattle.xt_going.specs.View.{going_of}
-use Rattle.xt_frames.specs.declared.frame.Body.{Body}
 use Rattle.xt_frames.specs.declared.frame.Frame.{Frame}
-use Rattle.xt_frames.specs.declared.frame.Frame.TheVariants as frames
 use Rattle.xt_frames.specs.declared.run.Run.{Run}
 use Rattle.xt_frames.specs.declared.run.Next.{Next}
 use Rattle.xt_frames.specs.declared.run.Next.TheVariants.{Done, Gave}
 use Rattle.xt_frames.specs.View.{left_frame}
-use Rattle.xt_frames.specs.Left.{left_in, hand, steps, IsStill, Performs, Steps, StepsFrom}
+use Rattle.xt_frames.specs.Left.{left_in, hand, IsStill, Performs, Steps, StepsFrom}
 use Rattle.xt_frames.proofs.Passed.{passes_then}
 use Rattle.xt_frames.proofs.Lefts.{steps_at, passes_at, comes_after, moved, misses_moved}
 use Rattle.xt_engine.specs.Start.{Begun}

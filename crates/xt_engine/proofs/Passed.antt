@@ -1,5 +1,5 @@
 -- What is left of parameters: the next of them, or what comes after them.
-use Rattle.std.proofs.Common.{◌≡◌, ℕ, suc, ◌+◌, ◌<◌, ◌≤◌, List, [], ◌∷◌, length, get_or, drop, map, Option, None, Some, Vec, Global, rules, refl, sym, ap, ◌∙◌, subst, arith}
+use Rattle.std.proofs.Common.{◌≡◌, ℕ, suc, ◌<◌, ◌≤◌, List, [], ◌∷◌, length, get_or, drop, map, None, Some, Vec, Global, rules, refl, sym, ap, ◌∙◌, subst, arith}
 use Rattle.std.specs.Option.{option_map}
 use Rattle.std.specs.declared.rc.Rc.{Rc}
 use Rattle.std.proofs.lemmas.List.{at_drop_more, at_drop_all}
@@ -18,14 +18,13 @@ use Rattle.spec_run.specs.Passes.{stays}
 use Rattle.xp_syntax.specs.declared.instr.Binding.{Binding, out-Binding}
 use Rattle.xp_syntax.specs.declared.instr.Control.{the_lemmas}
 use Rattle.xp_syntax.specs.View.{expr_of}
-use Rattle.xp_syntax.specs.PartView.{place_of, site_of, sort_key_of}
+use Rattle.xp_syntax.specs.PartView.{site_of, sort_key_of}
 use Rattle.xp_syntax.specs.declared.sort_key.SortKey.{SortKey}
 use Rattle.xp_syntax.specs.InstrView.{instr_of, binding_of}
 use Rattle.xt_tree.specs.declared.node_ref.NodeRef.{NodeRef}
 use Rattle.xt_ask.specs.View.{bindings_of}
 use Rattle.xt_run.specs.declared.call.Call.{Call}
 use Rattle.xt_run.specs.View.{call_of}
-use Rattle.xt_going.specs.View.{going_of}
 use Rattle.xt_frames.specs.declared.standing.Standing.{Standing}
 use Rattle.xt_frames.specs.declared.frame.Application.{Application}
 use Rattle.xt_frames.specs.declared.frame.Passing.{Passing}
@@ -40,7 +39,7 @@ use Rattle.xt_frames.specs.declared.run.Run.{Run}
 use Rattle.xt_frames.specs.declared.run.Next.{Next}
 use Rattle.xt_frames.specs.declared.run.Next.TheVariants.{Went, Want}
 use Rattle.xt_frames.specs.View.{here_of, inside, left_frame, left_with, passed_to, with_passed}
-use Rattle.xt_frames.specs.Left.{left_in, Does, Performs, Steps, StepsFrom, Pushed}
+use Rattle.xt_frames.specs.Left.{left_in, Does, Performs, Steps, Pushed}
 use Rattle.xt_frames.proofs.Performs.{one_frame}
 use Rattle.xt_engine.specs.Parameter.{valued_by, with_parameter, parameter_planned, IsPastParameter, SameApplication, SamePassing, with_argument, argument_planned, IsPastArgument}
 
@@ -104,14 +103,19 @@ valued_same x h i k l e f =
     let view = sym (view-Binding x) in
     λ j. valued_by (view j) (e j) (λ v. f v j)
 
-pub parameter_default : (x : Binding) (p q : Parameters) (name : Expanded) (h : Here NodeRef) (after : Plan NodeRef) → name ≡ (out-Binding x).name → h ≡ here_of p.here → IsPastParameter p q → None ≡ context.binding_of (out-Binding x).name (bindings_of p.given)
-    → valued_at x h (λ v. left_with (holders.Parameter name q) v after) ≡ parameter_planned (binding_of x) p after
-parameter_default x p q name h after is_name is_here past is_none =
+pub parameter_default : (x : Binding) (p q : Parameters) (name : Expanded) (h : Here NodeRef) (after : Plan NodeRef) → name ≡ (out-Binding x).name → h ≡ here_of p.here → IsPastParameter p q
+    → valued_at x h (λ v. left_with (holders.Parameter name q) v after) ≡ valued_by (binding_of x) (here_of p.here) (with_parameter (binding_of x) p after)
+parameter_default x p q name h after is_name is_here past =
+    valued_same x h (here_of p.here) (λ v. left_with (holders.Parameter name q) v after) (with_parameter (binding_of x) p after) is_here (λ v. with_past x p q name v after is_name past)
+
+pub parameter_not_passed : (x : Binding) (p : Parameters) (after : Plan NodeRef) → None ≡ context.binding_of (out-Binding x).name (bindings_of p.given)
+    → valued_by (binding_of x) (here_of p.here) (with_parameter (binding_of x) p after) ≡ parameter_planned (binding_of x) p after
+parameter_not_passed x p after is_none =
     let b = binding_of x in
     let k = with_parameter b p after in
     let default = valued_by b (here_of p.here) k in
     let found : None ≡ context.binding_of b.name (bindings_of p.given) = is_none ∙ ap (λ n. context.binding_of n (bindings_of p.given)) (name_is x) in
-    valued_same x h (here_of p.here) (λ v. left_with (holders.Parameter name q) v after) k is_here (λ v. with_past x p q name v after is_name past) ∙ ap (λ o. unless_passed o default k) found
+    ap (λ o. unless_passed o default k) found
 
 -- ---- What is passed
 

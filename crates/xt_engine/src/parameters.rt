@@ -12,11 +12,12 @@ ghost use Rattle.xt_tree.specs.declared.node_ref.NodeRef.{NodeRef};
 ghost use Rattle.xt_tree.specs.ValueView.{value_of};
 ghost use Rattle.xt_ask.specs.View.{bindings_of};
 ghost use Rattle.xt_frames.specs.declared.frame.Frame.TheVariants as Frame;
+ghost use Rattle.xt_frames.specs.declared.frame.Holder.TheVariants as holders;
 ghost use Rattle.xt_frames.specs.declared.frame.Passing.TheVariants as Passing;
 ghost use Rattle.xt_frames.specs.View.{here_of, passed_to, left_with, global_left};
 ghost use Rattle.xt_frames.specs.Left.{left_in, Does, Performs, Steps, StepsFrom};
 ghost use Rattle.xt_engine.specs.Start.{declared_in};
-ghost use Rattle.xt_engine.specs.Parameter.{argument_planned, parameter_planned, SameApplication, SamePassing, IsPastArgument, IsPastParameter};
+ghost use Rattle.xt_engine.specs.Parameter.{argument_planned, parameter_planned, past_parameter, valued_by, with_parameter, SameApplication, SamePassing, IsPastArgument, IsPastParameter};
 
 use crate::frames::{go_on_application, go_on_body};
 use crate::start::leave_nothing;
@@ -28,6 +29,7 @@ use xt_frames::{
     Application, Arguments, Body, Came, Frame, Holder, Next, Ordered, Parameters, Passing, Run,
     Standing, hold, holding, lack, push, share_bindings, share_content, share_keys, value,
 };
+use xt_names::Expanded;
 use xt_perform::{go_on_sorting, unsorted};
 use xt_run::Call;
 use xt_text::{Memory, Text};
@@ -72,29 +74,65 @@ fn go_on_parameter<W: World>(
     ensures truth { (W.state world.new).truth ≡ (W.state world.old).truth }
     ensures name { W.name world.new ≡ W.name world.old }
 {
-    let name = copy_name(alloc, &binding.name)?;
-    let holder = Holder::Parameter(name, past_parameter(&left)?);
     match left.given.look_up(alloc, &binding.name)? {
-        Some(value) => hold_value(alloc, run, holder, value),
-        None => {
-            let here = left.here.share()?;
-            hold(
-                alloc,
-                run,
-                &binding.site,
-                &binding.select,
-                &binding.content,
-                &here,
-                holder,
-                Frame::Parameters(left),
-                world,
-            )
-        }
+        Some(value) => go_on_given(alloc, run, &binding.name, left, value),
+        None => go_on_default(alloc, run, binding, left, world),
     }
 }
 
+/// Goes on with a parameter of a template of this name, for which this value was passed.
+fn go_on_given(
+    alloc: Global,
+    run: &mut Run,
+    name: &Expanded,
+    left: Parameters,
+    value: Value,
+) -> Result<Next, Memory>
+    requires { left.next < usize.MAX }
+    ensures { IfOk result (λ next. (ask : question.Question NodeRef → question.Answer NodeRef) → Does ask (Put Ended (left_with (holders.Parameter name.now (past_parameter left)) (value_of value) (left_in run.old))) (suc (length run.old.frames.items)) run.old run.new next) }
+{
+    let name = copy_name(alloc, name)?;
+    let past = Parameters {
+        bindings: left.bindings,
+        next: left.next + 1,
+        given: left.given,
+        content: left.content,
+        here: left.here,
+    };
+    hold_value(alloc, run, Holder::Parameter(name, past), value)
+}
+
+/// Goes on with the default of this parameter of a template, for which nothing was passed.
+fn go_on_default<W: World>(
+    alloc: Global,
+    run: &mut Run,
+    binding: &Binding,
+    left: Parameters,
+    world: &mut W,
+) -> Result<Next, Memory>
+    requires { left.next < usize.MAX }
+    ensures does { IfOk result (Performs (W.state world.old).truth (Frame.Parameters left) (valued_by (binding_of binding.now) (here_of left.here) (with_parameter (binding_of binding.now) left (left_in run.old))) run.old run.new) }
+    ensures truth { (W.state world.new).truth ≡ (W.state world.old).truth }
+    ensures name { W.name world.new ≡ W.name world.old }
+{
+    let here = left.here.share()?;
+    let name = copy_name(alloc, &binding.name)?;
+    let holder = Holder::Parameter(name, shared_past(&left)?);
+    hold(
+        alloc,
+        run,
+        &binding.site,
+        &binding.select,
+        &binding.content,
+        &here,
+        holder,
+        Frame::Parameters(left),
+        world,
+    )
+}
+
 /// The same after its next parameter, shared.
-fn past_parameter(left: &Parameters) -> Result<Parameters, Memory>
+fn shared_past(left: &Parameters) -> Result<Parameters, Memory>
     requires { left.now.next < usize.MAX }
     ensures { IfOk result (IsPastParameter left.now) }
 {

@@ -280,8 +280,10 @@ fn begin_built_in<W: World>(
     ensures name { W.name world.new ≡ W.name world.old }
 {
     let answer = run.going.ask(alloc, world, Question::Name(node))?;
+    let kind = kind_in(&answer);
+    drop(answer);
     leave_nothing(alloc, run);
-    match kind_in(&answer) {
+    match kind {
         Kind::Root => apply_to_children(alloc, run, mode, node, world),
         Kind::Element => apply_to_children(alloc, run, mode, node, world),
         Kind::Attribute => put_text(alloc, run, node, world),

@@ -1,6 +1,6 @@
-use Rattle.std.proofs.Common.{◌≡◌, List, ℕ, refl, sym, ap, ◌∙◌}
+use Rattle.std.proofs.Common.{refl, sym, ap, ◌∙◌}
 use Rattle.spec_document.specs.Name.{Expanded}
-use Rattle.spec_meaning.specs.Question.{Question, Answer, External}
+use Rattle.spec_meaning.specs.Question.{Answer, External}
 use Rattle.spec_run.specs.Plan.{Plan, Inquire}
 use Rattle.spec_run.specs.Content.{held, unless_given}
 use Rattle.xp_syntax.specs.SheetView.{global_of}
@@ -11,7 +11,7 @@ use Rattle.xt_frames.specs.declared.run.Next.TheVariants.{Gave}
 use Rattle.xt_frames.specs.View.{here_of, global_left}
 use Rattle.xt_frames.proofs.Lefts.{if_ok}
 use Rattle.xt_engine.specs.Start.{unless_text}
-use Rattle.xt_engine.proofs.Starts.{asks_first, gave, comes_in}
+use Rattle.xt_engine.proofs.Starts.{asks_first, gave}
 use Rattle.xt_engine.proofs.Passed.{does_as, name_is}
 use Rattle.xt_engine.proofs.start.begin_parameter.Goals as goal
 
