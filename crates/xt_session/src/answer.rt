@@ -1,7 +1,8 @@
 // Answers one command.
 ghost use Rattle.std.specs.Prelude.{◌≡◌, IfOk, OnErr};
 ghost use Rattle.std.specs.Str.{encode_utf8_all};
-ghost use Rattle.spec_session.specs.Machine.{answer_to, shows, document_named, ShowsMessages, ShowsResult, WritesResult};
+ghost use Rattle.spec_session.specs.Machine.{answer_to, edited_in, shows, document_named, ShowsMessages, ShowsResult, WritesResult};
+ghost use Rattle.xt_edit.specs.View.{edit_of};
 ghost use Rattle.xt_repair.specs.OutcomeView.{plain_in};
 ghost use Rattle.xt_repair.specs.View.{IsCurrent};
 ghost use Rattle.xt_wire.specs.View.{asked_of, name_of};
@@ -51,34 +52,39 @@ fn carry_out(alloc: Global, held: &mut Held, asked: xt_wire::Command) -> Result<
         xt_wire::Command::SetParameter(name, value) => set_parameter(alloc, held, &name, &value),
         xt_wire::Command::Messages => messages(alloc, held),
         xt_wire::Command::Insert(document, path, body) => {
-            edit(alloc, held, &document, &Edit::Insert { path, body })
+            change(alloc, held, document, Edit::Insert { path, body })
         }
         xt_wire::Command::Delete(document, path) => {
-            edit(alloc, held, &document, &Edit::Delete { path })
+            change(alloc, held, document, Edit::Delete { path })
         }
         xt_wire::Command::SetText(document, path, value) => {
-            edit(alloc, held, &document, &Edit::SetText { path, value })
+            change(alloc, held, document, Edit::SetText { path, value })
         }
         xt_wire::Command::SetAttribute(document, path, name, value) => {
-            edit(
+            change(
                 alloc,
                 held,
-                &document,
-                &Edit::SetAttribute { path, name, value },
+                document,
+                Edit::SetAttribute { path, name, value },
             )
         }
         xt_wire::Command::RemoveAttribute(document, path, name) => {
-            edit(
-                alloc,
-                held,
-                &document,
-                &Edit::RemoveAttribute { path, name },
-            )
+            change(alloc, held, document, Edit::RemoveAttribute { path, name })
         }
         xt_wire::Command::Rename(document, path, name) => {
-            edit(alloc, held, &document, &Edit::Rename { path, name })
+            change(alloc, held, document, Edit::Rename { path, name })
         }
     }
+}
+
+// Edits the document of this name.
+fn change(alloc: Global, held: &mut Held, name: DocumentName, change: Edit) -> Result<Text, Memory>
+    requires { IsCurrent held.old }
+    ensures ok { IfOk result (λ text. GivesText (state_of held.old) (edited_in (state_of held.old) (name_of name) (edit_of change)) text (state_of held.new)) }
+    ensures err { OnErr result (state_of held.new ≡ state_of held.old) }
+    ensures current { IsCurrent held.new }
+{
+    edit(alloc, held, &name, &change)
 }
 
 // Shows the result, or why there is none.

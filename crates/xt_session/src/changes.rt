@@ -11,7 +11,7 @@ ghost use Rattle.xt_session.specs.State.{state_of};
 ghost use Rattle.xt_session.specs.Turn.{GivesText};
 
 use crate::names::doc_name;
-use crate::replies::{change_reply, text_of};
+use crate::replies::{change_text, text_of};
 use std::alloc::Global;
 use xt_io::Line;
 use xt_repair::{Edit, EditFault, Held, Ready};
@@ -111,8 +111,7 @@ fn adopt(alloc: Global, held: &mut Held, ready: Ready) -> Result<Text, Memory>
     ensures err { OnErr result (state_of held.new ≡ state_of held.old) }
     ensures current { IsCurrent held.new }
 {
-    let reply = change_reply(alloc, ready.outcome())?;
-    let text = text_of(alloc, reply)?;
+    let text = change_text(alloc, ready.outcome())?;
     held.adopt(ready);
     Ok(text)
 }

@@ -20,8 +20,15 @@ use xt_text::{Memory, Text};
 use xt_tree::Doc;
 use xt_wire::{Refusal, Reply, reply};
 
-/// The reply to an accepted change, after which the transformation comes to this.
-pub(crate) fn change_reply(alloc: Global, outcome: &Outcome) -> Result<Reply, Memory>
+/// The text of the reply to an accepted change, after which the transformation comes to this.
+pub(crate) fn change_text(alloc: Global, outcome: &Outcome) -> Result<Text, Memory>
+    ensures { IfOk result (λ text. text ≡ reply_text (machine.change_reply (outcome_of outcome.now))) }
+{
+    let reply = change_reply(alloc, outcome)?;
+    text_of(alloc, reply)
+}
+
+fn change_reply(alloc: Global, outcome: &Outcome) -> Result<Reply, Memory>
     ensures { IfOk result (λ reply. reply_of reply ≡ machine.change_reply (outcome_of outcome.now)) }
 {
     match outcome {
