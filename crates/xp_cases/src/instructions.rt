@@ -8,32 +8,38 @@ use cases::{Fault, Word, one, text_of};
 use std::alloc::Global;
 use std::rc::Rc;
 use xp_syntax::{
-    Avt, AvtPart, Binding, Branch, Control, Count, Expr, Form, Instr, LiteralTag, MadeName,
-    NumberLevel, NumberSource, Numbering, Place, Selection, Site, SortKey, WithContent,
-    WithoutContent,
+    Avt, AvtPart, Binding, Branch, Control, Count, Form, Instr, LiteralTag, MadeName, NumberLevel,
+    NumberSource, Numbering, Place, Selection, Site, SortKey, WithContent, WithoutContent,
 };
 use xt_names::{Expanded, Scope};
 use xt_text::{Memory, Path, Text};
 
 /// Whether each instruction is the same as itself and as no other one.
 pub fn differ(alloc: Global, words: &[Word]) -> Result<bool, Fault> {
-    for (index, word) in words.iter().enumerate() {
-        let first = instruction(alloc, text_of(word)?)?;
-        for (other_index, other) in words.iter().enumerate() {
-            let other = instruction(alloc, text_of(other)?)?;
-            if first.same(&other) != (index == other_index) {
-                return Ok(false);
+    let mut instrs = Vec::new(alloc);
+    for word in words {
+        let instr = instruction(alloc, text_of(word)?)?;
+        instrs.push(instr)?;
+    }
+    Ok(all_differ(instrs.as_slice()))
+}
+
+fn all_differ(instrs: &[Instr]) -> bool {
+    for (index, instr) in instrs.iter().enumerate() {
+        for (other_index, other) in instrs.iter().enumerate() {
+            if instr.same(other) != (index == other_index) {
+                return false;
             }
         }
     }
-    Ok(true)
+    true
 }
 
 /// An instruction by its word.
 pub fn instruction(alloc: Global, word: &str) -> Result<Instr, Fault> {
     let (kind, rest) = word.split_once(':').ok_or(Fault::NoCase)?;
-    let form = form(alloc, kind, rest)?;
     let site = site(alloc)?;
+    let form = form(alloc, kind, rest)?;
     Ok(Instr { site, form })
 }
 
@@ -75,8 +81,8 @@ fn form(alloc: Global, kind: &str, rest: &str) -> Result<Form, Fault> {
             Ok(Form::Control(control(alloc, kind, rest)?))
         }
         _ => {
-            let made = with_content(alloc, kind, rest)?;
             let content = content(alloc)?;
+            let made = with_content(alloc, kind, rest)?;
             Ok(Form::WithContent(made, content))
         }
     }
@@ -84,9 +90,9 @@ fn form(alloc: Global, kind: &str, rest: &str) -> Result<Form, Fault> {
 
 /// A content of one text.
 pub fn content(alloc: Global) -> Result<Rc<Vec<Instr>>, Memory> {
+    let site = nowhere(alloc)?;
     let text = Text::from_str(alloc, "x")?;
     let form = Form::WithoutContent(WithoutContent::Text(text));
-    let site = nowhere(alloc)?;
     let content = one(alloc, Instr { site, form })?;
     Ok(Rc::new(alloc, content)?)
 }
@@ -169,13 +175,14 @@ fn made_name(alloc: Global, text: &str) -> Result<MadeName, Memory> {
 fn control(alloc: Global, kind: &str, rest: &str) -> Result<Control, Fault> {
     match kind {
         "for-each" => {
-            let select = parsed(alloc, rest)?;
             let content = content(alloc)?;
-            Ok(Control::ForEach(select, Rc::new(alloc, Vec::new(alloc))?, content))
+            let keys = Rc::new(alloc, Vec::new(alloc))?;
+            let select = parsed(alloc, rest)?;
+            Ok(Control::ForEach(select, keys, content))
         }
         "if" => {
-            let test = parsed(alloc, rest)?;
             let content = content(alloc)?;
+            let test = parsed(alloc, rest)?;
             Ok(Control::If(test, content))
         }
         "choose" => choose(alloc, rest),
@@ -190,27 +197,23 @@ fn control(alloc: Global, kind: &str, rest: &str) -> Result<Control, Fault> {
 }
 
 fn choose(alloc: Global, test: &str) -> Result<Control, Fault> {
-    let test = parsed(alloc, test)?;
-    let content = content(alloc)?;
-    let branch = branch(alloc, test, content)?;
-    let branches = one(alloc, branch)?;
-    Ok(Control::Choose(Rc::new(alloc, branches)?))
-}
-
-fn branch(alloc: Global, test: Expr, content: Rc<Vec<Instr>>) -> Result<Branch, Memory> {
     let site = nowhere(alloc)?;
-    Ok(Branch {
+    let content = content(alloc)?;
+    let test = parsed(alloc, test)?;
+    let branch = Branch {
         site,
         test: Some(test),
         content,
-    })
+    };
+    let branches = one(alloc, branch)?;
+    Ok(Control::Choose(Rc::new(alloc, branches)?))
 }
 
 // Sorted by the string-value.
 fn apply_templates(alloc: Global, select: &str) -> Result<Control, Fault> {
     let parameters = Rc::new(alloc, Vec::new(alloc))?;
-    let select = parsed(alloc, select)?;
     let keys = Rc::new(alloc, one(alloc, sort_key(alloc)?)?)?;
+    let select = parsed(alloc, select)?;
     let selection = Selection {
         select,
         mode: None,
@@ -220,9 +223,9 @@ fn apply_templates(alloc: Global, select: &str) -> Result<Control, Fault> {
 }
 
 fn sort_key(alloc: Global) -> Result<SortKey, Fault> {
+    let site = nowhere(alloc)?;
     let data_type = template(alloc, "text")?;
     let select = parsed(alloc, ".")?;
-    let site = nowhere(alloc)?;
     Ok(SortKey {
         site,
         select,
@@ -237,8 +240,8 @@ fn sort_key(alloc: Global) -> Result<SortKey, Fault> {
 pub fn binding(alloc: Global, select: &str) -> Result<Binding, Fault> {
     let content = Rc::new(alloc, Vec::new(alloc))?;
     let name = name(alloc, "v")?;
-    let select = parsed(alloc, select)?;
     let site = nowhere(alloc)?;
+    let select = parsed(alloc, select)?;
     Ok(Binding {
         site,
         name,
