@@ -6,6 +6,7 @@ pub mod Standing
 pub mod Turns
 pub mod Passing
 pub mod Remembering
+pub mod Finishing
 pub mod Following
 pub mod Referring
 pub mod Onward

@@ -7,7 +7,6 @@ use Rattle.std.proofs.lemmas.Bool.Decides.{nat_tests}
 use Rattle.spec_document.specs.Name.{Expanded, same_name}
 use Rattle.spec_stylesheet.specs.Place.{Place}
 use Rattle.spec_meaning.specs.Stream.{Stream}
-use Rattle.spec_run.specs.Plan.{nowhere}
 use Rattle.spec_meaning.specs.Value as value
 use Rattle.spec_meaning.specs.Question.{Question, Answer}
 use Rattle.spec_meaning.specs.Program.{Valued}
@@ -27,10 +26,9 @@ use Rattle.xt_drive.specs.declared.memo.Referred.{Referred}
 use Rattle.xt_drive.specs.declared.memo.Remembered.{Remembered}
 use Rattle.xt_drive.specs.declared.outcome.Outcome.{Outcome as Came}
 use Rattle.xt_drive.specs.declared.outcome.Held.{Held}
-use Rattle.xt_drive.specs.declared.outcome.Held.TheVariants as held
 use Rattle.xt_drive.specs.View.{outcome_of, setting_of, past_of, supplied_of, Gives, GivesSo}
 use Rattle.xt_drive.specs.Remembered.{Entry, first_named, IsIfThere, Fits, Holds, AllHold, Remembers, Keeps, Lasts, GivesAlways, IsAnew, Unnamed, IsAside, all_aside, none_aside}
-use Rattle.xt_drive.specs.Referring.{entry_of, has_name, no_global, HoldsAs, Settles, IsValue, IsRecalled, RecallsSo, Recalls, IsGivenAt, IsGivenAs, RefersSo, Refers, entry_with, remembered_as, remembered_of, IsEvaluated, Evaluates}
+use Rattle.xt_drive.specs.Referring.{entry_of, has_name, no_global, HoldsAs, Settles, IsValue, IsRecalled, RecallsSo, Recalls, IsGivenAt, IsGivenAs, RefersSo, Refers, entry_with, remembered_as, IsEvaluated, Evaluates}
 use Rattle.xt_drive.proofs.Given.{equal_names}
 use Rattle.xt_drive.proofs.Remembering.{More, fits_left, fits_right, fits_both, suits_here, hold_more, hold_both, keeps_all, given_first, refer_first, gives_past, gives_held, referred_here, holds_anew, keeps_evaluated}
 
@@ -182,36 +180,17 @@ aside_none {name = name} {aside = aside} {new = new} es e f h =
 
 -- ---- What comes of an evaluation
 
--- what is remembered of what is held is what is remembered of what is given for it
-same_entries : (name : Expanded) (element : NodeRef) (n : ℕ) (content : Stream) (h : Held) (x : Entered) → ((place : Place) → Gives x place (supplied_of h)) → remembered_of name element n content h ≡ remembered_as name element n content x
-same_entries name element n content h x f = go h x (f nowhere).so
-  where
-    value_in : value.Value NodeRef → Supplied NodeRef → value.Value NodeRef
-    value_in w (Known (Valued v)) = v
-    value_in w _ = w
-
-    go : (h : Held) (x : Entered) → GivesSo x nowhere (supplied_of h) → remembered_of name element n content h ≡ remembered_as name element n content x
-    go (held.Value v) (entered.Stream t) g = absurd g
-    go (held.Value v) (entered.Value w) g = ap (λ y. entry_with name element n content y ∷ []) (ap (value_in (value_of v)) g)
-    go (held.Value v) (entered.Refused why t) g = absurd (cc)
-    go (held.Value v) entered.UnderWay g = absurd (cc)
-    go (held.Refused u s) (entered.Stream t) g = absurd g
-    go (held.Refused u s) (entered.Value w) g = absurd (cc)
-    go (held.Refused u s) (entered.Refused why t) g = refl
-    go (held.Refused u s) entered.UnderWay g = refl
-
 pub evaluates_made : (came : Result (Box Came Allocator) NoMemory) (o : Box Came Allocator) (r : Referred) (x : Entered) (spare : ℕ) (h : Held) (content : Stream) (name : Expanded) (element : NodeRef) (levels needed : ℕ) (aside old mid new : List (Entry NodeRef))
     → came ≡ Ok o → r ≡ record { entered = x; spare = spare } → spare ≡ o.value.spare → needed ≡ levels - spare → content ≡ (outcome_of o.value).content → ((place : Place) → Gives x place (supplied_of h)) → supplied_of h ≡ held_by (outcome_of o.value)
-    → mid ≡ old ++ aside → new ≡ mid ++ remembered_of name element needed content h → Evaluates r came name element levels aside old new
+    → mid ≡ old ++ aside → new ≡ mid ++ remembered_as name element needed content x → Evaluates r came name element levels aside old new
 evaluates_made came o r x spare h content name element levels needed aside old mid new is made fewer low same gives holds put remembered =
     let P : Result (Box Came Allocator) NoMemory → Type 0 = λ y. Evaluates r y name element levels aside old new in
     let Q : Referred → Type 0 = λ y. IsEvaluated y o.value name element levels aside old new in
     let G : Place → Supplied NodeRef → Type 0 = λ place y. Gives x place y in
-    let entries = ap (λ n. remembered_of name element n content h) (low ∙ ap (λ n. levels - n) fewer) ∙ same_entries name element (levels - o.value.spare) content h x gives
-    ∙ ap (λ t. remembered_as name element (levels - o.value.spare) t x) same in
+    let entries = ap (λ n. remembered_as name element n content x) (low ∙ ap (λ n. levels - n) fewer) ∙ ap (λ t. remembered_as name element (levels - o.value.spare) t x) same in
     subst P (sym is) (subst Q (sym made) (record {
       gives = λ place. subst (G place) holds (gives place);
-      remembered = remembered ∙ ap (λ ys. ys ++ remembered_of name element needed content h) put ∙ ap (λ ys. (old ++ aside) ++ ys) entries;
+      remembered = remembered ∙ ap (λ ys. ys ++ remembered_as name element needed content x) put ∙ ap (λ ys. (old ++ aside) ++ ys) entries;
       spare = fewer;
     }))
 

@@ -1,5 +1,5 @@
 -- What globals come to at their turns, and what is remembered then.
-use Rattle.std.proofs.Common.{◌≡◌, ℕ, ◌<◌, ◌≤◌, List, [], ◌∷◌, ◌++◌, length, map, get_or, Option, Some, Result, Ok, Err, true, sym, ap, subst, ◌∙◌, arith}
+use Rattle.std.proofs.Common.{◌≡◌, ℕ, ◌<◌, ◌≤◌, List, [], ◌∷◌, length, map, get_or, Option, Some, None, Result, Ok, Err, true, sym, ap, subst, ◌∙◌, arith}
 use Rattle.std.specs.Prelude.{◌&&◌, nat_le, IfOk, OnOk, Box}
 use Rattle.std.specs.declared.alloc.Global.{Global as Allocator}
 use Rattle.std.proofs.lemmas.Bool.Decides.{nat_tests}
@@ -13,8 +13,7 @@ use Rattle.spec_run.specs.Direct.{Supplied, Known, Failed, Outcome}
 use Rattle.spec_run.specs.Meaning as means
 use Rattle.spec_run.specs.Meaning.{Setting, Past, at_turn, going_into, global_call, held_by, meaning}
 use Rattle.xt_tree.specs.declared.node_ref.NodeRef.{NodeRef}
-use Rattle.xt_tree.specs.declared.value.Value as code
-use Rattle.xt_tree.specs.ValueView.{value_of}
+use Rattle.xt_run.specs.declared.call.Refused.{Refused}
 use Rattle.xt_run.specs.declared.global.NamedGlobal.{NamedGlobal}
 use Rattle.xt_text.specs.declared.memory.Memory.{Memory as NoMemory}
 use Rattle.xt_drive.specs.declared.globals.HeldGlobal.{HeldGlobal}
@@ -26,7 +25,7 @@ use Rattle.xt_drive.specs.declared.outcome.Held.TheVariants as held
 use Rattle.xt_drive.specs.View.{held_of, setting_in, outcome_of, supplied_of}
 use Rattle.xt_drive.specs.Remembered.{Entry, Comes, Holds, Remembers, Keeps, Forgets}
 use Rattle.xt_drive.specs.Referring.{entry_of}
-use Rattle.xt_drive.specs.Turning.{later, RemembersOn, HeldAs, IsTurnedAs, meant_in, Turns, RecallsTurnSo, RecallsTurn, TurnsAs}
+use Rattle.xt_drive.specs.Turning.{later, RemembersOn, HeldAs, IsTurnedAs, meant_in, Turns, RecallsTurnSo, RecallsTurn, TurnsAs, IsHeldAs}
 use Rattle.xt_drive.proofs.Given.{equal_names}
 use Rattle.xt_drive.proofs.Remembering.{nothing_remembered, remembers_inside}
 use Rattle.xt_drive.proofs.Referring.{both, hold_at}
@@ -120,9 +119,11 @@ turns_here root named t g levels m {a = a} {b = b} {vs = vs} {ws = ws} {us = us}
     subst (P b ws) none (subst B f (subst A e h))
 
 -- with its value among those that are past
-pub remembers_next : (s : Setting NodeRef) (values all : List (Bound NodeRef)) (g : means.NamedGlobal NodeRef) (m : List (Entry NodeRef)) (h : Held) (v : code.Value)
-    → RemembersOn s (at_turn values) g (supplied_of h) m → h ≡ held.Value v → all ≡ values ++ record { name = g.name; value = value_of v } ∷ [] → Remembers s (at_turn all) m
-remembers_next s values all g m h v on is more =
-    let P : Held → Type 0 = λ x. RemembersOn s (at_turn values) g (supplied_of x) m in
+pub remembers_next : (s : Setting NodeRef) (values all : List (Bound NodeRef)) (g : means.NamedGlobal NodeRef) (m : List (Entry NodeRef)) (h : Held) (r : Option Refused)
+    → RemembersOn s (at_turn values) g (supplied_of h) m → r ≡ None → IsHeldAs r h g.name values all → Remembers s (at_turn all) m
+remembers_next s values all g m (held.Refused why content) None on is as_value = absurd as_value
+remembers_next s values all g m (held.Refused why content) (Some because) on is as_value = absurd (cc)
+remembers_next s values all g m (held.Value v) (Some why) on is as_value = absurd as_value
+remembers_next s values all g m (held.Value v) None on is as_value =
     let Q : List (Bound NodeRef) → Type 0 = λ xs. Remembers s (at_turn xs) m in
-    subst Q (sym more) (subst P is on)
+    subst Q (sym as_value) on

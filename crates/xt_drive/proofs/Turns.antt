@@ -1,5 +1,5 @@
 -- The turns of globals.
-use Rattle.std.proofs.Common.{◌≡◌, ℕ, ◌+◌, ◌<◌, ◌≤◌, List, [], ◌∷◌, ◌++◌, length, map, drop, get_or, Some, Result, Ok, Err, sym, ap, ◌∙◌}
+use Rattle.std.proofs.Common.{◌≡◌, ℕ, ◌+◌, ◌<◌, ◌≤◌, List, [], ◌∷◌, ◌++◌, length, map, drop, get_or, Option, Some, None, Result, Ok, Err, sym, ap, refl, ◌∙◌}
 use Rattle.std.specs.Prelude.{IfOk, Box}
 use Rattle.std.specs.declared.alloc.Global.{Global as Allocator}
 use Rattle.std.proofs.lemmas.List.{at_drop_more, at_drop_all, map-append}
@@ -14,7 +14,6 @@ use Rattle.spec_run.specs.Direct.{Supplied, Known, Failed, Outcome}
 use Rattle.spec_run.specs.Meaning as means
 use Rattle.spec_run.specs.Meaning.{Setting, Past, Whole, going_into, global_call, held_by, value_of, refusal_of, at_turn, after_turn, meaning, run}
 use Rattle.xt_tree.specs.declared.node_ref.NodeRef.{NodeRef}
-use Rattle.xt_tree.specs.declared.value.Value as code
 use Rattle.xt_tree.specs.ValueView as view
 use Rattle.xt_run.specs.View.{refused_of, named_of}
 use Rattle.xt_run.specs.declared.call.Refused.{Refused}
@@ -26,6 +25,7 @@ use Rattle.xt_drive.specs.declared.outcome.Held.{Held}
 use Rattle.xt_drive.specs.declared.outcome.Held.TheVariants as held
 use Rattle.xt_drive.specs.declared.whole.Whole.{Whole as CodeWhole}
 use Rattle.xt_drive.specs.View.{held_of, setting_in, outcome_of, supplied_of, whole_of, IsFinished}
+use Rattle.xt_drive.specs.Turning.{IsHeldAs}
 
 abbrev Ask : Type 0
 Ask = Question NodeRef → Answer NodeRef
@@ -62,15 +62,26 @@ turn_is s levels g gs values told more c h x is e =
     let K : List (List ℕ) → Supplied NodeRef → Whole = λ t y. after_turn (λ given. run s levels gs (values ++ record { name = g.name; value = value_of given } ∷ []) t c) t y in
     ap (K (told ++ messages_of (meant s levels g values).content)) (sym is.held ∙ e) ∙ ap (λ t. K t x) (sym is.told)
 
-pub turn_held : (s : Setting NodeRef) (levels : ℕ) (g : means.NamedGlobal NodeRef) (gs : List (means.NamedGlobal NodeRef)) (values : List (Bound NodeRef)) (told more : List (List ℕ)) (c : Call NodeRef) (h : Held) (v : code.Value)
-    → IsTurnOf h (meant s levels g values) told more → h ≡ held.Value v
-    → run s levels gs (values ++ record { name = g.name; value = view.value_of v } ∷ []) more c ≡ run s levels (g ∷ gs) values told c
-turn_held s levels g gs values told more c h v is e = sym (turn_is s levels g gs values told more c h (Known (Valued (view.value_of v))) is (ap supplied_of e))
+-- where it is held as a value
+pub turn_held : (s : Setting NodeRef) (levels : ℕ) (g : means.NamedGlobal NodeRef) (gs : List (means.NamedGlobal NodeRef)) (values all : List (Bound NodeRef)) (told more : List (List ℕ)) (c : Call NodeRef) (h : Held) (r : Option Refused)
+    → IsTurnOf h (meant s levels g values) told more → r ≡ None → IsHeldAs r h g.name values all
+    → run s levels gs all more c ≡ run s levels (g ∷ gs) values told c
+turn_held s levels g gs values all told more c (held.Refused because content) None is e as_value = absurd as_value
+turn_held s levels g gs values all told more c (held.Refused because content) (Some why) is e as_value = absurd (cc)
+turn_held s levels g gs values all told more c (held.Value v) (Some why) is e as_value = absurd as_value
+turn_held s levels g gs values all told more c (held.Value v) None is e as_value =
+    ap (λ xs. run s levels gs xs more c) as_value ∙ sym (turn_is s levels g gs values told more c (held.Value v) (Known (Valued (view.value_of v))) is refl)
 
-pub turn_refused : (s : Setting NodeRef) (levels : ℕ) (g : means.NamedGlobal NodeRef) (gs : List (means.NamedGlobal NodeRef)) (values : List (Bound NodeRef)) (told more : List (List ℕ)) (c : Call NodeRef) (h : Held) (why : Refused)
-    → IsTurnOf h (meant s levels g values) told more → supplied_of h ≡ Failed (refused_of why)
+-- where it is refused
+pub turn_refused : (s : Setting NodeRef) (levels : ℕ) (g : means.NamedGlobal NodeRef) (gs : List (means.NamedGlobal NodeRef)) (values all : List (Bound NodeRef)) (told more : List (List ℕ)) (c : Call NodeRef) (h : Held) (r : Option Refused) (why : Refused)
+    → IsTurnOf h (meant s levels g values) told more → r ≡ Some why → IsHeldAs r h g.name values all
     → record { content = Ended; messages = more; refusal = Some (refused_of why) } ≡ run s levels (g ∷ gs) values told c
-turn_refused s levels g gs values told more c h why is e = sym (turn_is s levels g gs values told more c h (Failed (refused_of why)) is e)
+turn_refused s levels g gs values all told more c (held.Value v) None why is e as_refused = absurd (cc)
+turn_refused s levels g gs values all told more c (held.Value v) (Some reason) why is e as_refused = absurd as_refused
+turn_refused s levels g gs values all told more c (held.Refused because content) None why is e as_refused = absurd as_refused
+turn_refused s levels g gs values all told more c (held.Refused because content) (Some reason) why is e as_refused =
+    let same : because ≡ why = cc in
+    sym (turn_is s levels g gs values told more c (held.Refused because content) (Failed (refused_of why)) is (ap (λ (x : Refused). Failed (refused_of x)) same))
 
 pub values_more : (values : List HeldGlobal) (h : HeldGlobal) {all : List HeldGlobal} {b : Bound NodeRef} → all ≡ values ++ h ∷ [] → held_of h ≡ b → map held_of all ≡ map held_of values ++ b ∷ []
 values_more values h e f = ap (map held_of) e ∙ map-append held_of values (h ∷ []) ∙ ap (λ x. map held_of values ++ x ∷ []) f

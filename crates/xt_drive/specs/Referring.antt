@@ -22,8 +22,6 @@ use Rattle.xt_drive.specs.declared.memo.Memo.{Memo}
 use Rattle.xt_drive.specs.declared.memo.Referred.{Referred}
 use Rattle.xt_drive.specs.declared.memo.Remembered.{Remembered}
 use Rattle.xt_drive.specs.declared.outcome.Outcome.{Outcome}
-use Rattle.xt_drive.specs.declared.outcome.Held.{Held}
-use Rattle.xt_drive.specs.declared.outcome.Held.TheVariants as held
 use Rattle.xt_drive.specs.View.{outcome_of, setting_of, past_of, Gives}
 use Rattle.xt_drive.specs.Remembered.{Entry, Remembers, Keeps, GivesAlways, IsAnew}
 
@@ -101,10 +99,6 @@ remembered_as name element levels content (entered.Value v) = entry_with name el
 remembered_as name element levels content (entered.Stream s) = []
 remembered_as name element levels content (entered.Refused why s) = []
 remembered_as name element levels content entered.UnderWay = []
-
-abbrev pub remembered_of : Expanded → NodeRef → ℕ → Stream → Held → List (Entry NodeRef)
-remembered_of name element levels content (held.Value v) = entry_with name element levels content (value_of v) ∷ []
-remembered_of name element levels content (held.Refused why s) = []
 
 pub record IsEvaluated (r : Referred) (o : Outcome) (name : Expanded) (element : NodeRef) (levels : ℕ) (aside old new : List (Entry NodeRef)) : Type 0 where
   pub gives : (place : Place) → Gives r.entered place (held_by (outcome_of o))

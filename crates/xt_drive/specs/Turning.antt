@@ -1,6 +1,7 @@
 -- What globals come to at their turns.
 use Rattle.std.specs.Prelude.{◌≡◌, ℕ, List, [], ◌∷◌, ◌++◌, Option, Some, None, Result, Ok, Err, Box}
 use Rattle.std.specs.declared.alloc.Global.{Global as Allocator}
+use Rattle.spec_document.specs.Name.{Expanded}
 use Rattle.spec_meaning.specs.Context.{Bound}
 use Rattle.spec_run.specs.Plan.{nowhere}
 use Rattle.spec_run.specs.Direct as plain
@@ -10,6 +11,7 @@ use Rattle.spec_run.specs.Meaning.{Setting, Past, going_into, global_call, held_
 use Rattle.xt_tree.specs.declared.node_ref.NodeRef.{NodeRef}
 use Rattle.xt_tree.specs.StreamView.{stream_of}
 use Rattle.xt_tree.specs.ValueView as view
+use Rattle.xt_run.specs.declared.call.Refused.{Refused}
 use Rattle.xt_text.specs.declared.memory.Memory.{Memory}
 use Rattle.xt_drive.specs.declared.memo.Turned.{Turned}
 use Rattle.xt_drive.specs.declared.outcome.Outcome.{Outcome}
@@ -59,3 +61,10 @@ pub record RecallsTurn (t : Option Turned) (g : means.NamedGlobal NodeRef) (leve
 abbrev pub TurnsAs : Turned → Result (Box Outcome Allocator) Memory → Type 0
 TurnsAs t (Ok o) = IsTurned t (outcome_of o.value)
 TurnsAs t (Err memory) = ⊥
+
+-- what a global holds becomes a value among the others, or this is why it has none
+abbrev pub IsHeldAs : Option Refused → Held → Expanded → (before after : List (Bound NodeRef)) → Type 0
+IsHeldAs None (held.Value v) name before after = after ≡ before ++ record { name = name; value = view.value_of v } ∷ []
+IsHeldAs None (held.Refused why content) name before after = ⊥
+IsHeldAs (Some why) (held.Value v) name before after = ⊥
+IsHeldAs (Some why) (held.Refused because content) name before after = why ≡ because

@@ -106,8 +106,9 @@ pub fn root_call<W: World>(alloc: Global, world: &mut W, root: NodeRef) -> Resul
     ensures name { W.name world.new ≡ W.name world.old }
 {
     let question = Question::Choice(root, None, Candidates::AllRules);
-    let answer = world.ask(&question)?;
-    let rule = answer.into_rule();
+    let answer = world.ask(&question);
+    drop(question);
+    let rule = answer?.into_rule();
     Ok(Call {
         target: target(&rule),
         node: root,

@@ -51,8 +51,14 @@ pub fn means<E: Engine, W: World>(
                 let came = refer(alloc, engine, world, globals, memo, needed, left);
                 take_global(&mut standing, came)?;
             }
-            Step::Done(ran) => {
-                return done(alloc, ran, standing.parts.as_slice(), below, standing.spare);
+            Step::Done(ended) => {
+                return done(
+                    alloc,
+                    ended,
+                    standing.parts.as_slice(),
+                    below,
+                    standing.spare,
+                );
             }
             Step::Failed(fault) => return refused(alloc, fault),
         }

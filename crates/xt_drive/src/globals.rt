@@ -183,9 +183,9 @@ pub fn evaluation_of(
     ensures call { IfOk result (λ e. call_of e.value.call ≡ global_call globals.now.root element (place_of needed.value.place)) }
     ensures aside { IfOk result (λ e. IsAside needed.value.name (map entry_of e.value.aside.items) (entries_of memo.old) (entries_of memo.new)) }
 {
-    let Needed { name, place } = Box::into_inner(needed);
-    let copied = copy_name(alloc, &name)?;
+    let copied = copy_name(alloc, &needed.name)?;
     let under_way = with_name(alloc, copied, globals.under_way)?;
+    let Needed { name, place } = Box::into_inner(needed);
     let call = global_call(globals.root, element, place);
     let aside = set_aside(alloc, memo, &name);
     Ok(Box::new(

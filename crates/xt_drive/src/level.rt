@@ -17,7 +17,7 @@ use std::rc::Rc;
 use xt_ask::World;
 use xt_base::Place;
 use xt_names::Expanded;
-use xt_run::{Call, Engine, Entered, Ran, RunFault, Turn};
+use xt_run::{Call, Ended, Engine, Entered, RunFault, Turn};
 use xt_text::Memory;
 use xt_tree::Items;
 
@@ -48,7 +48,7 @@ pub enum Step {
     /// To a global that it needs, with so many levels left for it.
     Refer(Box<Needed>, u64),
     /// To its end.
-    Done(Box<Ran>),
+    Done(Box<Ended>),
     /// To a refusal, or to want of memory.
     Failed(Box<RunFault>),
 }
@@ -103,7 +103,7 @@ pub fn advance<E: Engine, W: World>(
             let left = below.saturating_sub(depth);
             Ok(Step::Refer(Box::new(alloc, Needed { name, place })?, left))
         }
-        Ok(Turn::Done(ran)) => Ok(Step::Done(Box::new(alloc, ran)?)),
+        Ok(Turn::Done(ran)) => Ok(Step::Done(Box::new(alloc, ran.ended())?)),
         Err(fault) => Ok(Step::Failed(Box::new(alloc, fault)?)),
     }
 }
@@ -129,9 +129,10 @@ pub fn take_stream<R: Drop>(
     ensures spare { standing.new.spare ≤ standing.old.spare }
     ensures inner { standing.new.spare ≤ spare_in came }
 {
-    let _ = call;
+    drop(call);
     standing.spare = fewer(standing.spare, spare_in(&came));
-    standing.given = Some(streamed(came, &mut standing.parts)?);
+    let entered = streamed(came, &mut standing.parts)?;
+    drop(standing.given.replace(entered));
     Ok(())
 }
 
@@ -148,6 +149,6 @@ pub fn take_global<R: Drop>(
 {
     let Referred { entered, spare } = Box::into_inner(came?);
     standing.spare = fewer(standing.spare, spare);
-    standing.given = Some(entered);
+    drop(standing.given.replace(entered));
     Ok(())
 }

@@ -5,7 +5,7 @@ ghost use Rattle.spec_document.specs.Name.{same_name};
 ghost use Rattle.xt_tree.specs.StreamView.{stream_of};
 ghost use Rattle.xt_run.specs.View.{named_of};
 ghost use Rattle.xt_drive.specs.Remembered.{Forgets, IsAside};
-ghost use Rattle.xt_drive.specs.Referring.{entry_of, entries_of, no_global, remembered_of, has_name, IsRecalled, Recalls};
+ghost use Rattle.xt_drive.specs.Referring.{entry_of, entries_of, no_global, remembered_as, has_name, IsRecalled, Recalls};
 ghost use Rattle.xt_drive.specs.Turning.{IsTurnedAs, RecallsTurn};
 
 use crate::outcome::Held;
@@ -173,7 +173,7 @@ pub fn put_back(memo: &mut Memo, mut aside: Vec<Remembered>) -> Result<(), Memor
     Ok(())
 }
 
-/// Remembers what a global holds, if it holds a value.
+/// Remembers what is given for a global, if it is a value.
 pub fn remember(
     alloc: Global,
     memo: &mut Memo,
@@ -181,12 +181,12 @@ pub fn remember(
     element: NodeRef,
     levels: u64,
     content: Rc<Items>,
-    held: &Held,
+    given: &Entered,
 ) -> Result<(), Memory>
-    ensures { OnOk result (entries_of memo.new ≡ entries_of memo.old ++ remembered_of name element levels (stream_of content.value) held.now) }
+    ensures { OnOk result (entries_of memo.new ≡ entries_of memo.old ++ remembered_as name element levels (stream_of content.value) given.now) }
 {
-    match held {
-        Held::Value(value) => {
+    match given {
+        Entered::Value(value) => {
             let value = copy_value(alloc, value)?;
             let entry = Remembered {
                 name,
@@ -198,7 +198,7 @@ pub fn remember(
             memo.entries.push(entry)?;
             Ok(())
         }
-        Held::Refused(_, _) => Ok(()),
+        _ => Ok(()),
     }
 }
 

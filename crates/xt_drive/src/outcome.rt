@@ -1,13 +1,13 @@
 // What comes of calls.
-ghost use Rattle.std.specs.Prelude.{◌≡◌, ◌≤◌, ◌-◌, IfOk, Some, length, map};
+ghost use Rattle.std.specs.Prelude.{◌≡◌, ◌≤◌, ◌-◌, ◌++◌, IfOk, OnOk, Some, length, map};
 ghost use Rattle.spec_stylesheet.specs.Place as places;
 ghost use Rattle.spec_meaning.specs.Stream as stream;
 ghost use Rattle.spec_run.specs.Meaning.{held_by, refused_deep};
 ghost use Rattle.xp_syntax.specs.PartView.{place_of};
 ghost use Rattle.xt_tree.specs.StreamView.{stream_of, streams_of};
-ghost use Rattle.xt_run.specs.Advances.{ending_of as ending_with, ran_of};
+ghost use Rattle.xt_run.specs.Advances.{ending_of as ending_with};
 ghost use Rattle.xt_drive.specs.View.{ending_of, outcome_of, supplied_of, Gives, IsRefused, IsStreamed};
-ghost use Rattle.xt_drive.specs.Referring.{entry_of, entries_of, Evaluates};
+ghost use Rattle.xt_drive.specs.Referring.{entry_of, entries_of, remembered_as, Evaluates};
 
 use crate::globals::Evaluation;
 use crate::memo::{Memo, Referred, put_back, remember};
@@ -15,7 +15,7 @@ use spec_expression::DynCode;
 use std::alloc::Global;
 use std::rc::Rc;
 use xt_ask::copy_place;
-use xt_run::{Call, Entered, Ran, Refused, RunFault};
+use xt_run::{Call, Ended, Entered, Refused, RunFault};
 use xt_streams::quiet;
 use xt_text::Memory;
 use xt_tree::{Fragment, Items, Value};
@@ -88,23 +88,22 @@ pub fn fewer(one: u64, other: u64) -> u64
 /// many could be spared of them.
 pub fn done(
     alloc: Global,
-    ran: Box<Ran>,
+    ended: Box<Ended>,
     parts: &[Rc<Items>],
     below: u64,
     spare: u64,
 ) -> Result<Box<Outcome>, Memory>
-    requires { stream.holes (ran_of ran.value).content ≡ length parts.now }
+    requires { stream.holes (stream_of ended.value.stream.value) ≡ length parts.now }
     ensures spare { IfOk result (λ o. o.value.spare ≤ spare) }
-    ensures height { IfOk result (λ o. o.value.spare ≤ below - (ran_of ran.value).height) }
-    ensures outcome { IfOk result (λ o. outcome_of o.value ≡ record { content = stream.filled (ran_of ran.value).content (streams_of parts.now); ending = (ran_of ran.value).ending }) }
+    ensures height { IfOk result (λ o. o.value.spare ≤ below - ended.value.height) }
+    ensures outcome { IfOk result (λ o. outcome_of o.value ≡ record { content = stream.filled (stream_of ended.value.stream.value) (streams_of parts.now); ending = ending_with ended.value.value }) }
 {
-    let Ran {
-        stream,
+    let content = ended.stream.fill(alloc, parts)?;
+    let Ended {
+        stream: _,
         value,
-        events: _,
         height,
-    } = Box::into_inner(ran);
-    let content = stream.fill(alloc, parts)?;
+    } = Box::into_inner(ended);
     let ending = end_with(value);
     let spare = fewer(spare, below.saturating_sub(height));
     on_heap(alloc, content, ending, spare)
@@ -140,12 +139,14 @@ pub fn streamed(
 ) -> Result<Entered, Memory>
     ensures { IfOk result (λ e. IsStreamed (Some e) came (streams_of parts.old.items) (streams_of parts.new.items)) }
 {
+    let outcome = came?;
+    let part = content_of(&outcome)?;
+    parts.push(part)?;
     let Outcome {
         content,
         ending,
         spare: _,
-    } = Box::into_inner(came?);
-    parts.push(content.clone()?)?;
+    } = Box::into_inner(outcome);
     match ending {
         Ending::Finished => Ok(Entered::Stream(content)),
         Ending::Gave(_) => Ok(Entered::Stream(content)),
@@ -153,8 +154,8 @@ pub fn streamed(
     }
 }
 
-// What a call writes, shared.
-fn content_of(outcome: &Outcome) -> Result<Rc<Items>, Memory>
+/// What a call writes, shared.
+pub fn content_of(outcome: &Outcome) -> Result<Rc<Items>, Memory>
     ensures { IfOk result (λ c. stream_of c.value ≡ (outcome_of outcome.now).content) }
 {
     Ok(outcome.content.clone()?)
@@ -181,6 +182,30 @@ pub fn as_held(alloc: Global, outcome: Outcome) -> Result<Held, Memory>
     }
 }
 
+// Ends an evaluation: what was set aside for it is there again, and what it came to is remembered.
+fn end_evaluation(
+    alloc: Global,
+    memo: &mut Memo,
+    evaluation: Box<Evaluation>,
+    levels: u64,
+    content: Rc<Items>,
+    given: &Entered,
+) -> Result<(), Memory>
+    ensures { OnOk result (entries_of memo.new ≡ (entries_of memo.old ++ map entry_of evaluation.value.aside.items) ++ remembered_as evaluation.value.name evaluation.value.element levels (stream_of content.value) given.now) }
+{
+    let Evaluation {
+        name,
+        element,
+        under_way,
+        call,
+        aside,
+    } = Box::into_inner(evaluation);
+    drop(call);
+    drop(under_way);
+    put_back(memo, aside)?;
+    remember(alloc, memo, name, element, levels, content, given)
+}
+
 /// What a run is given for a global of which this came, with so many levels. Its evaluation is done with, what was set
 /// aside for it is there again, and its value is remembered.
 pub fn evaluated(
@@ -193,22 +218,15 @@ pub fn evaluated(
     requires { IfOk came (λ o. stream.holes (outcome_of o.value).content ≡ 0) }
     ensures { IfOk result (λ r. Evaluates r.value came evaluation.value.name evaluation.value.element levels (map entry_of evaluation.value.aside.items) (entries_of memo.old) (entries_of memo.new)) }
 {
-    let Evaluation {
-        name,
-        element,
-        under_way: _,
-        call: _,
-        aside,
-    } = Box::into_inner(evaluation);
-    let outcome = Box::into_inner(came?);
+    let outcome = came?;
     let spare = outcome.spare;
     let content = content_of(&outcome)?;
-    let held = as_held(alloc, outcome)?;
-    put_back(memo, aside)?;
-    let needed = levels.saturating_sub(spare);
-    remember(alloc, memo, name, element, needed, content, &held)?;
+    let held = as_held(alloc, Box::into_inner(outcome))?;
     let entered = entered(held);
-    Ok(Box::new(alloc, Referred { entered, spare })?)
+    let referred = Box::new(alloc, Referred { entered, spare })?;
+    let needed = levels.saturating_sub(spare);
+    end_evaluation(alloc, memo, evaluation, needed, content, &referred.entered)?;
+    Ok(referred)
 }
 
 // What a run is given for a global that holds this.

@@ -1,5 +1,5 @@
 // The whole run: the globals in their order, and then the root.
-ghost use Rattle.std.specs.Prelude.{◌≡◌, [], ◌++◌, IfOk, OnOk, Some};
+ghost use Rattle.std.specs.Prelude.{◌≡◌, [], ◌++◌, IfOk, OnOk, Some, map};
 ghost use Rattle.std.specs.Option.{option_map};
 ghost use Rattle.spec_meaning.specs.Stream as stream;
 ghost use Rattle.spec_result.specs.Recovery.{messages_of};
@@ -11,19 +11,19 @@ ghost use Rattle.xt_run.specs.View.{named_of, refused_of};
 ghost use Rattle.xt_drive.specs.View.{held_of, ending_of, outcome_of, past_of, setting_in, setting_of, whole_of, IsFinished};
 ghost use Rattle.xt_drive.specs.Remembered.{Remembers};
 ghost use Rattle.xt_drive.specs.Referring.{entries_of};
-ghost use Rattle.xt_drive.specs.Turning.{Turns, TurnsAs};
+ghost use Rattle.xt_drive.specs.Turning.{IsHeldAs, Turns, TurnsAs};
 
 use crate::calls::{global_call, nowhere, root_call};
 use crate::drive::means;
 use crate::globals::{Globals, HeldGlobal, with_name};
 use crate::memo::{Memo, Turned, forget, nothing_remembered, recall_turn};
-use crate::outcome::{Ending, Held, Outcome, as_held};
+use crate::outcome::{Ending, Held, Outcome, as_held, content_of};
 use std::alloc::Global;
 use std::rc::Rc;
 use xt_ask::{World, copy_name};
 use xt_names::Expanded;
 use xt_result::messages;
-use xt_run::{Call, Engine, NamedGlobal, Refused};
+use xt_run::{Engine, NamedGlobal, Refused};
 use xt_text::{Memory, Text};
 use xt_tree::{Items, NodeRef, Value};
 
@@ -81,18 +81,18 @@ fn evaluated_at_turn<E: Engine, W: World>(
     };
     let call = global_call(globals.root, global.element, nowhere(alloc));
     let came = means(alloc, engine, world, &inner, memo, &call, levels);
-    at_turn(alloc, came, call)
+    drop(call);
+    at_turn(alloc, came)
 }
 
-// What a global comes to of which this came at its turn. Its call is done with.
-fn at_turn(alloc: Global, came: Result<Box<Outcome>, Memory>, call: Call) -> Result<Turned, Memory>
+// What a global comes to of which this came at its turn.
+fn at_turn(alloc: Global, came: Result<Box<Outcome>, Memory>) -> Result<Turned, Memory>
     requires { IfOk came (λ o. stream.holes (outcome_of o.value).content ≡ 0) }
     ensures { IfOk result (λ t. TurnsAs t came) }
 {
-    let _ = call;
-    let outcome = Box::into_inner(came?);
-    let content = outcome.content.clone()?;
-    let held = as_held(alloc, outcome)?;
+    let outcome = came?;
+    let content = content_of(&outcome)?;
+    let held = as_held(alloc, Box::into_inner(outcome))?;
     Ok(Turned { held, content })
 }
 
@@ -132,22 +132,21 @@ fn refusal(ending: Ending) -> Option<Refused>
     }
 }
 
-// What a run comes to whose root comes to this, after the messages that were told. Its call is done with.
+// What a run comes to whose root comes to this, after the messages that were told.
 fn finished(
     alloc: Global,
     mut told: Vec<Text>,
     came: Result<Box<Outcome>, Memory>,
-    call: Call,
 ) -> Result<Whole, Memory>
     ensures { IfOk result (λ w. IsFinished w told.items came) }
 {
-    let _ = call;
+    let outcome = came?;
+    add_messages(alloc, &mut told, &outcome.content)?;
     let Outcome {
         content,
         ending,
         spare: _,
-    } = Box::into_inner(came?);
-    add_messages(alloc, &mut told, &content)?;
+    } = Box::into_inner(outcome);
     Ok(Whole {
         content,
         messages: told,
@@ -156,12 +155,12 @@ fn finished(
 }
 
 // What a run comes to of which a global is refused at its turn.
-fn halted(alloc: Global, told: Vec<Text>, why: Refused, written: Rc<Items>) -> Result<Whole, Memory>
+fn halted(alloc: Global, told: Vec<Text>, why: Refused) -> Result<Whole, Memory>
     ensures { IfOk result (λ w. whole_of w ≡ record { content = stream.Ended; messages = told.items; refusal = Some (refused_of why) }) }
 {
-    let _ = written;
+    let content = Rc::new(alloc, Items::new(alloc))?;
     Ok(Whole {
-        content: Rc::new(alloc, Items::new(alloc))?,
+        content,
         messages: told,
         refusal: Some(why),
     })
@@ -175,6 +174,42 @@ fn held_global(alloc: Global, global: &NamedGlobal, value: Value) -> Result<Held
         name: copy_name(alloc, &global.name)?,
         value,
     })
+}
+
+// Holds the value of a global. Where it has none, why.
+fn hold(
+    alloc: Global,
+    values: &mut Vec<HeldGlobal>,
+    global: &NamedGlobal,
+    held: Held,
+) -> Result<Option<Refused>, Memory>
+    ensures { IfOk result (λ why. IsHeldAs why held global.now.name (map held_of values.old.items) (map held_of values.new.items)) }
+{
+    match held {
+        Held::Value(value) => {
+            let global = held_global(alloc, global, value)?;
+            values.push(global)?;
+            Ok(None)
+        }
+        Held::Refused(why, _) => Ok(Some(why)),
+    }
+}
+
+// Takes what a global comes to at its turn: its messages are told, and its value is held. Where it has none, why.
+fn take_turn(
+    alloc: Global,
+    turned: Turned,
+    global: &NamedGlobal,
+    values: &mut Vec<HeldGlobal>,
+    told: &mut Vec<Text>,
+) -> Result<Option<Refused>, Memory>
+    ensures told { OnOk result (told.new.items ≡ told.old.items ++ messages_of (stream_of turned.content.value)) }
+    ensures held { IfOk result (λ why. IsHeldAs why turned.held global.now.name (map held_of values.old.items) (map held_of values.new.items)) }
+{
+    let Turned { held, content } = turned;
+    let refusal = hold(alloc, values, global, held)?;
+    add_messages(alloc, told, &content)?;
+    Ok(refusal)
 }
 
 // The whole run, with so many levels.
@@ -202,11 +237,10 @@ fn run_in<E: Engine, W: World>(
             under_way: none.as_slice(),
         };
         let turned = turn(alloc, engine, world, &globals, &mut memo, global, levels)?;
-        let Turned { held, content } = turned;
-        add_messages(alloc, &mut told, &content)?;
-        match held {
-            Held::Value(value) => values.push(held_global(alloc, global, value)?)?,
-            Held::Refused(why, content) => return halted(alloc, told, why, content),
+        let refusal = take_turn(alloc, turned, global, &mut values, &mut told)?;
+        match refusal {
+            None => {}
+            Some(why) => return halted(alloc, told, why),
         }
     }
     let call = root_call(alloc, world, root)?;
@@ -217,7 +251,8 @@ fn run_in<E: Engine, W: World>(
         under_way: none.as_slice(),
     };
     let came = means(alloc, engine, world, &globals, &mut memo, &call, levels);
-    finished(alloc, told, came, call)
+    drop(call);
+    finished(alloc, told, came)
 }
 
 /// Runs a stylesheet in a world: its globals in stylesheet order, and then the rule for the root of the source

@@ -32,3 +32,36 @@ pub struct Ran {
     /// How deep its contents went below its level.
     pub height: u64,
 }
+
+/// What an instantiation came to, without what it did.
+#[derive(Drop)]
+pub struct Ended {
+    /// What it wrote, with a hole for each instantiation that it entered.
+    pub stream: Rc<Items>,
+    /// Of a global with a select, its value.
+    pub value: Option<Value>,
+    /// How deep its contents went below its level.
+    pub height: u64,
+}
+
+impl Ran {
+    ghost use Rattle.std.specs.Prelude.{◌≡◌};
+
+    /// The same without what it did, which goes away. Takes no memory.
+    pub fn ended(self) -> Ended
+        ensures { result ≡ record { stream = self.stream; value = self.value; height = self.height } }
+    {
+        let Ran {
+            stream,
+            value,
+            events,
+            height,
+        } = self;
+        drop(events);
+        Ended {
+            stream,
+            value,
+            height,
+        }
+    }
+}

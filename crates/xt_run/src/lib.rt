@@ -19,7 +19,7 @@ mod wrapping;
 
 pub use call::{Call, Refused, Ruling, Target};
 pub use engine::Engine;
-pub use event::{Event, Ran};
+pub use event::{Ended, Event, Ran};
 pub use global::NamedGlobal;
 pub use turn::{Entered, RunFault, Turn};
 pub use wrapping::Wrapping;

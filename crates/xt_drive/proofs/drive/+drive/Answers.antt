@@ -13,7 +13,7 @@ use Rattle.xt_drive.specs.declared.globals.Evaluation.{Evaluation}
 use Rattle.xt_drive.specs.View.{setting_of, past_of, IsStreamed}
 use Rattle.xt_drive.specs.Referring.{entry_of, entries_of, Refers}
 use Rattle.xt_drive.specs.Stands.{level_of, Stands}
-use Rattle.xt_drive.specs.Steps.{Enters, Needs}
+use Rattle.xt_drive.specs.Steps.{Enters, Needs, Finishes, ran_with}
 use Rattle.xt_drive.proofs.NoHoles.{meaning_whole}
 use Rattle.xt_drive.proofs.Standing.{stands_entered, stands_referred, stands_done, stands_fault, stepped, meant_from, gives_from, if_ok, on_ok}
 use Rattle.xt_drive.proofs.Referring.{refers_given, refers_evaluated, aside_of, evaluates_as}
@@ -159,8 +159,9 @@ means-done-requires g t c =
     let ss = streams_of new.parts.items in
     let stands : Stands l (prog old.run) gift ss = rw (c.advance.ensures.parts, c.deref_mut.ensures.value) inv.stands in
     let steps = stepped gift (prog old.run) (prog new.run) l.call below inv.truth c.in-Done.is c.in_ok-inner.ensures.steps in
-    let ran = c.in-Done.ran.value in
-    let adv : Advances truth gift (prog old.run) (prog new.run) (Ok (Done ran)) = steps in
+    let finishes : Finishes truth gift (prog old.run) (prog new.run) c.in-Done.ended.value = steps in
+    let ran = ran_with c.in-Done.ended.value finishes.events in
+    let adv : Advances truth gift (prog old.run) (prog new.run) (Ok (Done ran)) = finishes.advances in
     let is = stands_done l (prog old.run) (prog new.run) gift ss ran stands adv in
     let parts : c.as_slice.result.now ≡ new.parts.items = rw (sym c.deref-in-Done.ensures) c.as_slice.ensures.value in
     is.even ∙ length-map new.parts.items _ ∙ ap length (sym parts)
@@ -180,8 +181,9 @@ means-returns-in-Done-clause-meaning g t c =
     let ss = streams_of new.parts.items in
     let stands : Stands l (prog old.run) gift ss = rw (c.advance.ensures.parts, c.deref_mut.ensures.value) inv.stands in
     let steps = stepped gift (prog old.run) (prog new.run) l.call below inv.truth c.in-Done.is c.in_ok-inner.ensures.steps in
-    let ran = c.in-Done.ran.value in
-    let adv : Advances truth gift (prog old.run) (prog new.run) (Ok (Done ran)) = steps in
+    let finishes : Finishes truth gift (prog old.run) (prog new.run) c.in-Done.ended.value = steps in
+    let ran = ran_with c.in-Done.ended.value finishes.events in
+    let adv : Advances truth gift (prog old.run) (prog new.run) (Ok (Done ran)) = finishes.advances in
     let is = stands_done l (prog old.run) (prog new.run) gift ss ran stands adv in
     let parts : c.as_slice.result.now ≡ new.parts.items = rw (sym c.deref-in-Done.ensures) c.as_slice.ensures.value in
     if_ok c.done.result c.done.ensures.outcome (λ x h.
@@ -203,8 +205,9 @@ means-returns-in-Done-clause-lasts g t c =
     let ss = streams_of new.parts.items in
     let stands : Stands l (prog old.run) gift ss = rw (c.advance.ensures.parts, c.deref_mut.ensures.value) inv.stands in
     let steps = stepped gift (prog old.run) (prog new.run) l.call below inv.truth c.in-Done.is c.in_ok-inner.ensures.steps in
-    let ran = c.in-Done.ran.value in
-    let adv : Advances truth gift (prog old.run) (prog new.run) (Ok (Done ran)) = steps in
+    let finishes : Finishes truth gift (prog old.run) (prog new.run) c.in-Done.ended.value = steps in
+    let ran = ran_with c.in-Done.ended.value finishes.events in
+    let adv : Advances truth gift (prog old.run) (prog new.run) (Ok (Done ran)) = finishes.advances in
     let parts : c.as_slice.result.now ≡ new.parts.items = rw (sym c.deref-in-Done.ensures) c.as_slice.ensures.value in
     let before : Onward l (entries_of c.args.memo.now) (entries_of c.loop-standing.memo) new.spare (prog old.run) gift = rw (c.advance.ensures.spare, c.deref_mut.ensures.value) inv.onward in
     let outcome = if_ok c.done.result c.done.ensures.outcome (λ x h. h ∙ ap (λ xs. record { content = filled (ran_of ran).content (streams_of xs); ending = (ran_of ran).ending }) parts) in

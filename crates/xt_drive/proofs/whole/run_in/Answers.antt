@@ -1,15 +1,13 @@
-use Rattle.std.proofs.Common.{◌∙◌, ◌+◌, ◌++◌, [], map, drop, None, sym, ap, refl, arith}
+use Rattle.std.proofs.Common.{◌∙◌, ◌+◌, [], map, drop, None, sym, ap, refl, arith}
 use Rattle.spec_meaning.specs.Question.{Choice, AllRules}
-use Rattle.spec_result.specs.Recovery.{messages_of}
 use Rattle.spec_run.specs.Plan.{nowhere}
 use Rattle.spec_run.specs.Content.{rule_call}
 use Rattle.spec_run.specs.Meaning.{at_turn, root_call, run}
-use Rattle.xt_tree.specs.StreamView.{stream_of}
 use Rattle.xt_run.specs.View.{named_of}
-use Rattle.xt_drive.specs.View.{held_of, setting_in, supplied_of}
+use Rattle.xt_drive.specs.View.{held_of, setting_in}
 use Rattle.xt_drive.specs.Referring.{entries_of}
 use Rattle.xt_drive.proofs.Standing.{if_ok}
-use Rattle.xt_drive.proofs.Turns.{root_here, turn_made, next_turn, turn_held, turn_refused, values_more, last_turn}
+use Rattle.xt_drive.proofs.Turns.{root_here, turn_made, next_turn, turn_held, turn_refused, last_turn}
 use Rattle.xt_drive.proofs.Turning.{remembers_here, turns_here, remembers_next, nothing_yet}
 use Rattle.xt_drive.proofs.whole.run_in.Goals as goal
 
@@ -45,21 +43,20 @@ loop-global-preserved g c =
     let t = c.in_ok-turned.turned in
     let memo = entries_of c.turn.new.memo in
     let turns = turns_here root named t (named_of n) levels memo inv.truth c.as_slice.ensures.value (c.as_slice-in-loop-global.ensures.value ∙ c.new-none.ensures.items) c.in_ok-turned.ensures.turns in
-    let more = c.add_messages.new.told.items in
-    let made = turn_made turns.turned.held turns.turned.content (c.in_ok-add_messages.ensures ∙ ap (λ x. told ++ messages_of (stream_of x)) c.deref.ensures) in
+    let more = c.take_turn.new.told.items in
+    let all = map held_of c.take_turn.new.values.items in
+    let made = turn_made turns.turned.held turns.turned.content c.in_ok-refusal.ensures.told in
     let gs = map named_of (drop (i + 1) named) in
-    let v = c.in-Value.value in
-    let held = turn_held s levels (named_of n) gs values told more call t.held v made c.in-Value.is in
-    let all = values_more c.loop-global.values.items c.in_ok-held_global-in-Value.field-0 c.in_ok-push-in-Value.ensures.items c.in_ok-held_global-in-Value.ensures in
+    let held = turn_held s levels (named_of n) gs values all told more call t.held c.in_ok-refusal.refusal made c.in-None.is c.in_ok-refusal.ensures.held in
     record {
-      same = ap (λ vs. run s levels gs vs more call) all ∙ held ∙ sym next ∙ inv.same;
-      remembers = remembers_next s values _ (named_of n) memo t.held v turns.remembers c.in-Value.is all;
+      same = held ∙ sym next ∙ inv.same;
+      remembers = remembers_next s values all (named_of n) memo t.held c.in_ok-refusal.refusal turns.remembers c.in-None.is c.in_ok-refusal.ensures.held;
       truth = c.turn.ensures.truth ∙ inv.truth;
       name = c.turn.ensures.name ∙ inv.name;
     }
 
-pub returns-in-Refused-clause-run : goal.returns-in-Refused-clause-run
-returns-in-Refused-clause-run g c =
+pub returns-in-Some-clause-run : goal.returns-in-Some-clause-run
+returns-in-Some-clause-run g c =
     let truth = (g.W.World.state c.args.world.now).truth in
     let root = c.args.root in
     let named = c.args.named.now in
@@ -74,11 +71,12 @@ returns-in-Refused-clause-run g c =
     let next = next_turn s levels named i n values told call (omega arith) c.global-item.is in
     let t = c.in_ok-turned.turned in
     let turns = turns_here root named t (named_of n) levels (entries_of c.turn.new.memo) inv.truth c.as_slice.ensures.value (c.as_slice-in-loop-global.ensures.value ∙ c.new-none.ensures.items) c.in_ok-turned.ensures.turns in
-    let more = c.add_messages.new.told.items in
-    let made = turn_made turns.turned.held turns.turned.content (c.in_ok-add_messages.ensures ∙ ap (λ x. told ++ messages_of (stream_of x)) c.deref.ensures) in
+    let more = c.take_turn.new.told.items in
+    let all = map held_of c.take_turn.new.values.items in
+    let made = turn_made turns.turned.held turns.turned.content c.in_ok-refusal.ensures.told in
     let gs = map named_of (drop (i + 1) named) in
-    let why = c.in-Refused.why in
-    let refused = turn_refused s levels (named_of n) gs values told more call t.held why made (ap supplied_of c.in-Refused.is) in
+    let why = c.in-Some.why in
+    let refused = turn_refused s levels (named_of n) gs values all told more call t.held c.in_ok-refusal.refusal why made c.in-Some.is c.in_ok-refusal.ensures.held in
     if_ok c.halted.result c.halted.ensures (λ w h. h ∙ refused ∙ sym next ∙ inv.same)
 
 pub means-came-requires : goal.means-came-requires
