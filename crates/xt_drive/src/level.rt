@@ -129,10 +129,9 @@ pub fn take_stream<R: Drop>(
     ensures spare { standing.new.spare ≤ standing.old.spare }
     ensures inner { standing.new.spare ≤ spare_in came }
 {
-    drop(call);
+    let _ = call;
     standing.spare = fewer(standing.spare, spare_in(&came));
-    let entered = streamed(came, &mut standing.parts)?;
-    drop(standing.given.replace(entered));
+    standing.given = Some(streamed(came, &mut standing.parts)?);
     Ok(())
 }
 
@@ -149,6 +148,6 @@ pub fn take_global<R: Drop>(
 {
     let Referred { entered, spare } = Box::into_inner(came?);
     standing.spare = fewer(standing.spare, spare);
-    drop(standing.given.replace(entered));
+    standing.given = Some(entered);
     Ok(())
 }
