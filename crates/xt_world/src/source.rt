@@ -109,9 +109,9 @@ fn keyed_first(
     ensures answer { IfOk result (λ a. answer_of a ≡ keyed_in (units_in stylesheet.now.units.items) document.now name.now text.now) }
     ensures same { source_in stylesheet.now document.now keys.new.items ≡ source_in stylesheet.now document.now keys.old.items }
 {
+    let kept = copy_name(alloc, name)?;
     let found = find(alloc, document, stylesheet.units.as_slice(), name)?;
-    let answer = answer_found(alloc, &found, text)?;
-    let name = copy_name(alloc, name)?;
-    keys.push(FoundKeys { name, found })?;
-    Ok(answer)
+    let answer = answer_found(alloc, &found, text);
+    keys.push(FoundKeys { name: kept, found })?;
+    answer
 }

@@ -42,9 +42,17 @@ impl Stylesheet {
         ensures truth { IfOk result (λ s. (parameters : Parameters) (document : Document ℕ) (q : Question NodeRef) → truth_in s parameters document q ≡ truth_by_numbers (sheet_of sheet) parameters document q) }
         ensures globals { IfOk result (λ s. map named_of s.globals.items ≡ globals_of (element_called (sheet_of sheet).units) (sheet_of sheet).units) }
     {
-        let rules = sheet.rules;
-        let aliases = Rc::new(alloc, sheet.aliases)?;
-        let units = shared(alloc, sheet.units)?;
+        let Sheet {
+            units,
+            rules,
+            space_rules,
+            method,
+            aliases,
+        } = sheet;
+        drop(space_rules);
+        drop(method);
+        let aliases = Rc::new(alloc, aliases)?;
+        let units = shared(alloc, units)?;
         let elements = elements(alloc, units.as_slice())?;
         let globals = globals(alloc, units.as_slice())?;
         let units = resolved(alloc, &aliases, units.as_slice())?;

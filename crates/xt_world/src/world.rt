@@ -210,8 +210,14 @@ fn number_of(chosen: Result<Option<u64>, EvalFault>) -> Result<Option<u64>, Memo
     match chosen {
         Ok(number) => Ok(number),
         Err(EvalFault::Memory) => Err(Memory),
-        Err(EvalFault::Refused(_)) => Ok(None),
-        Err(EvalFault::Wants(_)) => Ok(None),
+        Err(EvalFault::Refused(refusal)) => {
+            drop(refusal);
+            Ok(None)
+        }
+        Err(EvalFault::Wants(name)) => {
+            drop(name);
+            Ok(None)
+        }
     }
 }
 
