@@ -1,4 +1,4 @@
--- What is left of attribute sets, and frames on a sink that was begun.
+-- What is left of attribute sets, and what comes first in a sink that was begun.
 use Rattle.std.proofs.Common.{◌≡◌, ℕ, suc, ◌+◌, ◌<◌, ◌≤◌, List, [], ◌∷◌, ◌++◌, length, get_or, drop, map, true, Vec, Global, refl, sym, ap, ◌∙◌, append_assoc, arith}
 use Rattle.std.specs.List.{flat_map}
 use Rattle.std.proofs.lemmas.List.{at_drop_more, at_drop_all}
@@ -6,7 +6,7 @@ use Rattle.std.specs.Prelude.{if◌then◌else◌}
 use Rattle.spec_document.specs.Name.{Expanded, same_name}
 use Rattle.spec_stylesheet.specs.Place.{Place}
 use Rattle.spec_meaning.specs.Question.{Question, Answer}
-use Rattle.spec_run.specs.Plan.{Plan, End, Begin, Enter}
+use Rattle.spec_run.specs.Plan.{Plan, End, Begin, Enter, Wrap}
 use Rattle.spec_run.specs.Going.{begun}
 use Rattle.spec_run.specs.Passes.{stays, begins}
 use Rattle.spec_run.specs.Content.{Here, elements_named, set_call, sets_entered, sets_used}
@@ -14,17 +14,20 @@ use Rattle.xp_syntax.specs.PartView.{place_of}
 use Rattle.xt_tree.specs.declared.node_ref.NodeRef.{NodeRef}
 use Rattle.xt_ask.specs.declared.answer.NamedSets.{NamedSets}
 use Rattle.xt_ask.specs.View.{sets_of}
+use Rattle.xt_run.specs.declared.wrapping.Wrapping.{Wrapping}
+use Rattle.xt_run.specs.View.{wrapping_of}
 use Rattle.xt_going.specs.View.{going_of}
+use Rattle.xt_frames.specs.declared.frame.Body.{Body}
 use Rattle.xt_frames.specs.declared.frame.Frame.{Frame}
 use Rattle.xt_frames.specs.declared.frame.Frame.TheVariants as frames
 use Rattle.xt_frames.specs.declared.frame.Sets.{Sets}
 use Rattle.xt_frames.specs.declared.run.Run.{Run}
 use Rattle.xt_frames.specs.declared.run.Next.{Next}
 use Rattle.xt_frames.specs.declared.run.Next.TheVariants.{Went}
-use Rattle.xt_frames.specs.View.{here_of, left_frame, left_over}
+use Rattle.xt_frames.specs.View.{here_of, after_body, left_frame, left_over}
 use Rattle.xt_frames.specs.Left.{left_in, Does, Steps, Pushed}
 use Rattle.xt_frames.proofs.Lefts.{pushed, one_more, steps_at, passes_at, comes_after}
-use Rattle.xt_perform.specs.Over.{IsOver}
+use Rattle.xt_perform.specs.Over.{IsOver, Precedes, HasBegun}
 
 -- ---- Attribute sets
 
@@ -59,24 +62,51 @@ pushed_over f old new h =
 pub nothing_over : (f : Frame) (r : Run) → left_frame f (left_in r) ≡ left_in r → IsOver f r r
 nothing_over f r e = record { left = sym e; frames = omega arith; going = refl; room = refl; supplies = refl }
 
--- a sink, and four frames
-pub four_frames : (ask : Question NodeRef → Answer NodeRef) (a b e f : Frame) (old low one two three new : Run) → low.frames ≡ old.frames → low.room ≡ old.room → low.supplies ≡ old.supplies → going_of low.going ≡ begun (going_of old.going)
-    → Pushed a low one → Pushed b one two → Pushed e two three → IsOver f three new
-    → Does ask (Begin (left_frame f (left_frame e (left_frame b (left_frame a (left_in old)))))) (suc (length old.frames.items)) old new Went
-four_frames ask a b e f old low one two three new same room supplies going p q r s =
-    let i = one_more low.frames.items one.frames.items a p.frames in
-    let j = one_more one.frames.items two.frames.items b q.frames in
-    let k = one_more two.frames.items three.frames.items e r.frames in
+-- a sink that ends so, before the rest of a body
+pub has_begun : (end : Wrapping) (b rest : Body) (old one two new : Run) → rest ≡ record { content = b.content; next = b.next + 1; here = b.here } → Pushed (frames.Body rest) old one → Pushed (frames.Wrap end) one two
+    → new.frames ≡ two.frames → new.room ≡ two.room → new.supplies ≡ two.supplies → going_of new.going ≡ begun (going_of two.going) → HasBegun end b old new
+has_begun end b rest old one two new is_rest p q same room supplies going =
+    let i = one_more old.frames.items one.frames.items (frames.Body rest) p.frames in
+    let j = one_more one.frames.items two.frames.items (frames.Wrap end) q.frames in
+    let n : length new.frames.items ≡ length two.frames.items = ap (λ (fs : Vec Frame Global). length fs.items) same in
+    let one_left : left_in one ≡ after_body b (left_in old) = pushed old one (frames.Body rest) p.frames ∙ ap (λ (r : Body). left_frame (frames.Body r) (left_in old)) is_rest in
+    record {
+      left = ap (λ (fs : Vec Frame Global). left_over fs.items End) same ∙ pushed one two (frames.Wrap end) q.frames ∙ ap (Wrap (wrapping_of end)) one_left;
+      frames = omega (arith, i, j, n);
+      going = going ∙ ap (λ g. begun (going_of g)) (q.going ∙ p.going);
+      room = room ∙ q.room ∙ p.room;
+      supplies = supplies ∙ q.supplies ∙ p.supplies;
+    }
+
+-- in a sink that was begun
+pub after_begun : (ask : Question NodeRef → Answer NodeRef) (first : Plan NodeRef → Plan NodeRef) (end : Wrapping) (b : Body) (old mid new : Run) → HasBegun end b old mid → Precedes first 2 mid new
+    → Does ask (Begin (first (Wrap (wrapping_of end) (after_body b (left_in old))))) (suc (length old.frames.items)) old new Went
+after_begun ask first end b old mid new h s =
+    let after = first (Wrap (wrapping_of end) (after_body b (left_in old))) in
+    let left : left_in new ≡ after = s.left ∙ ap first h.left in
+    let going : going_of new.going ≡ begun (going_of old.going) = ap going_of s.going ∙ h.going in
+    let room = s.room ∙ h.room in
+    let supplies = s.supplies ∙ h.supplies in
+    let k = h.frames in
     let l = s.frames in
-    let n : length low.frames.items ≡ length old.frames.items = ap (λ (fs : Vec Frame Global). length fs.items) same in
-    let after = left_frame f (left_frame e (left_frame b (left_frame a (left_in old)))) in
-    let left : left_in new ≡ after =
-    s.left ∙ ap (left_frame f) (pushed two three e r.frames ∙ ap (left_frame e) (pushed one two b q.frames ∙ ap (left_frame b) (pushed low one a p.frames ∙ ap (λ (fs : Vec Frame Global). left_frame a (left_over fs.items End)) same))) in
-    let last : going_of new.going ≡ begun (going_of old.going) = ap going_of (s.going ∙ r.going ∙ q.going ∙ p.going) ∙ going in
-    let is_room : new.room ≡ old.room = s.room ∙ r.room ∙ q.room ∙ p.room ∙ room in
-    let is_supplies = s.supplies ∙ r.supplies ∙ q.supplies ∙ p.supplies ∙ supplies in
-    let m = steps_at ask old new {q = left_in new} {r = after} {g = going_of new.going} {h = begun (going_of old.going)} is_room is_supplies left last in
-    record { so = (passes_at left last (begins stays), omega (arith, i, j, k, l, n, m)); room = is_room; supplies = is_supplies }
+    let m = steps_at ask old new {q = left_in new} {r = after} {g = going_of new.going} {h = begun (going_of old.going)} room supplies left going in
+    record { so = (passes_at left going (begins stays), omega (arith, k, l, m)); room = room; supplies = supplies }
+
+-- a frame, and over it the attribute sets of these names
+pub sets_before : (f : Frame) (s : Sets) (by : Place) (h : Here NodeRef) (names : List Expanded) (old mid new : Run) → Pushed f old mid → IsOver (frames.Sets s) mid new
+    → place_of s.place ≡ by → here_of s.here ≡ h → drop s.next s.elements.items ≡ flat_map (elements_named h.sets) names → Precedes (λ p. sets_used by h names (left_frame f p)) 2 old new
+sets_before f s by h names old mid new p over place here elements =
+    let i = one_more old.frames.items mid.frames.items f p.frames in
+    let l = over.frames in
+    let F : Place → Here NodeRef → List NodeRef → Plan NodeRef = λ q k es. sets_entered q k es (left_frame f (left_in old)) in
+    let e : F (place_of s.place) (here_of s.here) (drop s.next s.elements.items) ≡ F by h (flat_map (elements_named h.sets) names) = λ i. F (place i) (here i) (elements i) in
+    record {
+      left = over.left ∙ ap (left_frame (frames.Sets s)) (pushed old mid f p.frames) ∙ e;
+      frames = omega (arith, i, l);
+      going = over.going ∙ p.going;
+      room = over.room ∙ p.room;
+      supplies = over.supplies ∙ p.supplies;
+    }
 
 -- ---- The elements of one name
 

@@ -34,10 +34,13 @@ pub fn choose_from<W: World>(
     ensures truth { (W.state world.new).truth ≡ (W.state world.old).truth }
     ensures name { W.name world.new ≡ W.name world.old }
 {
-    let shared = share_branches(&branches.branches)?;
+    let Branches {
+        branches: shared,
+        next: first,
+        here,
+    } = branches;
     let list = shared.as_slice();
-    let here = branches.here.share()?;
-    let mut next = branches.next;
+    let mut next = first;
     while next < list.len() {
         let branch = &list[next];
         match is_taken(alloc, run, branch, &here, world)? {
@@ -48,7 +51,14 @@ pub fn choose_from<W: World>(
                 next += 1;
             }
             Came::Halts(why) => return Ok(Next::Halt(why)),
-            Came::Lacks(name) => return leave(alloc, run, branches, next, &branch.site.place, name),
+            Came::Lacks(name) => {
+                let left = Branches {
+                    branches: share_branches(&shared)?,
+                    next,
+                    here,
+                };
+                return leave(alloc, run, left, &branch.site.place, name);
+            }
         }
     }
     Ok(Next::Went)
@@ -93,23 +103,17 @@ fn go_into_branch(
     go_into(alloc, run, &branch.site.place, inner, here)
 }
 
-/// Leaves the branches from this one on, whose test lacks a global.
+/// Leaves these branches, where the test of the first of them lacks a global.
 fn leave(
     alloc: Global,
     run: &mut Run,
-    branches: Branches,
-    next: usize,
+    left: Branches,
     place: &Place,
     name: Expanded,
 ) -> Result<Next, Memory>
-    ensures needs { IfOk result (HasNeeds name branches.here.depth (place_of place.now)) }
-    ensures pushed { OnOk result (Pushed (Frame.Branches (record { branches = branches.branches; next = next; here = branches.here })) run.old run.new) }
+    ensures needs { IfOk result (HasNeeds name left.here.depth (place_of place.now)) }
+    ensures pushed { OnOk result (Pushed (Frame.Branches left) run.old run.new) }
 {
-    let depth = branches.here.depth;
-    let left = Branches {
-        branches: branches.branches,
-        next,
-        here: branches.here,
-    };
+    let depth = left.here.depth;
     lack(alloc, run, Frame::Branches(left), name, depth, place)
 }

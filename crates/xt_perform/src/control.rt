@@ -1,20 +1,21 @@
 // Instructions that say whether, how often or which contents run (XSLT 1.0, sections 5.4, 6, 8, 9 and 10).
-ghost use Rattle.std.specs.Prelude.{◌≡◌, ◌<◌, ◌+◌, [], suc, length, map, IfOk, if◌then◌else◌};
+ghost use Rattle.std.specs.Prelude.{◌≡◌, ◌<◌, ◌+◌, List, [], suc, length, map, IfOk, if◌then◌else◌};
 ghost use Rattle.spec_stylesheet.specs.Instruction as made;
 ghost use Rattle.spec_stylesheet.specs.Instruction.{instrs};
 ghost use Rattle.spec_meaning.specs.Question as question;
 ghost use Rattle.spec_meaning.specs.Stream.{Ended};
-ghost use Rattle.spec_run.specs.Plan.{Put, SameRule, RuleIs};
+ghost use Rattle.spec_meaning.specs.Context.{Bound};
+ghost use Rattle.spec_run.specs.Plan.{Plan, Put, SameRule, RuleIs};
 ghost use Rattle.spec_run.specs.Content as contents;
 ghost use Rattle.spec_run.specs.Content.{each};
 ghost use Rattle.xp_syntax.specs.View.{expr_of};
-ghost use Rattle.xp_syntax.specs.PartView.{site_of, sort_key_of};
+ghost use Rattle.xp_syntax.specs.PartView.{place_of, site_of, sort_key_of};
 ghost use Rattle.xp_syntax.specs.InstrView.{instr_of, control_of, binding_of, branch_of, selection_of};
 ghost use Rattle.xt_tree.specs.declared.node_ref.NodeRef.{NodeRef};
 ghost use Rattle.xt_ask.specs.View.{template_of};
 ghost use Rattle.xt_run.specs.View.{ruling_of};
 ghost use Rattle.xt_frames.specs.declared.frame.Frame.TheVariants as Frame;
-ghost use Rattle.xt_frames.specs.View.{here_of, inside, inside_at, after_body};
+ghost use Rattle.xt_frames.specs.View.{here_of, inside, inside_at, after_body, passed_to};
 ghost use Rattle.xt_frames.specs.Left.{left_in, Does, Performs};
 
 use crate::choose::{choose_from, share_branches};
@@ -25,7 +26,6 @@ use std::alloc::Global;
 use std::rc::Rc;
 use xp_syntax::{Binding, Branch, Control, Expr, Instr, Selection, Site, SortKey};
 use xt_ask::{Bindings, NamedTemplate, World, copy_name_if, copy_place};
-use xt_base::Place;
 use xt_frames::{
     Application, Body, Branches, Came, Frame, Loop, Next, Ordered, Passing, Run, Standing, lack,
     nodes, push, share_bindings, share_content, share_keys, truth,
@@ -101,34 +101,59 @@ fn for_nodes(
     requires { body.next < usize.MAX }
     ensures { IfOk result (λ next. (ask : question.Question NodeRef → question.Answer NodeRef) → Does ask (Put Ended (contents.sorted (map sort_key_of keys.now.value.items) (here_of body.here) nodes.items (λ ns. each (inside_at (site_of site.now).place (instrs (map instr_of content.now.value.items)) (length ns) (here_of body.here)) 1 ns (after_body body (left_in run.old))))) (suc (length run.old.frames.items)) run.old run.new next) }
 {
-    let place = copy_place(alloc, &site.place)?;
-    let content = share_content(content)?;
     let here = body.here.share()?;
-    let inner = body.here.share()?;
     push(run, Frame::Body(advanced(body)))?;
+    loop_over(alloc, run, site, keys, content, nodes, here)
+}
+
+/// Leaves the content for each of these nodes, once they are sorted where there are keys.
+fn loop_over(
+    alloc: Global,
+    run: &mut Run,
+    site: &Site,
+    keys: &Rc<Vec<SortKey>>,
+    content: &Rc<Vec<Instr>>,
+    nodes: Vec<NodeRef>,
+    here: Standing,
+) -> Result<Next, Memory>
+    ensures { IfOk result (λ next. (ask : question.Question NodeRef → question.Answer NodeRef) → Does ask (Put Ended (contents.sorted (map sort_key_of keys.now.value.items) (here_of here) nodes.items (λ ns. each (inside_at (site_of site.now).place (instrs (map instr_of content.now.value.items)) (length ns) (here_of here)) 1 ns (left_in run.old)))) (length run.old.frames.items) run.old run.new next) }
+{
     if keys.is_empty() {
-        let left = loop_over(place, content, nodes, inner);
+        let left = loop_of(alloc, site, content, nodes, here)?;
         push(run, Frame::Loop(left))?;
         return Ok(Next::Went);
     }
     let keys = share_keys(keys)?;
-    let to = Ordered::Loop(loop_over(place, content, Vec::new(alloc), inner));
-    let left = unsorted(alloc, keys, here, nodes, to);
-    push(run, Frame::Sorting(left))?;
+    let inner = here.share()?;
+    let left = loop_of(alloc, site, content, Vec::new(alloc), inner)?;
+    let sorting = unsorted(alloc, keys, here, nodes, Ordered::Loop(left));
+    push(run, Frame::Sorting(sorting))?;
     Ok(Next::Went)
 }
 
-/// A loop over these nodes, all of which are left. Takes no memory.
-fn loop_over(place: Place, content: Rc<Vec<Instr>>, nodes: Vec<NodeRef>, here: Standing) -> Loop
-    ensures { result ≡ record { place = place; content = content; nodes = nodes; next = 0; here = here } }
+/// The content for each of these nodes, all of which are left.
+fn loop_of(
+    alloc: Global,
+    site: &Site,
+    content: &Rc<Vec<Instr>>,
+    nodes: Vec<NodeRef>,
+    here: Standing,
+) -> Result<Loop, Memory>
+    ensures place { IfOk result (λ l. place_of l.place ≡ (site_of site.now).place) }
+    ensures content { IfOk result (λ l. l.content.value ≡ content.now.value) }
+    ensures nodes { IfOk result (λ l. l.nodes ≡ nodes) }
+    ensures next { IfOk result (λ l. l.next ≡ 0) }
+    ensures here { IfOk result (λ l. l.here ≡ here) }
 {
-    Loop {
+    let content = share_content(content)?;
+    let place = copy_place(alloc, &site.place)?;
+    Ok(Loop {
         place,
         content,
         nodes,
         next: 0,
         here,
-    }
+    })
 }
 
 /// xsl:if (XSLT 1.0, section 9.1).
@@ -238,20 +263,54 @@ fn apply_to(
     let bindings = share_bindings(bindings)?;
     let here = body.here.share()?;
     push(run, Frame::Body(advanced(body)))?;
-    let to = Application {
-        place: copy_place(alloc, &site.place)?,
-        mode: copy_name_if(alloc, &selection.mode)?,
-        parameters: Bindings::Empty,
-        nodes,
-        next: 0,
-        depth: here.depth,
-    };
+    let to = to_rules(alloc, site, selection, nodes, &here)?;
+    pass(run, bindings, here, to)
+}
+
+/// What is passed to the template rules of these nodes, once they are sorted where there are keys.
+fn to_rules(
+    alloc: Global,
+    site: &Site,
+    selection: &Selection,
+    nodes: Vec<NodeRef>,
+    here: &Standing,
+) -> Result<Passing, Memory>
+    ensures { IfOk result (λ to. (parameters : List (Bound NodeRef)) → (after : Plan NodeRef) → passed_to to parameters after ≡ contents.sorted (map sort_key_of selection.now.keys.value.items) (here_of here.now) nodes.items (λ ns. contents.applied_to (site_of site.now).place selection.now.mode parameters here.now.depth ns after)) }
+{
     if selection.keys.is_empty() {
-        return pass(run, bindings, here, Passing::Rules(to));
+        let to = application(alloc, site, selection, nodes, here.depth)?;
+        return Ok(Passing::Rules(to));
     }
     let keys = share_keys(&selection.keys)?;
     let standing = here.share()?;
-    pass(run, bindings, here, Passing::Sorted(keys, standing, to))
+    let to = application(alloc, site, selection, nodes, here.depth)?;
+    Ok(Passing::Sorted(keys, standing, to))
+}
+
+/// The template rules of these nodes, all of which are left, and to which nothing is passed yet.
+fn application(
+    alloc: Global,
+    site: &Site,
+    selection: &Selection,
+    nodes: Vec<NodeRef>,
+    depth: u64,
+) -> Result<Application, Memory>
+    ensures place { IfOk result (λ a. place_of a.place ≡ (site_of site.now).place) }
+    ensures mode { IfOk result (λ a. a.mode ≡ selection.now.mode) }
+    ensures nodes { IfOk result (λ a. a.nodes ≡ nodes) }
+    ensures next { IfOk result (λ a. a.next ≡ 0) }
+    ensures depth { IfOk result (λ a. a.depth ≡ depth) }
+{
+    let place = copy_place(alloc, &site.place)?;
+    let mode = copy_name_if(alloc, &selection.mode)?;
+    Ok(Application {
+        place,
+        mode,
+        parameters: Bindings::Empty,
+        nodes,
+        next: 0,
+        depth,
+    })
 }
 
 /// xsl:call-template (XSLT 1.0, section 6). A name that is no template's writes nothing.
@@ -299,6 +358,7 @@ fn call_element(
     let bindings = share_bindings(bindings)?;
     let here = body.here.share()?;
     push(run, Frame::Body(advanced(body)))?;
+    let by = copy_place(alloc, &site.place)?;
     let focus = here.focus;
     let depth = here.depth;
     let call = Call {
@@ -308,7 +368,7 @@ fn call_element(
         position: focus.position,
         size: focus.size,
         ruling: ruling_at(&here),
-        by: copy_place(alloc, &site.place)?,
+        by,
     };
     pass(run, bindings, here, Passing::Template(call, depth))
 }

@@ -125,7 +125,9 @@ pub(crate) fn copy<W: World>(
     let answer = run
         .going
         .ask(alloc, world, Question::Name(body.here.focus.node))?;
-    copy_as(alloc, run, site, sets, content, body, &answer, world)
+    let next = copy_as(alloc, run, site, sets, content, body, &answer, world);
+    drop(answer);
+    next
 }
 
 /// The copy of the current node, whose kind and names are these.
@@ -238,12 +240,27 @@ fn copy_node<W: World>(
     ensures truth { (W.state world.new).truth ≡ (W.state world.old).truth }
     ensures name { W.name world.new ≡ W.name world.old }
 {
-    let answer = run
-        .going
-        .ask(alloc, world, Question::Copy(body.here.focus.node))?;
-    put_copy(&mut run.going, &answer)?;
+    let node = body.here.focus.node;
     push(run, Frame::Body(advanced(body)))?;
+    ask_copy(alloc, &mut run.going, node, world)?;
     Ok(Next::Went)
+}
+
+/// Asks for the copy of a node, and puts it.
+fn ask_copy<W: World>(
+    alloc: Global,
+    going: &mut Going,
+    node: NodeRef,
+    world: &mut W,
+) -> Result<(), Memory>
+    ensures put { OnOk result (let copy = (W.state world.old).truth (question.Copy node) in going_of going.new ≡ goings.put (stream_in copy) (goings.noted (goings.Asked (question.Copy node) copy) (going_of going.old))) }
+    ensures truth { (W.state world.new).truth ≡ (W.state world.old).truth }
+    ensures name { W.name world.new ≡ W.name world.old }
+{
+    let answer = going.ask(alloc, world, Question::Copy(node))?;
+    let put = put_copy(going, &answer);
+    drop(answer);
+    put
 }
 
 /// Puts the copy of a node.

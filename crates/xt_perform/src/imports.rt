@@ -1,10 +1,11 @@
 // Template rules that were chosen, and xsl:apply-imports, which enters what the current one overrides (XSLT 1.0,
 // section 5.6).
-ghost use Rattle.std.specs.Prelude.{◌≡◌, ◌<◌, ℕ, suc, length, IfOk};
+ghost use Rattle.std.specs.Prelude.{◌≡◌, ◌<◌, ℕ, [], suc, length, IfOk};
 ghost use Rattle.std.specs.Option.{option_map};
 ghost use Rattle.spec_stylesheet.specs.Instruction as made;
 ghost use Rattle.spec_meaning.specs.Question as question;
 ghost use Rattle.spec_run.specs.Plan.{Plan};
+ghost use Rattle.spec_run.specs.Going as goings;
 ghost use Rattle.spec_run.specs.Passes.{Passes};
 ghost use Rattle.spec_run.specs.Content as contents;
 ghost use Rattle.xp_syntax.specs.PartView.{place_of, site_of};
@@ -26,9 +27,11 @@ use xt_ask::{
 };
 use xt_base::Place;
 use xt_frames::{Body, Frame, Next, Run, Standing, want};
+use xt_going::Going;
 use xt_names::Expanded;
 use xt_run::{Call, Event, Refused, Ruling, Target};
 use xt_text::Memory;
+use xt_tree::NodeRef;
 
 /// What this rule of a node in this mode enters; without one a built-in rule.
 fn target_of_rule(
@@ -155,15 +158,48 @@ fn apply_imported<W: World>(
 {
     let focus = body.here.focus;
     let depth = body.here.depth;
+    let call = imported(alloc, &mut run.going, site, rule, focus, world)?;
+    want(run, Frame::Body(advanced(body)), call, depth)
+}
+
+/// The call that enters, at this focus, what the stylesheet of this rule imports.
+fn imported<W: World>(
+    alloc: Global,
+    going: &mut Going,
+    site: &Site,
+    rule: CurrentRule,
+    focus: Focus,
+    world: &mut W,
+) -> Result<Call, Memory>
+    ensures call { IfOk result (λ c. let a = (W.state world.old).truth (question.Choice focus.node rule.mode (question.Imported rule.first rule.last)) in call_of c ≡ record { target = contents.target_by rule.mode (question.rule_in a); node = focus.node; parameters = []; position = focus.position; size = focus.size; ruling = contents.ruling_by rule.mode (question.rule_in a); by = place_of site.now.place }) }
+    ensures going { IfOk result (λ c. let q = question.Choice focus.node rule.mode (question.Imported rule.first rule.last) in going_of going.new ≡ goings.noted (goings.Asked q ((W.state world.old).truth q)) (going_of going.old)) }
+    ensures truth { (W.state world.new).truth ≡ (W.state world.old).truth }
+    ensures name { W.name world.new ≡ W.name world.old }
+{
+    let chosen = imported_rule(alloc, going, &rule, focus.node, world)?;
+    let nothing = Bindings::Empty;
+    call_of_choice(alloc, &rule.mode, &chosen, focus, nothing, &site.place)
+}
+
+/// The rule for a node among what the stylesheet of this rule imports, in its mode.
+fn imported_rule<W: World>(
+    alloc: Global,
+    going: &mut Going,
+    rule: &CurrentRule,
+    node: NodeRef,
+    world: &mut W,
+) -> Result<Option<ChosenRule>, Memory>
+    ensures rule { IfOk result (λ r. option_map chosen_of r ≡ question.rule_in ((W.state world.old).truth (question.Choice node rule.now.mode (question.Imported rule.now.first rule.now.last)))) }
+    ensures going { IfOk result (λ r. let q = question.Choice node rule.now.mode (question.Imported rule.now.first rule.now.last) in going_of going.new ≡ goings.noted (goings.Asked q ((W.state world.old).truth q)) (going_of going.old)) }
+    ensures truth { (W.state world.new).truth ≡ (W.state world.old).truth }
+    ensures name { W.name world.new ≡ W.name world.old }
+{
     let candidates = Candidates::Imported {
         first: rule.first,
         last: rule.last,
     };
     let mode = copy_name_if(alloc, &rule.mode)?;
-    let question = Question::Choice(focus.node, mode, candidates);
-    let answer = run.going.ask(alloc, world, question)?;
-    let chosen = answer.into_rule();
-    let nothing = Bindings::Empty;
-    let call = call_of_choice(alloc, &rule.mode, &chosen, focus, nothing, &site.place)?;
-    want(run, Frame::Body(advanced(body)), call, depth)
+    let question = Question::Choice(node, mode, candidates);
+    let answer = going.ask(alloc, world, question)?;
+    Ok(answer.into_rule())
 }

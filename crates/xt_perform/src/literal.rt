@@ -1,21 +1,23 @@
 // Literal result elements (XSLT 1.0, section 7.1.1).
-ghost use Rattle.std.specs.Prelude.{◌≡◌, ◌<◌, ◌+◌, suc, length, map, slice_get, Some, IfOk};
+ghost use Rattle.std.specs.Prelude.{◌≡◌, ◌<◌, ◌+◌, suc, length, map, slice_get, Some, IfOk, OnOk};
 ghost use Rattle.spec_stylesheet.specs.Instruction as made;
 ghost use Rattle.spec_stylesheet.specs.Instruction.{instrs};
 ghost use Rattle.spec_meaning.specs.Question as question;
 ghost use Rattle.spec_result.specs.Shape.{with_prefix};
-ghost use Rattle.spec_run.specs.Content.{element_aliased, planned_with};
+ghost use Rattle.spec_run.specs.Content.{element_aliased, planned_with, sets_used};
 ghost use Rattle.xp_syntax.specs.SheetView.{alias_of};
 ghost use Rattle.xp_syntax.specs.PartView.{site_of, literal_tag_of};
 ghost use Rattle.xp_syntax.specs.InstrView.{instr_of};
 ghost use Rattle.xt_tree.specs.declared.node_ref.NodeRef.{NodeRef};
 ghost use Rattle.xt_run.specs.View.{wrapping_of};
-ghost use Rattle.xt_frames.specs.View.{here_of, inside, after_body};
+ghost use Rattle.xt_frames.specs.declared.frame.Frame.TheVariants as Frame;
+ghost use Rattle.xt_frames.specs.View.{here_of, inside, after_body, left_frame};
 ghost use Rattle.xt_frames.specs.Left.{left_in, Does};
+ghost use Rattle.xt_perform.specs.Over.{Precedes};
 
 use crate::aliases::{aliased_namespaces, aliased_prefix, aliased_uri};
+use crate::making::begin;
 use crate::sets::{push_sets, used_sets};
-use crate::simple::advanced;
 use std::alloc::Global;
 use std::rc::Rc;
 use xp_syntax::{Alias, Instr, LiteralTag, Site};
@@ -36,20 +38,44 @@ pub(crate) fn literal(
     requires stands { slice_get (map instr_of body.content.value.items) body.next ≡ Some (record { site = site_of site.now; form = made.with_content (made.Literal (literal_tag_of tag.now)) (instrs (map instr_of content.now.value.items)) }) }
     ensures { IfOk result (λ next. (ask : question.Question NodeRef → question.Answer NodeRef) → Does ask (planned_with (site_of site.now) (here_of body.here) (made.Literal (literal_tag_of tag.now)) (inside (site_of site.now).place (instrs (map instr_of content.now.value.items)) (here_of body.here)) (after_body body (left_in run.old))) (suc (length run.old.frames.items)) run.old run.new next) }
 {
-    run.going.begin(alloc)?;
-    let sets = used_sets(alloc, &site.place, tag.sets.as_slice(), &body.here)?;
-    let attributes = Attributes {
-        content: share_content(&body.content)?,
+    let attributes = all_attributes(&body)?;
+    let end = element_of(alloc, tag, body.here.unit.aliases.as_slice())?;
+    begin(alloc, run, end, body)?;
+    put_attributes(alloc, run, site, tag, attributes)?;
+    Ok(Next::Went)
+}
+
+/// All attributes of the next instruction of a body.
+fn all_attributes(body: &Body) -> Result<Attributes, Memory>
+    ensures content { IfOk result (λ a. a.content.value ≡ body.now.content.value) }
+    ensures number { IfOk result (λ a. a.number ≡ body.now.next) }
+    ensures next { IfOk result (λ a. a.next ≡ 0) }
+    ensures here { IfOk result (λ a. here_of a.here ≡ here_of body.now.here) }
+{
+    let content = share_content(&body.content)?;
+    let here = body.here.share()?;
+    Ok(Attributes {
+        content,
         number: body.next,
         next: 0,
-        here: body.here.share()?,
-    };
-    let end = element_of(alloc, tag, body.here.unit.aliases.as_slice())?;
-    push(run, Frame::Body(advanced(body)))?;
-    push(run, Frame::Wrap(end))?;
+        here,
+    })
+}
+
+/// Puts the attributes of an element on top, and over them the attribute sets that it uses.
+fn put_attributes(
+    alloc: Global,
+    run: &mut Run,
+    site: &Site,
+    tag: &LiteralTag,
+    attributes: Attributes,
+) -> Result<(), Memory>
+    ensures { OnOk result (Precedes (λ p. sets_used (site_of site.now).place (here_of attributes.here) tag.now.sets.items (left_frame (Frame.Attributes attributes) p)) 2 run.old run.new) }
+{
+    let sets = used_sets(alloc, &site.place, tag.sets.as_slice(), &attributes.here)?;
     push(run, Frame::Attributes(attributes))?;
     push_sets(run, sets)?;
-    Ok(Next::Went)
+    Ok(())
 }
 
 /// The element of a tag in the result, without its attributes and its content.

@@ -1,6 +1,6 @@
 // What is made of contents: elements, attributes and processing instructions whose names are made, and messages
 // (XSLT 1.0, sections 7.1.2, 7.1.3, 7.3 and 13).
-ghost use Rattle.std.specs.Prelude.{◌≡◌, ◌<◌, ◌+◌, suc, length, map, IfOk};
+ghost use Rattle.std.specs.Prelude.{◌≡◌, ◌<◌, ◌+◌, suc, length, map, IfOk, OnOk};
 ghost use Rattle.spec_stylesheet.specs.Instruction as made;
 ghost use Rattle.spec_stylesheet.specs.Instruction.{instrs};
 ghost use Rattle.spec_meaning.specs.Question as question;
@@ -13,6 +13,7 @@ ghost use Rattle.xt_run.specs.View.{wrapping_of};
 ghost use Rattle.xt_frames.specs.declared.frame.Frame.TheVariants as Frame;
 ghost use Rattle.xt_frames.specs.View.{here_of, inside, after_body};
 ghost use Rattle.xt_frames.specs.Left.{left_in, Does, Performs};
+ghost use Rattle.xt_perform.specs.Over.{HasBegun};
 
 use crate::sets::collect_with_sets;
 use crate::simple::advanced;
@@ -20,7 +21,7 @@ use std::alloc::Global;
 use std::rc::Rc;
 use xp_syntax::{Avt, Instr, MadeName, Site};
 use xt_ask::{World, copy_place};
-use xt_frames::{Body, Came, Frame, Next, Run, Standing, lack, sink};
+use xt_frames::{Body, Came, Frame, Next, Run, Standing, lack, push, sink};
 use xt_names::Expanded;
 use xt_run::Wrapping;
 use xt_text::Memory;
@@ -40,6 +41,17 @@ pub(crate) fn collect(
     let here = body.here.share()?;
     let rest = Frame::Body(advanced(body));
     sink(alloc, run, rest, end, &site.place, content, here)
+}
+
+/// Begins a sink that ends so, before the rest of the body.
+pub(crate) fn begin(alloc: Global, run: &mut Run, end: Wrapping, body: Body) -> Result<(), Memory>
+    requires { body.next < usize.MAX }
+    ensures { OnOk result (HasBegun end body run.old run.new) }
+{
+    push(run, Frame::Body(advanced(body)))?;
+    push(run, Frame::Wrap(end))?;
+    run.going.begin(alloc)?;
+    Ok(())
 }
 
 /// xsl:element (XSLT 1.0, section 7.1.2).

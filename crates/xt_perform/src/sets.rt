@@ -13,11 +13,10 @@ ghost use Rattle.xt_run.specs.View.{call_of, wrapping_of};
 ghost use Rattle.xt_frames.specs.declared.frame.Frame.TheVariants as Frame;
 ghost use Rattle.xt_frames.specs.View.{here_of, inside, after_body};
 ghost use Rattle.xt_frames.specs.Left.{left_in, Does, StepsFrom};
-ghost use Rattle.xt_perform.specs.Over.{IsOver};
+ghost use Rattle.xt_perform.specs.Over.{IsOver, Precedes};
 
 use crate::control::ruling_at;
-use crate::making::collect;
-use crate::simple::advanced;
+use crate::making::{begin, collect};
 use std::alloc::Global;
 use std::rc::Rc;
 use xp_syntax::{Instr, Site};
@@ -90,18 +89,47 @@ pub(crate) fn collect_with_sets(
         return collect(alloc, run, site, end, content, body);
     }
     let here = body.here.share()?;
-    run.going.begin(alloc)?;
-    push(run, Frame::Body(advanced(body)))?;
-    push(run, Frame::Wrap(end))?;
-    let used = used_sets(alloc, &site.place, sets.as_slice(), &here)?;
-    let inner = Inside {
-        place: copy_place(alloc, &site.place)?,
-        content: share_content(content)?,
-        here,
-    };
+    begin(alloc, run, end, body)?;
+    put_inside(alloc, run, site, sets.as_slice(), content, here)?;
+    Ok(Next::Went)
+}
+
+/// Puts a content of an element on top, and over it the attribute sets of these names, which the element uses.
+fn put_inside(
+    alloc: Global,
+    run: &mut Run,
+    site: &Site,
+    names: &[Expanded],
+    content: &Rc<Vec<Instr>>,
+    here: Standing,
+) -> Result<(), Memory>
+    ensures { OnOk result (Precedes (λ p. contents.sets_used (site_of site.now).place (here_of here) names.now (inside (site_of site.now).place (instrs (map instr_of content.now.value.items)) (here_of here) p)) 2 run.old run.new) }
+{
+    let inner = inside_of(alloc, site, content, here)?;
+    let used = used_sets(alloc, &site.place, names, &inner.here)?;
     push(run, Frame::Inside(inner))?;
     push_sets(run, used)?;
-    Ok(Next::Went)
+    Ok(())
+}
+
+/// All of a content of the element at this site, which stands here.
+fn inside_of(
+    alloc: Global,
+    site: &Site,
+    content: &Rc<Vec<Instr>>,
+    here: Standing,
+) -> Result<Inside, Memory>
+    ensures place { IfOk result (λ i. place_of i.place ≡ (site_of site.now).place) }
+    ensures content { IfOk result (λ i. i.content.value ≡ content.now.value) }
+    ensures here { IfOk result (λ i. i.here ≡ here) }
+{
+    let content = share_content(content)?;
+    let place = copy_place(alloc, &site.place)?;
+    Ok(Inside {
+        place,
+        content,
+        here,
+    })
 }
 
 /// Puts attribute sets on top, unless there are none.
@@ -144,6 +172,7 @@ fn call_of_set(
     ensures { IfOk result (λ c. call_of c ≡ contents.set_call (place_of place.now) (here_of here.now) element) }
 {
     let focus = here.focus;
+    let by = copy_place(alloc, place)?;
     Ok(Call {
         target: Target::Unit(element),
         node: focus.node,
@@ -151,7 +180,7 @@ fn call_of_set(
         position: focus.position,
         size: focus.size,
         ruling: ruling_at(here),
-        by: copy_place(alloc, place)?,
+        by,
     })
 }
 

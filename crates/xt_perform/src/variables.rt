@@ -42,9 +42,9 @@ pub(crate) fn variable<W: World>(
     ensures truth { (W.state world.new).truth ≡ (W.state world.old).truth }
     ensures name { W.name world.new ≡ W.name world.old }
 {
-    let here = body.here.share()?;
-    let shared = share_body(&body)?;
     let name = copy_name(alloc, name)?;
+    let shared = share_body(&body)?;
+    let here = body.here.share()?;
     let holder = Holder::Variable(name, advanced(shared));
     let back = Frame::Body(body);
     hold(

@@ -1,13 +1,12 @@
-use Rattle.std.proofs.Common.{◌≡◌, ◌<◌, ◌+◌, refl, ap, length, get_or, drop, map, arith, subst, ◌∙◌}
+use Rattle.std.proofs.Common.{◌≡◌, ◌<◌, ◌+◌, refl, ap, length, get_or, drop, map, Vec, Global, arith, ◌∙◌}
 use Rattle.spec_stylesheet.specs.Instruction.{branches}
-use Rattle.spec_run.specs.Content.{Here}
+use Rattle.xp_syntax.specs.declared.instr.Branch.{Branch}
 use Rattle.xp_syntax.specs.InstrView.{branch_of}
-use Rattle.xt_tree.specs.declared.node_ref.NodeRef.{NodeRef}
 use Rattle.xt_frames.specs.declared.frame.Frame.TheVariants as frames
-use Rattle.xt_frames.specs.View.{here_of, inside}
-use Rattle.xt_frames.specs.Left.{left_in, Does}
+use Rattle.xt_frames.specs.View.{here_of}
+use Rattle.xt_frames.specs.Left.{left_in}
 use Rattle.xt_frames.proofs.Lefts.{if_ok, if_both}
-use Rattle.xt_perform.proofs.Chosen.{looked_start, looked_more, looked_into, looked_halts, looked_lacks, looked_end, found_for, needs_at}
+use Rattle.xt_perform.proofs.Chosen.{branches_from, looked_start, looked_more, looked_into, looked_halts, looked_lacks, looked_end, found_for, needs_at}
 use Rattle.xt_perform.proofs.Views.{place_in}
 use Rattle.xt_perform.proofs.choose.choose_from.Goals as goal
 
@@ -26,11 +25,11 @@ loop-next-preserved g c =
     let new = c.is_taken.new.run in
     let inv = c.loop-next.invariant in
     let x = c.index-list-next.result in
-    let list : c.as_slice-list.result.now ≡ bs = rw (c.deref.ensures, c.in_ok-shared.ensures) at c.as_slice-list.ensures.value in
+    let list : c.as_slice-list.result.now ≡ bs = rw c.deref.ensures at c.as_slice-list.ensures.value in
     let n = ap length list in
     let lt : i < length bs = omega arith in
     let is_x : x ≡ get_or bs i x = rw list at c.index-list-next.is in
-    let found = found_for truth x (branches (map branch_of (drop (i + 1) bs))) first now new (here_of c.in_ok-here.here) h _ inv.truth c.in_ok-here.ensures.here c.in_ok-yes.ensures.found in
+    let found = found_for truth x (branches (map branch_of (drop (i + 1) bs))) first now new h h _ inv.truth refl c.in_ok-yes.ensures.found in
     let still = c.is_taken.ensures.still in
     record {
       looked = looked_more truth bs b.next i h first now new x inv.looked lt is_x (rw (c.in-Is.is, c.if-yes.false) at found) still;
@@ -50,15 +49,14 @@ returns-then-yes-clause-does g c =
     let new = c.is_taken.new.run in
     let inv = c.loop-next.invariant in
     let x = c.index-list-next.result in
-    let list : c.as_slice-list.result.now ≡ bs = rw (c.deref.ensures, c.in_ok-shared.ensures) at c.as_slice-list.ensures.value in
+    let list : c.as_slice-list.result.now ≡ bs = rw c.deref.ensures at c.as_slice-list.ensures.value in
     let n = ap length list in
     let lt : i < length bs = omega arith in
     let is_x : x ≡ get_or bs i x = rw list at c.index-list-next.is in
-    let found = found_for truth x (branches (map branch_of (drop (i + 1) bs))) first now new (here_of c.in_ok-here.here) h _ inv.truth c.in_ok-here.ensures.here c.in_ok-yes.ensures.found in
+    let found = found_for truth x (branches (map branch_of (drop (i + 1) bs))) first now new h h _ inv.truth refl c.in_ok-yes.ensures.found in
     let still = c.is_taken.ensures.still in
     if_ok c.go_into_branch.result c.go_into_branch.ensures (λ next d.
-    let P : Here NodeRef → Type 0 = λ y. Does truth (inside (branch_of x).site.place (branch_of x).content y (left_in new)) (length new.frames.items) new c.go_into_branch.new.run next in
-    looked_into truth bs b.next i h first now new c.go_into_branch.new.run x next inv.looked lt is_x (rw (c.in-Is.is, c.if-yes.true) at found) still (subst P c.in_ok-here.ensures.here (d truth)))
+    looked_into truth bs b.next i h first now new c.go_into_branch.new.run x next inv.looked lt is_x (rw (c.in-Is.is, c.if-yes.true) at found) still (d truth))
 
 pub returns-in-Halts-clause-does : goal.returns-in-Halts-clause-does
 returns-in-Halts-clause-does g c =
@@ -72,11 +70,11 @@ returns-in-Halts-clause-does g c =
     let new = c.is_taken.new.run in
     let inv = c.loop-next.invariant in
     let x = c.index-list-next.result in
-    let list : c.as_slice-list.result.now ≡ bs = rw (c.deref.ensures, c.in_ok-shared.ensures) at c.as_slice-list.ensures.value in
+    let list : c.as_slice-list.result.now ≡ bs = rw c.deref.ensures at c.as_slice-list.ensures.value in
     let n = ap length list in
     let lt : i < length bs = omega arith in
     let is_x : x ≡ get_or bs i x = rw list at c.index-list-next.is in
-    let found = found_for truth x (branches (map branch_of (drop (i + 1) bs))) first now new (here_of c.in_ok-here.here) h _ inv.truth c.in_ok-here.ensures.here c.in_ok-yes.ensures.found in
+    let found = found_for truth x (branches (map branch_of (drop (i + 1) bs))) first now new h h _ inv.truth refl c.in_ok-yes.ensures.found in
     let still = c.is_taken.ensures.still in
     looked_halts truth bs b.next i h first now new x c.in-Halts.why inv.looked lt is_x (rw c.in-Halts.is at found) still
 
@@ -92,20 +90,22 @@ returns-in-Lacks-clause-does g c =
     let new = c.is_taken.new.run in
     let inv = c.loop-next.invariant in
     let x = c.index-list-next.result in
-    let list : c.as_slice-list.result.now ≡ bs = rw (c.deref.ensures, c.in_ok-shared.ensures) at c.as_slice-list.ensures.value in
+    let list : c.as_slice-list.result.now ≡ bs = rw c.deref.ensures at c.as_slice-list.ensures.value in
     let n = ap length list in
     let lt : i < length bs = omega arith in
     let is_x : x ≡ get_or bs i x = rw list at c.index-list-next.is in
-    let found = found_for truth x (branches (map branch_of (drop (i + 1) bs))) first now new (here_of c.in_ok-here.here) h _ inv.truth c.in_ok-here.ensures.here c.in_ok-yes.ensures.found in
+    let found = found_for truth x (branches (map branch_of (drop (i + 1) bs))) first now new h h _ inv.truth refl c.in_ok-yes.ensures.found in
     let still = c.is_taken.ensures.still in
+    let shared = c.in_ok-share_branches-in-Lacks.field-0 in
+    let same : branches_from shared.value.items i h (left_in new) ≡ branches_from bs i h (left_in new) = ap (λ (v : Vec Branch Global). branches_from v.items i h (left_in new)) c.in_ok-share_branches-in-Lacks.ensures in
     if_both c.leave.result c.leave.ensures.needs c.leave.ensures.pushed (λ next e back.
-    looked_lacks truth bs b.next i h first now new c.leave.new.run x (frames.Branches (record { branches = b.branches; next = i; here = b.here })) c.in-Lacks.name next inv.looked lt is_x (rw c.in-Lacks.is at found) still (needs_at (place_in x) e) back refl)
+    looked_lacks truth bs b.next i h first now new c.leave.new.run x (frames.Branches (record { branches = shared; next = i; here = b.here })) c.in-Lacks.name next inv.looked lt is_x (rw c.in-Lacks.is at found) still (needs_at (place_in x) e) back same)
 
 pub returns-clause-does : goal.returns-clause-does
 returns-clause-does g c =
     let b = c.args.branches in
     let bs = b.branches.value.items in
-    let list : c.as_slice-list.result.now ≡ bs = rw (c.deref.ensures, c.in_ok-shared.ensures) at c.as_slice-list.ensures.value in
+    let list : c.as_slice-list.result.now ≡ bs = rw c.deref.ensures at c.as_slice-list.ensures.value in
     let n = ap length list in
     looked_end (g.W.World.state c.args.world.now).truth bs b.next c.loop-next.next (here_of b.here) c.args.run.now c.loop-next.run c.loop-next.invariant.looked (omega arith)
 

@@ -7,7 +7,7 @@ use Rattle.xt_perform.proofs.choose.choose_from.Given as goal
 abbrev pub invariant-loop-next : goal.invariant-loop-next
 invariant-loop-next g l =
     record {
-      looked : Looked (g.W.World.state l.fn.world).truth l.branches.branches.value.items l.branches.next l.next (here_of l.branches.here) l.fn.run l.run;
+      looked : Looked (g.W.World.state l.fn.world).truth l.fn.branches.branches.value.items l.fn.branches.next l.next (here_of l.fn.branches.here) l.fn.run l.run;
       truth : (g.W.World.state l.world).truth ≡ (g.W.World.state l.fn.world).truth;
       name : g.W.World.name l.world ≡ g.W.World.name l.fn.world;
     }

@@ -22,6 +22,6 @@ returns-clause-does g c =
     let b = c.args.body in
     let mid : Run = record { room = r.room; supplies = r.supplies; waiting = r.waiting; frames = r.frames; going = c.ask.new.self } in
     let then_as : Answer NodeRef → Plan NodeRef = λ a. copied_as (place_of c.args.site.now.place) (here_of b.here) c.args.sets.now.items a (inside (place_of c.args.site.now.place) (instrs (map instr_of c.args.content.now.value.items)) (here_of b.here)) (after_body b (left_in r)) in
-    if_ok c.copy_as.result c.copy_as.ensures.does (λ next h.
-    let P : Answer NodeRef → Type 0 = λ a. Does truth (then_as a) (suc (length r.frames.items)) mid c.copy_as.new.run next in
-    inquired truth (Name b.here.focus.node) then_as _ r mid c.copy_as.new.run next c.in_ok-answer.ensures.noted refl refl (subst P c.in_ok-answer.ensures.answer (comes_in c.ask.ensures.truth h)))
+    if_ok c.copy_as-next.result c.copy_as-next.ensures.does (λ next h.
+    let P : Answer NodeRef → Type 0 = λ a. Does truth (then_as a) (suc (length r.frames.items)) mid c.copy_as-next.new.run next in
+    inquired truth (Name b.here.focus.node) then_as _ r mid c.copy_as-next.new.run next c.in_ok-answer.ensures.noted refl refl (subst P c.in_ok-answer.ensures.answer (comes_in c.ask.ensures.truth h)))

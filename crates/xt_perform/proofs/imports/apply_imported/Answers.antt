@@ -7,7 +7,6 @@ use Rattle.xt_tree.specs.declared.node_ref.NodeRef.{NodeRef}
 use Rattle.xt_frames.specs.declared.run.Run.{Run}
 use Rattle.xt_frames.specs.View.{here_of, after_body}
 use Rattle.xt_frames.specs.Left.{left_in}
-use Rattle.xt_frames.proofs.Items.{view-Empty}
 use Rattle.xt_frames.proofs.Lefts.{if_ok}
 use Rattle.xt_frames.proofs.Performs.{inquired}
 use Rattle.xt_perform.proofs.imports.apply_imported.Goals as goal
@@ -18,8 +17,8 @@ returns-clause-does g c =
     let r = c.args.run.now in
     let b = c.args.body in
     let rule = c.args.rule in
-    let mid : Run = record { room = r.room; supplies = r.supplies; waiting = r.waiting; frames = r.frames; going = c.ask.new.self } in
+    let mid : Run = record { room = r.room; supplies = r.supplies; waiting = r.waiting; frames = r.frames; going = c.imported.new.going } in
     let entered : Answer NodeRef → Plan NodeRef = λ a. Enter (imported_call (site_of c.args.site.now) (here_of b.here) rule.mode a) b.here.depth (after_body b (left_in r)) in
     if_ok c.want.result c.want.ensures (λ next h.
-    inquired truth (Choice b.here.focus.node rule.mode (Imported rule.first rule.last)) entered _ r mid c.want.new.run next (rw c.in_ok-mode.ensures at c.in_ok-answer.ensures.noted) refl refl
-    (rw (c.in_ok-call.ensures, c.into_rule-chosen.ensures, c.in_ok-answer.ensures.answer, c.in_ok-mode.ensures, c.advanced.ensures, view-Empty) at h truth))
+    inquired truth (Choice b.here.focus.node rule.mode (Imported rule.first rule.last)) entered _ r mid c.want.new.run next c.in_ok-call.ensures.going refl refl
+    (rw (c.in_ok-call.ensures.call, c.advanced.ensures) at h truth))
