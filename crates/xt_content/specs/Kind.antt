@@ -92,8 +92,20 @@ an_element = container.Element
 abbrev pub a_variable : Container
 a_variable = container.Variable
 
+abbrev pub a_for_each : Director
+a_for_each = director.ForEach
+
+abbrev pub an_if : Director
+an_if = director.If
+
+abbrev pub a_choose : Director
+a_choose = director.Choose
+
 abbrev pub an_apply_templates : Director
 an_apply_templates = director.ApplyTemplates
+
+abbrev pub a_call_template : Director
+a_call_template = director.CallTemplate
 
 -- what instructions are to the element that holds them
 abbrev pub instruction : Site → Form → spec.Child

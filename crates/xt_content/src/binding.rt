@@ -61,9 +61,9 @@ pub(crate) fn sort_key_of(
 ) -> Result<SortKey, Memory>
     ensures { IfOk result (λ k. sort_key_of k ≡ spec.sort_key (site_of site) (entries_in entries.old)) }
 {
-    let select = expr_at(alloc, entries, "select")?;
     let data_type = avt_at(alloc, entries, "data-type", "text")?;
     let order = avt_at(alloc, entries, "order", "ascending")?;
+    let select = expr_at(alloc, entries, "select")?;
     Ok(SortKey {
         site,
         select,

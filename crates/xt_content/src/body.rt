@@ -8,7 +8,7 @@ ghost use Rattle.xt_content.specs.Sibling.{alone};
 ghost use Rattle.xt_content.specs.View.{IsAnswer, around_in, below_in, child_if, child_in, visit_in};
 ghost use Rattle.xt_content.specs.Visit as visits;
 ghost use Rattle.xt_sheet.specs.View.{in_force, role_in};
-ghost use Rattle.xt_tree.specs.View.{forest_of, tree_of};
+ghost use Rattle.xt_tree.specs.View.{forest_of, tree_of, written_of};
 
 use crate::around::{Around, around_of, site_of};
 use crate::child::{Below, Child, One};
@@ -23,7 +23,7 @@ use xt_sheet::{
     Inside, Role, after_other, after_role, below, inside_of, is_white, role_of, takes_literals,
 };
 use xt_text::{Memory, Path, Text};
-use xt_tree::{Content, Node};
+use xt_tree::{Content, Node, Written};
 
 /// What one node is to the element that holds it, and what may stand after it.
 #[derive(Drop)]
@@ -121,8 +121,8 @@ fn text_instruction(
 ) -> Result<Child, Memory>
     ensures { IfOk result (λ child. child_in child ≡ visits.text_instruction (around_in around.now) path.now text.now) }
 {
-    let site = site_of(alloc, around, path)?;
     let text = text.copy(alloc)?;
+    let site = site_of(alloc, around, path)?;
     let form = Form::WithoutContent(WithoutContent::Text(text));
     Ok(instruction(site, form))
 }
@@ -212,20 +212,40 @@ fn visit(
         Content::Element { name, attributes } => {
             let inner = around_of(alloc, around, name, attributes.as_slice())?;
             let here = below(alloc, path, position)?;
-            let next = next_kind(kind, &inner.inside, name);
-            let met = meet(alloc, &inner, &here, name, attributes.as_slice())?;
-            match content_by(&met) {
-                None => Ok(visit_nothing(next)),
-                Some(kind) => {
-                    let found = children_among(alloc, &inner, kind, &here, node.children())?;
-                    let one = element_of(alloc, &inner, &here, met, node.children(), found)?;
-                    Ok(Visited { one, next })
-                }
-            }
+            let written = attributes.as_slice();
+            visit_element(alloc, &inner, kind, &here, name, written, node.children())
         }
         Content::Text { text } => Ok(visit_text(alloc, around, kind, path, text, later)?),
         Content::Comment { .. } => Ok(visit_nothing(kind)),
         Content::Instruction { .. } => Ok(visit_nothing(kind)),
+    }
+}
+
+// What the element of this name and these attributes at this path is, with these nodes in it, where `inner` is in force.
+#[cycle(children_among)]
+fn visit_element(
+    alloc: Global,
+    inner: &Around,
+    kind: ContentKind,
+    here: &Path,
+    name: &Text,
+    attributes: &[Written],
+    nodes: &[Rc<Node>],
+) -> Result<Visited, ContentFault>
+    ensures { IsAnswer visit_in (visits.element_visited (around_in inner.now) kind here.now name.now (map written_of attributes.now) (forest_of nodes.now) (scopes.role_of (in_force inner.now.inside) name.now)) result }
+{
+    let next = next_kind(kind, &inner.inside, name);
+    let met = meet(alloc, inner, here, name, attributes)?;
+    match content_by(&met) {
+        None => {
+            drop(met);
+            Ok(visit_nothing(next))
+        }
+        Some(kind) => {
+            let found = children_among(alloc, inner, kind, here, nodes)?;
+            let one = element_of(alloc, inner, here, met, nodes, found)?;
+            Ok(Visited { one, next })
+        }
     }
 }
 

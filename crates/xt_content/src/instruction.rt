@@ -1,5 +1,5 @@
 // Instructions, by their attributes and their children.
-ghost use Rattle.std.specs.Prelude.{◌≡◌, IfOk};
+ghost use Rattle.std.specs.Prelude.{◌≡◌, [], IfOk};
 ghost use Rattle.spec_compile.specs.Content as spec;
 ghost use Rattle.xp_syntax.specs.InstrView as trees;
 ghost use Rattle.xp_syntax.specs.PartView.{made_name_of, site_of, with_content_of, without_content_of};
@@ -89,15 +89,47 @@ fn container(alloc: Global, kind: Container, entries: &mut Entries) -> Result<Wi
 
 // ---- Instructions that say whether, how often or which contents run
 
+fn for_each(alloc: Global, entries: &mut Entries, parts: Parts) -> Result<Control, Memory>
+    ensures { IfOk result (λ c. trees.control_of c ≡ kinds.director_of kinds.a_for_each (entries_in entries.old) (parts_in parts)) }
+{
+    let keys = Rc::new(alloc, parts.sort_keys)?;
+    let content = Rc::new(alloc, parts.content)?;
+    let select = expr_at(alloc, entries, "select")?;
+    Ok(Control::ForEach(select, keys, content))
+}
+
+fn conditional(alloc: Global, entries: &mut Entries, parts: Parts) -> Result<Control, Memory>
+    ensures { IfOk result (λ c. trees.control_of c ≡ kinds.director_of kinds.an_if (entries_in entries.old) (parts_in parts)) }
+{
+    let content = Rc::new(alloc, parts.content)?;
+    let test = expr_at(alloc, entries, "test")?;
+    Ok(Control::If(test, content))
+}
+
+fn choose(alloc: Global, parts: Parts) -> Result<Control, Memory>
+    ensures { IfOk result (λ c. trees.control_of c ≡ kinds.director_of kinds.a_choose [] (parts_in parts)) }
+{
+    let branches = Rc::new(alloc, parts.branches)?;
+    Ok(Control::Choose(branches))
+}
+
 fn apply_templates(alloc: Global, entries: &mut Entries, parts: Parts) -> Result<Control, Memory>
     ensures { IfOk result (λ c. trees.control_of c ≡ kinds.director_of kinds.an_apply_templates (entries_in entries.old) (parts_in parts)) }
 {
+    let keys = Rc::new(alloc, parts.sort_keys)?;
+    let parameters = Rc::new(alloc, parts.parameters)?;
     let select = or_children(alloc, take_expr(entries, "select"))?;
     let mode = take_name(entries, "mode");
-    let keys = Rc::new(alloc, parts.sort_keys)?;
     let selection = Selection { select, mode, keys };
-    let parameters = Rc::new(alloc, parts.parameters)?;
     Ok(Control::ApplyTemplates(selection, parameters))
+}
+
+fn call_template(alloc: Global, entries: &mut Entries, parts: Parts) -> Result<Control, Memory>
+    ensures { IfOk result (λ c. trees.control_of c ≡ kinds.director_of kinds.a_call_template (entries_in entries.old) (parts_in parts)) }
+{
+    let parameters = Rc::new(alloc, parts.parameters)?;
+    let name = name_at(alloc, entries, "name");
+    Ok(Control::CallTemplate(name, parameters))
 }
 
 fn director(
@@ -109,24 +141,11 @@ fn director(
     ensures { IfOk result (λ c. trees.control_of c ≡ kinds.director_of kind (entries_in entries.old) (parts_in parts)) }
 {
     match kind {
-        Director::ForEach => {
-            let select = expr_at(alloc, entries, "select")?;
-            let keys = Rc::new(alloc, parts.sort_keys)?;
-            let content = Rc::new(alloc, parts.content)?;
-            Ok(Control::ForEach(select, keys, content))
-        }
-        Director::If => {
-            let test = expr_at(alloc, entries, "test")?;
-            let content = Rc::new(alloc, parts.content)?;
-            Ok(Control::If(test, content))
-        }
-        Director::Choose => Ok(Control::Choose(Rc::new(alloc, parts.branches)?)),
+        Director::ForEach => for_each(alloc, entries, parts),
+        Director::If => conditional(alloc, entries, parts),
+        Director::Choose => choose(alloc, parts),
         Director::ApplyTemplates => apply_templates(alloc, entries, parts),
-        Director::CallTemplate => {
-            let name = name_at(alloc, entries, "name");
-            let parameters = Rc::new(alloc, parts.parameters)?;
-            Ok(Control::CallTemplate(name, parameters))
-        }
+        Director::CallTemplate => call_template(alloc, entries, parts),
     }
 }
 

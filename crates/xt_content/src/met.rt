@@ -162,9 +162,9 @@ fn outlined_language(
 ) -> Result<Outlined, Memory>
     ensures { IfOk result (λ o. outlined_in o ≡ record { site = spec.site_of (around_in around.now) path.now; uses = spec.uses_of element (entries_in entries.now); binds = spec.bound_by element (entries_in entries.now); below = outline_in below }) }
 {
-    let site = site_of(alloc, around, path)?;
     let uses = uses_of(alloc, element, entries)?;
     let binds = bound_by(alloc, element, entries)?;
+    let site = site_of(alloc, around, path)?;
     Ok(Outlined {
         site,
         uses,
@@ -184,8 +184,8 @@ fn language(
 ) -> Result<One, Memory>
     ensures { IfOk result (λ one. one_in one ≡ element_by (around_in around.now) path.now (OfLanguage element (entries_in entries)) (spec.text_among (forest_of nodes.now)) (below_in below)) }
 {
-    let outlined = outlined_language(alloc, around, path, element, &entries, below.outline)?;
     let site = site_of(alloc, around, path)?;
+    let outlined = outlined_language(alloc, around, path, element, &entries, below.outline)?;
     let child = child_of(alloc, element, site, &mut entries, nodes, below.children)?;
     Ok(One {
         child,
@@ -202,8 +202,8 @@ fn outlined_literal(
 ) -> Result<Outlined, Memory>
     ensures { IfOk result (λ o. outlined_in o ≡ record { site = spec.site_of (around_in around.now) path.now; uses = spec.tag_uses (literal_tag_of tag.now); binds = None; below = outline_in below }) }
 {
-    let site = site_of(alloc, around, path)?;
     let uses = tag_uses(alloc, tag)?;
+    let site = site_of(alloc, around, path)?;
     Ok(Outlined {
         site,
         uses,
@@ -221,9 +221,9 @@ fn literal(
 ) -> Result<One, Memory>
     ensures { IfOk result (λ one. one_in one ≡ element_by (around_in around.now) path.now (ALiteral (literal_tag_of tag)) [] (below_in below)) }
 {
-    let outlined = outlined_literal(alloc, around, path, &tag, below.outline)?;
-    let site = site_of(alloc, around, path)?;
     let content = content_in(alloc, below.children)?;
+    let site = site_of(alloc, around, path)?;
+    let outlined = outlined_literal(alloc, around, path, &tag, below.outline)?;
     let form = Form::WithContent(WithContent::Literal(tag), content);
     Ok(One {
         child: Some(instruction(site, form)),

@@ -1,8 +1,8 @@
 use Rattle.std.proofs.Common.{◌+◌, drop, map, sym, ap, ◌∙◌, refl, subst, arith}
-use Rattle.spec_compile.specs.Content.{around_of, children_among, text_among}
+use Rattle.spec_compile.specs.Content.{around_of, children_among}
 use Rattle.spec_structure.specs.Inside.{role_of}
-use Rattle.xt_content.specs.View.{around_in, below_in, met_in, visit_in}
-use Rattle.xt_content.specs.Visit.{element_by, nothing_visited}
+use Rattle.xt_content.specs.View.{around_in, below_in, visit_in}
+use Rattle.xt_content.specs.Visit.{nothing_visited}
 use Rattle.xt_content.proofs.Siblings.{at_element, before_rest, begins, ends, holds, holds_fault, later_is, skips, stops, turn}
 use Rattle.xt_content.proofs.Steps.{Continues, answers_stop, exits, last_turn, next_turn}
 use Rattle.xt_sheet.specs.View.{in_force}
@@ -47,46 +47,31 @@ children_among-returns t c =
     ends around c.loop-i.kind path (c.loop-i.i + 1) (below_in c.loop-i.found) refl
     (last_turn (λ rest. before_rest (children_among around c.loop-i.kind path (c.loop-i.i + 1) (forest_of rest)) (below_in c.loop-i.found)) c.args.siblings.now c.loop-i.i (omega arith) c.loop-i.invariant)
 
-pub visit-returns-in_err-met-in-Element : goal.visit-returns-in_err-met-in-Element
-visit-returns-in_err-met-in-Element t c =
-    exits _ c.from_residual-in_err-met-in-Element.ensures.1
-    (at_element (around_in c.args.around.now) c.args.kind c.args.path.now c.args.position (forest_of c.args.later.now) (tree_of c.args.node.now).content (tree_of c.args.node.now).children (tree_of c.args.node.now).children
-    (around_in c.in_ok-inner-in-Element.inner) c.in_ok-here-in-Element.here c.in-Element.name (map written_of c.in-Element.attributes.items)
-    (ap nodes.content_of (sym c.in-Element.is) ∙ c.content.ensures)
-    (c.in_ok-inner-in-Element.ensures ∙ ap (λ a. around_of (around_in c.args.around.now) c.in-Element.name (map written_of a)) c.as_slice.ensures.value)
-    c.in_ok-here-in-Element.ensures refl
-    (answers_stop _ (rw c.as_slice-in-Element.ensures.value at c.in_err-met-in-Element.ensures)))
-
-pub visit-returns-in-None : goal.visit-returns-in-None
-visit-returns-in-None t c =
-    at_element (around_in c.args.around.now) c.args.kind c.args.path.now c.args.position (forest_of c.args.later.now) (tree_of c.args.node.now).content (tree_of c.args.node.now).children (tree_of c.args.node.now).children
-    (around_in c.in_ok-inner-in-Element.inner) c.in_ok-here-in-Element.here c.in-Element.name (map written_of c.in-Element.attributes.items)
-    (ap nodes.content_of (sym c.in-Element.is) ∙ c.content.ensures)
-    (c.in_ok-inner-in-Element.ensures ∙ ap (λ a. around_of (around_in c.args.around.now) c.in-Element.name (map written_of a)) c.as_slice.ensures.value)
-    c.in_ok-here-in-Element.ensures refl
-    (skips (around_in c.in_ok-inner-in-Element.inner) c.args.kind c.in_ok-here-in-Element.here c.in-Element.name (map written_of c.in-Element.attributes.items) (tree_of c.args.node.now).children (role_of (in_force c.in_ok-inner-in-Element.inner.inside) c.in-Element.name) (sym c.in-None.is ∙ c.content_by.ensures) (rw c.as_slice-in-Element.ensures.value at c.in_ok-met-in-Element.ensures)
-    (c.visit_nothing.ensures ∙ ap nothing_visited c.next_kind-next.ensures))
-
-pub visit-returns-in_err-found-in-Some : goal.visit-returns-in_err-found-in-Some
-visit-returns-in_err-found-in-Some t c =
-    exits _ c.from_residual-in_err-found-in-Some.ensures.1
-    (at_element (around_in c.args.around.now) c.args.kind c.args.path.now c.args.position (forest_of c.args.later.now) (tree_of c.args.node.now).content (tree_of c.args.node.now).children (forest_of c.children.result.now)
-    (around_in c.in_ok-inner-in-Element.inner) c.in_ok-here-in-Element.here c.in-Element.name (map written_of c.in-Element.attributes.items)
-    (ap nodes.content_of (sym c.in-Element.is) ∙ c.content.ensures)
-    (c.in_ok-inner-in-Element.ensures ∙ ap (λ a. around_of (around_in c.args.around.now) c.in-Element.name (map written_of a)) c.as_slice.ensures.value)
-    c.in_ok-here-in-Element.ensures c.children.ensures.forest
-    (holds_fault (around_in c.in_ok-inner-in-Element.inner) c.args.kind c.in_ok-here-in-Element.here c.in-Element.name (map written_of c.in-Element.attributes.items) (forest_of c.children.result.now) (role_of (in_force c.in_ok-inner-in-Element.inner.inside) c.in-Element.name) (sym c.in-Some.is ∙ c.content_by.ensures) (rw c.as_slice-in-Element.ensures.value at c.in_ok-met-in-Element.ensures) c.in_err-found-in-Some.ensures))
-
-pub visit-returns-in-Element : goal.visit-returns-in-Element
-visit-returns-in-Element t c =
+pub visit-returns-in_ok-here-in-Element : goal.visit-returns-in_ok-here-in-Element
+visit-returns-in_ok-here-in-Element t c =
     at_element (around_in c.args.around.now) c.args.kind c.args.path.now c.args.position (forest_of c.args.later.now) (tree_of c.args.node.now).content (tree_of c.args.node.now).children (forest_of c.children.result.now)
     (around_in c.in_ok-inner-in-Element.inner) c.in_ok-here-in-Element.here c.in-Element.name (map written_of c.in-Element.attributes.items)
     (ap nodes.content_of (sym c.in-Element.is) ∙ c.content.ensures)
     (c.in_ok-inner-in-Element.ensures ∙ ap (λ a. around_of (around_in c.args.around.now) c.in-Element.name (map written_of a)) c.as_slice.ensures.value)
     c.in_ok-here-in-Element.ensures c.children.ensures.forest
-    (holds (around_in c.in_ok-inner-in-Element.inner) c.args.kind c.in_ok-here-in-Element.here c.in-Element.name (map written_of c.in-Element.attributes.items) (forest_of c.children.result.now) (role_of (in_force c.in_ok-inner-in-Element.inner.inside) c.in-Element.name) (sym c.in-Some.is ∙ c.content_by.ensures) (rw c.as_slice-in-Element.ensures.value at c.in_ok-met-in-Element.ensures) c.in_ok-found-in-Some.ensures
-    (λ i. record {
-      below = (c.in_ok-one-in-Some.ensures ∙ ap (λ f. element_by (around_in c.in_ok-inner-in-Element.inner) c.in_ok-here-in-Element.here (met_in c.in_ok-met-in-Element.met) (text_among f) (below_in c.in_ok-found-in-Some.found))
-          (c.children-in-Some.ensures.forest ∙ sym c.children.ensures.forest)) i;
-      next = c.next_kind-next.ensures i;
-    }))
+    (rw c.as_slice-written.ensures.value at c.visit_element.ensures)
+
+pub visit_element-returns-in_err-met : goal.visit_element-returns-in_err-met
+visit_element-returns-in_err-met t c = exits _ c.from_residual.ensures.1 (answers_stop _ c.in_err-met.ensures)
+
+pub visit_element-returns-in-None : goal.visit_element-returns-in-None
+visit_element-returns-in-None t c =
+    skips (around_in c.args.inner.now) c.args.kind c.args.here.now c.args.name.now (map written_of c.args.attributes.now) (forest_of c.args.nodes.now) (role_of (in_force c.args.inner.now.inside) c.args.name.now)
+    (sym c.in-None.is ∙ c.content_by.ensures) c.in_ok-met.ensures (c.visit_nothing.ensures ∙ ap nothing_visited c.next_kind-next.ensures)
+
+pub visit_element-returns-in_err-found-in-Some : goal.visit_element-returns-in_err-found-in-Some
+visit_element-returns-in_err-found-in-Some t c =
+    exits _ c.from_residual-in_err-found-in-Some.ensures.1
+    (holds_fault (around_in c.args.inner.now) c.args.kind c.args.here.now c.args.name.now (map written_of c.args.attributes.now) (forest_of c.args.nodes.now) (role_of (in_force c.args.inner.now.inside) c.args.name.now)
+    (sym c.in-Some.is ∙ c.content_by.ensures) c.in_ok-met.ensures c.in_err-found-in-Some.ensures)
+
+pub visit_element-returns-in_ok-one-in-Some : goal.visit_element-returns-in_ok-one-in-Some
+visit_element-returns-in_ok-one-in-Some t c =
+    holds (around_in c.args.inner.now) c.args.kind c.args.here.now c.args.name.now (map written_of c.args.attributes.now) (forest_of c.args.nodes.now) (role_of (in_force c.args.inner.now.inside) c.args.name.now)
+    (sym c.in-Some.is ∙ c.content_by.ensures) c.in_ok-met.ensures c.in_ok-found-in-Some.ensures
+    (λ i. record { below = c.in_ok-one-in-Some.ensures i; next = c.next_kind-next.ensures i })
