@@ -24,8 +24,13 @@ pub record IsTold (tops : Tops) (told : spec.Tops) : Type 0 where
 abbrev pub itself_at : Tops → Site → AttributeSet → List Violation
 itself_at tops site s = if_so (is_named (reached_by (used_in tops.graph) tops.rounds s.sets) s.name) code.BadAttributeSet site
 
+-- at an element at the top and below it, where these are in scope
+abbrev pub top_with : Tops → List Expanded → TopLevel → List Violation
+top_with tops locals t =
+    uses_at tops.known locals t.site t.uses ++ flat_map (itself_at tops t.site) (set_in t.declaration) ++ outline_at tops.known locals t.outline
+
 abbrev pub top_at : Tops → TopLevel → List Violation
-top_at tops t = uses_at tops.known [] t.site t.uses ++ flat_map (itself_at tops t.site) (set_in t.declaration) ++ outline_at tops.known [] t.outline
+top_at tops t = top_with tops [] t
 
 abbrev pub doubles_at : Earlier → spec.Ranked → List Violation
 doubles_at earlier r =

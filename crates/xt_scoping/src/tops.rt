@@ -5,7 +5,7 @@ ghost use Rattle.spec_compile.specs.Scoping as spec;
 ghost use Rattle.spec_compile.specs.Scoping.{set_in};
 ghost use Rattle.xp_syntax.specs.PartView.{site_of};
 ghost use Rattle.xt_units.specs.View.{declaration_in, top_level_in};
-ghost use Rattle.xt_scoping.specs.Told.{IsTold, itself_at, top_at};
+ghost use Rattle.xt_scoping.specs.Told.{IsTold, itself_at, top_at, top_with};
 ghost use Rattle.xt_scoping.specs.View.{found_in, ranked_in};
 
 use crate::graph::{Graph, graph_of, sets_of};
@@ -34,10 +34,10 @@ pub(crate) struct Tops<'a> {
 pub(crate) fn tops_of<'a>(alloc: Global, ranked: &'a [Ranked]) -> Result<Tops<'a>, Memory>
     ensures { IfOk result (λ tops. IsTold tops (spec.tops_of (map ranked_in ranked.now))) }
 {
-    let known = known_of(alloc, ranked)?;
     let sets = sets_of(alloc, ranked)?;
-    let graph = graph_of(alloc, sets.as_slice())?;
     let rounds = sets.len();
+    let graph = graph_of(alloc, sets.as_slice())?;
+    let known = known_of(alloc, ranked)?;
     Ok(Tops {
         known,
         graph,
@@ -55,17 +55,30 @@ pub(crate) fn report_top_level<'a>(
     ensures { OnOk result (found_in found.new.items ≡ found_in found.old.items ++ top_at tops.now (top_level_in top_level.now)) }
 {
     let mut locals = Names::new(alloc);
+    report_below(alloc, tops, &mut locals, top_level, found)
+}
+
+// The same where these local variables are in scope.
+fn report_below<'a>(
+    alloc: Global,
+    tops: &Tops<'a>,
+    locals: &mut Names<'a>,
+    top_level: &'a TopLevel,
+    found: &mut Vec<Violation>,
+) -> Result<(), Memory>
+    ensures { OnOk result (found_in found.new.items ≡ found_in found.old.items ++ top_with tops.now locals.old (top_level_in top_level.now)) }
+{
     report_uses(
         alloc,
         &tops.known,
-        &locals,
+        locals,
         &top_level.site,
         &top_level.uses,
         found,
     )?;
     report_itself(alloc, tops, &top_level.declaration, &top_level.site, found)?;
     let below = top_level.outline.elements.as_slice();
-    report_siblings(alloc, &tops.known, &mut locals, below, found)?;
+    report_siblings(alloc, &tops.known, locals, below, found)?;
     Ok(())
 }
 

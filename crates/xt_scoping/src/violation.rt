@@ -1,11 +1,12 @@
 // The violations of a stylesheet.
-ghost use Rattle.std.specs.Prelude.{◌≡◌, IfOk, map};
+ghost use Rattle.std.specs.Prelude.{◌≡◌, [], IfOk, map};
 ghost use Rattle.spec_compile.specs.Scoping as spec;
+ghost use Rattle.xt_scoping.specs.Told.{IsTold};
 ghost use Rattle.xt_scoping.specs.View.{ranked_in, violation_in};
 
 use crate::declared::Declared;
 use crate::doubles::Earlier;
-use crate::tops::{report_top_level, tops_of};
+use crate::tops::{Tops, report_top_level, tops_of};
 use spec_expression::StaticCode;
 use std::alloc::Global;
 use xt_base::Place;
@@ -43,10 +44,25 @@ pub fn violations_of(alloc: Global, ranked: &[Ranked]) -> Result<Vec<Violation>,
         globals: Declared::new(alloc),
         templates: Declared::new(alloc),
     };
+    violations_with(alloc, ranked, &tops, &mut earlier)
+}
+
+// The same where this is declared at the top, and nothing before the first of these elements.
+fn violations_with<'a>(
+    alloc: Global,
+    ranked: &'a [Ranked],
+    tops: &Tops<'a>,
+    earlier: &mut Earlier<'a>,
+) -> Result<Vec<Violation>, Memory>
+    requires told { IsTold tops.now (spec.tops_of (map ranked_in ranked.now)) }
+    requires globals { earlier.now.globals ≡ [] }
+    requires templates { earlier.now.templates ≡ [] }
+    ensures { IfOk result (λ vs. map violation_in vs.items ≡ spec.violations_of (map ranked_in ranked.now)) }
+{
     let mut found = Vec::new(alloc);
     for element in ranked {
         earlier.declare(alloc, element, &mut found)?;
-        report_top_level(alloc, &tops, &element.top_level, &mut found)?;
+        report_top_level(alloc, tops, &element.top_level, &mut found)?;
     }
     Ok(found)
 }
