@@ -30,12 +30,27 @@ pub(crate) fn by_path(alloc: Global, top_levels: Vec<TopLevel>) -> Result<Opened
 fn add(alloc: Global, opened: &mut Opened, top_level: TopLevel) -> Result<(), Memory>
     ensures { OnOk result ((before : List unit.TopLevel) → IsOpened before opened.old.entries → IsOpened (before ++ top_level_in top_level ∷ []) opened.new.entries) }
 {
-    let key = key_of(alloc, &top_level.site.place.path)?;
-    let taken = take_at(alloc, opened, &top_level.site.place.path)?;
-    let mut there = or_none(alloc, taken);
-    there.push(top_level)?;
+    let mut last = Vec::new(alloc);
+    last.push(top_level)?;
+    let path = &last[0].site.place.path;
+    let key = key_of(alloc, path)?;
+    let taken = take_at(alloc, opened, path)?;
+    let there = behind(taken, last)?;
     let _ = opened.insert(key, there)?;
     Ok(())
+}
+
+// Elements behind those that were taken.
+fn behind(taken: Option<Vec<TopLevel>>, mut last: Vec<TopLevel>) -> Result<Vec<TopLevel>, Memory>
+    ensures { IfOk result (λ all. top_levels_in all.items ≡ kept_of taken ++ top_levels_in last.items) }
+{
+    match taken {
+        None => Ok(last),
+        Some(mut taken) => {
+            taken.append(&mut last)?;
+            Ok(taken)
+        }
+    }
 }
 
 /// Takes those at this place. None where there are none, and empty where they were taken before.
