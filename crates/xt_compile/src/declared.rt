@@ -137,13 +137,13 @@ fn add_template(
         mode: template.mode,
         unit: declared.units.len() as u64,
     };
-    add_rules(alloc, &mut declared.rules, &common, template.pattern)?;
     add_unit(
         declared,
         precedence,
         site,
         UnitKind::Template(template.template),
-    )
+    )?;
+    add_rules(alloc, &mut declared.rules, &common, template.pattern)
 }
 
 fn add_unit(

@@ -64,8 +64,8 @@ fn rule_for(
     ensures { IfOk result (λ rule. rule_of rule ≡ rule_by common.now order (alternative_of alternative)) }
 {
     let priority = common.priority.unwrap_or(default_priority(&alternative));
-    let mode = copy_mode(alloc, &common.mode)?;
     let pattern = pattern_alone(alloc, alternative)?;
+    let mode = copy_mode(alloc, &common.mode)?;
     Ok(Rule {
         pattern,
         precedence: common.precedence,
