@@ -15,10 +15,7 @@ use xt_tree::{Doc, NodeRef};
 pub fn answer(alloc: Global, out: &mut Text, call: &str, words: &[Word]) -> Result<bool, Fault> {
     let (front, asked) = halves(words);
     match call {
-        "step" => {
-            let document = document(alloc, behind(front, 1))?;
-            push_all(alloc, out, &document, text_at(front, 0)?, asked)?;
-        }
+        "step" => push_stepped(alloc, out, front, asked)?,
         "order" => push_ordered(alloc, out, front, asked)?,
         _ => return Ok(false),
     }
@@ -31,10 +28,19 @@ fn push_ordered(
     lines: &[Word],
     asked: &[Word],
 ) -> Result<(), Fault> {
-    let document = document(alloc, lines)?;
     let nodes = nodes(alloc, asked)?;
-    push_list(out, order(alloc, &document, nodes.as_slice())?)?;
-    Ok(())
+    let document = document(alloc, lines)?;
+    push_in_order(alloc, out, &document, nodes.as_slice())
+}
+
+fn push_in_order(
+    alloc: Global,
+    out: &mut Text,
+    document: &Doc,
+    nodes: &[NodeRef],
+) -> Result<(), Fault> {
+    let nodes = order(alloc, document, nodes)?;
+    Ok(push_list(out, nodes.as_slice())?)
 }
 
 fn nodes(alloc: Global, words: &[Word]) -> Result<Vec<NodeRef>, Fault> {
@@ -59,7 +65,18 @@ fn only_step(tree: &Expr) -> Result<&Step, Fault> {
     }
 }
 
-fn push_all(
+fn push_stepped(
+    alloc: Global,
+    out: &mut Text,
+    front: &[Word],
+    asked: &[Word],
+) -> Result<(), Fault> {
+    let step = text_at(front, 0)?;
+    let document = document(alloc, behind(front, 1))?;
+    push_parsed(alloc, out, &document, step, asked)
+}
+
+fn push_parsed(
     alloc: Global,
     out: &mut Text,
     document: &Doc,
@@ -67,7 +84,17 @@ fn push_all(
     asked: &[Word],
 ) -> Result<(), Fault> {
     let tree = parsed(alloc, step)?;
-    let step = only_step(&tree)?;
+    push_all(alloc, out, document, &tree, asked)
+}
+
+fn push_all(
+    alloc: Global,
+    out: &mut Text,
+    document: &Doc,
+    tree: &Expr,
+    asked: &[Word],
+) -> Result<(), Fault> {
+    let step = only_step(tree)?;
     for word in asked {
         push_found(alloc, out, document, step, text_of(word)?)?;
     }
@@ -85,12 +112,12 @@ fn push_found(
     if !document.has(alloc, &from)? {
         return Err(Fault::NoCase);
     }
-    push_list(out, step(alloc, document, &from, by.axis, &by.test)?)?;
-    Ok(())
+    let found = step(alloc, document, &from, by.axis, &by.test)?;
+    Ok(push_list(out, found.as_slice())?)
 }
 
 // Adds the nodes in brackets.
-fn push_list(out: &mut Text, nodes: Vec<NodeRef>) -> Result<(), Memory> {
+fn push_list(out: &mut Text, nodes: &[NodeRef]) -> Result<(), Memory> {
     part(out)?;
     out.push('(')?;
     for (index, node) in nodes.iter().enumerate() {

@@ -55,9 +55,9 @@ pub fn nowhere(alloc: Global) -> Result<Site, Memory> {
 
 // The element `main/1`, with no prefix in scope but `xml`.
 fn site(alloc: Global) -> Result<Site, Memory> {
-    let module = Text::from_str(alloc, "main")?;
     let mut path = Path::new(alloc);
     path.push(1)?;
+    let module = Text::from_str(alloc, "main")?;
     let scope = Scope::root(alloc)?;
     let place = Place {
         module: Some(module),
@@ -74,45 +74,34 @@ pub fn name(alloc: Global, local: &str) -> Result<Expanded, Memory> {
 
 fn form(alloc: Global, kind: &str, rest: &str) -> Result<Form, Fault> {
     match kind {
-        "text" | "value-of" | "copy-of" | "number" | "count" | "apply-imports" | "fallback" => {
-            Ok(Form::WithoutContent(without_content(alloc, kind, rest)?))
+        "text" => Ok(Form::WithoutContent(WithoutContent::Text(Text::from_str(alloc, rest)?))),
+        "value-of" => Ok(Form::WithoutContent(WithoutContent::ValueOf(parsed(alloc, rest)?))),
+        "copy-of" => Ok(Form::WithoutContent(WithoutContent::CopyOf(parsed(alloc, rest)?))),
+        "number" => {
+            let format = template(alloc, "1")?;
+            Ok(numbering(NumberSource::Value(parsed(alloc, rest)?), format))
         }
-        "for-each" | "if" | "choose" | "apply-templates" | "call-template" => {
-            Ok(Form::Control(control(alloc, kind, rest)?))
+        "count" => {
+            let format = template(alloc, "1")?;
+            Ok(numbering(NumberSource::Count(count(rest)?), format))
         }
-        _ => {
-            let content = content(alloc)?;
-            let made = with_content(alloc, kind, rest)?;
-            Ok(Form::WithContent(made, content))
-        }
+        "apply-imports" => Ok(Form::WithoutContent(WithoutContent::ApplyImports)),
+        "fallback" => Ok(Form::WithoutContent(WithoutContent::Fallback)),
+        _ => control(alloc, kind, rest),
     }
 }
 
 /// A content of one text.
 pub fn content(alloc: Global) -> Result<Rc<Vec<Instr>>, Memory> {
-    let site = nowhere(alloc)?;
     let text = Text::from_str(alloc, "x")?;
+    let site = nowhere(alloc)?;
     let form = Form::WithoutContent(WithoutContent::Text(text));
     let content = one(alloc, Instr { site, form })?;
     Ok(Rc::new(alloc, content)?)
 }
 
-fn without_content(alloc: Global, kind: &str, rest: &str) -> Result<WithoutContent, Fault> {
-    match kind {
-        "text" => Ok(WithoutContent::Text(Text::from_str(alloc, rest)?)),
-        "value-of" => Ok(WithoutContent::ValueOf(parsed(alloc, rest)?)),
-        "copy-of" => Ok(WithoutContent::CopyOf(parsed(alloc, rest)?)),
-        "number" => numbering(alloc, NumberSource::Value(parsed(alloc, rest)?)),
-        "count" => numbering(alloc, NumberSource::Count(count(rest)?)),
-        "apply-imports" => Ok(WithoutContent::ApplyImports),
-        "fallback" => Ok(WithoutContent::Fallback),
-        _ => Err(Fault::NoCase),
-    }
-}
-
-fn numbering(alloc: Global, source: NumberSource) -> Result<WithoutContent, Fault> {
-    let format = template(alloc, "1")?;
-    Ok(WithoutContent::Number(Numbering {
+fn numbering(source: NumberSource, format: Avt) -> Form {
+    Form::WithoutContent(WithoutContent::Number(Numbering {
         source,
         format,
         grouping_separator: None,
@@ -141,20 +130,6 @@ fn template(alloc: Global, text: &str) -> Result<Avt, Memory> {
     Ok(Avt { parts })
 }
 
-fn with_content(alloc: Global, kind: &str, rest: &str) -> Result<WithContent, Fault> {
-    match kind {
-        "literal" => Ok(WithContent::Literal(literal(alloc, rest)?)),
-        "element" => Ok(WithContent::Element(made_name(alloc, rest)?, Vec::new(alloc))),
-        "attribute" => Ok(WithContent::Attribute(made_name(alloc, rest)?)),
-        "comment" => Ok(WithContent::Comment),
-        "instruction" => Ok(WithContent::ProcessingInstruction(template(alloc, rest)?)),
-        "copy" => Ok(WithContent::Copy(one(alloc, name(alloc, rest)?)?)),
-        "variable" => Ok(WithContent::Variable(name(alloc, rest)?, None)),
-        "message" => Ok(WithContent::Message(rest == "yes")),
-        _ => Err(Fault::NoCase),
-    }
-}
-
 fn literal(alloc: Global, local: &str) -> Result<LiteralTag, Memory> {
     Ok(LiteralTag {
         prefix: Text::new(alloc),
@@ -172,33 +147,52 @@ fn made_name(alloc: Global, text: &str) -> Result<MadeName, Memory> {
     })
 }
 
-fn control(alloc: Global, kind: &str, rest: &str) -> Result<Control, Fault> {
+fn control(alloc: Global, kind: &str, rest: &str) -> Result<Form, Fault> {
     match kind {
         "for-each" => {
             let content = content(alloc)?;
             let keys = Rc::new(alloc, Vec::new(alloc))?;
             let select = parsed(alloc, rest)?;
-            Ok(Control::ForEach(select, keys, content))
+            Ok(Form::Control(Control::ForEach(select, keys, content)))
         }
         "if" => {
             let content = content(alloc)?;
             let test = parsed(alloc, rest)?;
-            Ok(Control::If(test, content))
+            Ok(Form::Control(Control::If(test, content)))
         }
         "choose" => choose(alloc, rest),
         "apply-templates" => apply_templates(alloc, rest),
         "call-template" => {
             let parameters = one(alloc, binding(alloc, rest)?)?;
             let parameters = Rc::new(alloc, parameters)?;
-            Ok(Control::CallTemplate(name(alloc, "t")?, parameters))
+            let name = name(alloc, "t")?;
+            Ok(Form::Control(Control::CallTemplate(name, parameters)))
         }
+        _ => {
+            let content = content(alloc)?;
+            let made = with_content(alloc, kind, rest)?;
+            Ok(Form::WithContent(made, content))
+        }
+    }
+}
+
+fn with_content(alloc: Global, kind: &str, rest: &str) -> Result<WithContent, Fault> {
+    match kind {
+        "literal" => Ok(WithContent::Literal(literal(alloc, rest)?)),
+        "element" => Ok(WithContent::Element(made_name(alloc, rest)?, Vec::new(alloc))),
+        "attribute" => Ok(WithContent::Attribute(made_name(alloc, rest)?)),
+        "comment" => Ok(WithContent::Comment),
+        "instruction" => Ok(WithContent::ProcessingInstruction(template(alloc, rest)?)),
+        "copy" => Ok(WithContent::Copy(one(alloc, name(alloc, rest)?)?)),
+        "variable" => Ok(WithContent::Variable(name(alloc, rest)?, None)),
+        "message" => Ok(WithContent::Message(rest == "yes")),
         _ => Err(Fault::NoCase),
     }
 }
 
-fn choose(alloc: Global, test: &str) -> Result<Control, Fault> {
-    let site = nowhere(alloc)?;
+fn choose(alloc: Global, test: &str) -> Result<Form, Fault> {
     let content = content(alloc)?;
+    let site = nowhere(alloc)?;
     let test = parsed(alloc, test)?;
     let branch = Branch {
         site,
@@ -206,11 +200,12 @@ fn choose(alloc: Global, test: &str) -> Result<Control, Fault> {
         content,
     };
     let branches = one(alloc, branch)?;
-    Ok(Control::Choose(Rc::new(alloc, branches)?))
+    let branches = Rc::new(alloc, branches)?;
+    Ok(Form::Control(Control::Choose(branches)))
 }
 
 // Sorted by the string-value.
-fn apply_templates(alloc: Global, select: &str) -> Result<Control, Fault> {
+fn apply_templates(alloc: Global, select: &str) -> Result<Form, Fault> {
     let parameters = Rc::new(alloc, Vec::new(alloc))?;
     let keys = Rc::new(alloc, one(alloc, sort_key(alloc)?)?)?;
     let select = parsed(alloc, select)?;
@@ -219,12 +214,12 @@ fn apply_templates(alloc: Global, select: &str) -> Result<Control, Fault> {
         mode: None,
         keys,
     };
-    Ok(Control::ApplyTemplates(selection, parameters))
+    Ok(Form::Control(Control::ApplyTemplates(selection, parameters)))
 }
 
 fn sort_key(alloc: Global) -> Result<SortKey, Fault> {
-    let site = nowhere(alloc)?;
     let data_type = template(alloc, "text")?;
+    let site = nowhere(alloc)?;
     let select = parsed(alloc, ".")?;
     Ok(SortKey {
         site,

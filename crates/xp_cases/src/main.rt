@@ -9,22 +9,28 @@ mod sheets;
 mod texts;
 mod trees;
 
-use cases::{Fault, Word, text_of, words_of};
+use cases::{Fault, Word, push_yes, text_of, words_of};
 use std::alloc::Global;
 use std::io;
-use std::io::{BufRead, BufReader};
 use xt_text::{Memory, Text};
 
 fn main(rt: HostRuntime) -> io::Result<()> {
-    let alloc = rt.alloc();
-    for line in BufReader::new(alloc, rt.reader())?.lines(alloc) {
-        let line = line?;
-        match shown(alloc, line.as_str()) {
-            Ok(text) => rt.println(text.as_str())?,
-            Err(Memory) => rt.println("memory")?,
-        }
+    let text = io::read_to_string(rt.alloc(), rt.reader())?;
+    answer_all(&rt, rt.alloc(), text.as_str())
+}
+
+fn answer_all(rt: &impl Print, alloc: Global, text: &str) -> io::Result<()> {
+    for line in text.lines() {
+        print(rt, shown(alloc, line))?;
     }
     Ok(())
+}
+
+fn print(rt: &impl Print, shown: Result<Text, Memory>) -> io::Result<()> {
+    match shown {
+        Ok(text) => rt.println(text.as_str()),
+        Err(Memory) => rt.println("memory"),
+    }
 }
 
 // What is printed for a line.
@@ -59,4 +65,10 @@ fn is_answered(alloc: Global, out: &mut Text, call: &str, words: &[Word]) -> Res
             || sheets::answer(alloc, out, call, words)?
             || axes::answer(alloc, out, call, words)?,
     )
+}
+
+// Adds whether something holds; the call is answered then.
+fn answer_yes(out: &mut Text, holds: bool) -> Result<bool, Fault> {
+    push_yes(out, holds)?;
+    Ok(true)
 }

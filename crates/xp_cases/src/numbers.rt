@@ -10,15 +10,30 @@ use xt_text::{Memory, Text};
 /// Answers the call, if it is one of these.
 pub fn answer(alloc: Global, out: &mut Text, call: &str, words: &[Word]) -> Result<bool, Fault> {
     match call {
-        "value" => push_given(alloc, out, Num::read(text_at(words, 0)?))?,
-        "number" => push_given(alloc, out, given(text_at(words, 0)?)?)?,
-        "neg" => push_num(alloc, out, num(text_at(words, 0)?)?.neg())?,
-        "text" => {
-            let text = num(text_at(words, 0)?)?.text(alloc)?;
-            push_quoted(out, text.as_str())?;
+        "value" => answer_given(alloc, out, Num::read(text_at(words, 0)?)),
+        "number" => answer_given(alloc, out, given(text_at(words, 0)?)?),
+        "neg" => {
+            let number = num_at(words, 0)?;
+            answer_given(alloc, out, Ok(number.neg()))
         }
-        _ => return answer_two(alloc, out, call, words),
+        "text" => answer_text(alloc, out, num_at(words, 0)?),
+        _ => answer_two(alloc, out, call, words),
     }
+}
+
+/// Adds a number, or the fault; the call is answered then.
+pub fn answer_given(
+    alloc: Global,
+    out: &mut Text,
+    number: Result<Num, NumFault>,
+) -> Result<bool, Fault> {
+    push_given(alloc, out, number)?;
+    Ok(true)
+}
+
+fn answer_text(alloc: Global, out: &mut Text, number: Num) -> Result<bool, Fault> {
+    let text = number.text(alloc)?;
+    push_quoted(out, text.as_str())?;
     Ok(true)
 }
 
@@ -26,8 +41,8 @@ fn answer_two(alloc: Global, out: &mut Text, call: &str, words: &[Word]) -> Resu
     match operation_of(call) {
         None => Ok(false),
         Some(operation) => {
-            let first = num(text_at(words, 0)?)?;
-            let second = num(text_at(words, 1)?)?;
+            let first = num_at(words, 0)?;
+            let second = num_at(words, 1)?;
             push_result(alloc, out, operation, first, second)?;
             Ok(true)
         }
@@ -82,9 +97,9 @@ fn order(order: Option<Ordering>) -> &'static str {
     }
 }
 
-/// The number that a word is, if it is in range.
-pub fn num(text: &str) -> Result<Num, Fault> {
-    given(text)?.map_err(|_| Fault::NoCase)
+/// The number that this word is, from 0, if it is in range.
+pub fn num_at(words: &[Word], index: usize) -> Result<Num, Fault> {
+    given(text_at(words, index)?)?.map_err(|_| Fault::NoCase)
 }
 
 fn given(text: &str) -> Result<Result<Num, NumFault>, Fault> {
@@ -95,12 +110,8 @@ fn given(text: &str) -> Result<Result<Num, NumFault>, Fault> {
     Ok(Num::whole(value))
 }
 
-/// Adds a number, or the fault.
-pub fn push_given(
-    alloc: Global,
-    out: &mut Text,
-    number: Result<Num, NumFault>,
-) -> Result<(), Memory> {
+// Adds a number, or the fault.
+fn push_given(alloc: Global, out: &mut Text, number: Result<Num, NumFault>) -> Result<(), Memory> {
     match number {
         Ok(number) => push_num(alloc, out, number),
         Err(NumFault::Fraction) => push_part(out, "fraction"),

@@ -2,9 +2,10 @@
 // one: they are one stylesheet, with a rule, a template, a global binding, an attribute set, a key, a space
 // rule, an output method and an alias, each changed at one place, `none` without a change.
 
+use crate::answer_yes;
 use crate::instructions::{binding, content, differ, name, nowhere};
 use crate::trees::parsed;
-use cases::{Fault, Word, one, push_yes, text_of};
+use cases::{Fault, Word, one, text_of};
 use std::alloc::Global;
 use std::rc::Rc;
 use xp_syntax::{
@@ -18,48 +19,45 @@ use xt_text::{Memory, Text};
 /// Answers the call, if it is one of these.
 pub fn answer(alloc: Global, out: &mut Text, call: &str, words: &[Word]) -> Result<bool, Fault> {
     match call {
-        "instructions-differ" => push_yes(out, differ(alloc, words)?)?,
-        "sheets-differ" => push_yes(out, sheets_differ(alloc, words)?)?,
-        _ => return Ok(false),
+        "instructions-differ" => answer_yes(out, differ(alloc, words)?),
+        "sheets-differ" => answer_yes(out, sheets_differ(alloc, words)?),
+        _ => Ok(false),
     }
-    Ok(true)
 }
 
 fn sheets_differ(alloc: Global, words: &[Word]) -> Result<bool, Fault> {
-    for (index, word) in words.iter().enumerate() {
-        let first = sheet(alloc, text_of(word)?)?;
-        for (other_index, other) in words.iter().enumerate() {
-            let other = sheet(alloc, text_of(other)?)?;
-            if first.same(&other) != (index == other_index) {
-                return Ok(false);
+    let mut sheets = Vec::new(alloc);
+    for word in words {
+        let sheet = sheet(alloc, text_of(word)?)?;
+        sheets.push(sheet)?;
+    }
+    Ok(all_differ(sheets.as_slice()))
+}
+
+fn all_differ(sheets: &[Sheet]) -> bool {
+    for (index, sheet) in sheets.iter().enumerate() {
+        for (other_index, other) in sheets.iter().enumerate() {
+            if sheet.same(other) != (index == other_index) {
+                return false;
             }
         }
     }
-    Ok(true)
+    true
 }
 
 fn sheet(alloc: Global, change: &str) -> Result<Sheet, Fault> {
+    let units = units(alloc, change)?;
+    let rules = one(alloc, rule(alloc, change)?)?;
+    let space_rules = one(alloc, space_rule(change))?;
+    let aliases = one(alloc, alias(alloc, change)?)?;
     let method = method(alloc, change)?;
-    let mut sheet = empty(alloc, method);
-    push_units(alloc, &mut sheet.units, change)?;
-    push_rule(alloc, &mut sheet.rules.rules, change)?;
-    sheet.space_rules.rules.push(space_rule(change))?;
-    push_alias(alloc, &mut sheet.aliases, change)?;
-    Ok(sheet)
-}
-
-fn empty(alloc: Global, method: Option<Method>) -> Sheet {
-    Sheet {
-        units: Vec::new(alloc),
-        rules: Rules {
-            rules: Vec::new(alloc),
-        },
-        space_rules: SpaceRules {
-            rules: Vec::new(alloc),
-        },
+    Ok(Sheet {
+        units,
+        rules: Rules { rules },
+        space_rules: SpaceRules { rules: space_rules },
         method,
-        aliases: Vec::new(alloc),
-    }
+        aliases,
+    })
 }
 
 // The one number where the change is this one, else the other.
@@ -71,16 +69,17 @@ fn word<'a>(change: &str, wanted: &str, changed: &'a str, usual: &'a str) -> &'a
     if change == wanted { changed } else { usual }
 }
 
-fn push_units(alloc: Global, units: &mut Vec<Unit>, change: &str) -> Result<(), Fault> {
+fn units(alloc: Global, change: &str) -> Result<Vec<Unit>, Fault> {
+    let mut units = Vec::new(alloc);
     let template = template(alloc, change)?;
-    push_unit(alloc, units, change, Declared::Template(template))?;
+    push_unit(alloc, &mut units, change, Declared::Template(template))?;
     let global = global(alloc, change)?;
-    push_unit(alloc, units, change, Declared::Global(global))?;
+    push_unit(alloc, &mut units, change, Declared::Global(global))?;
     let set = attribute_set(alloc, change)?;
-    push_unit(alloc, units, change, Declared::AttributeSet(set))?;
+    push_unit(alloc, &mut units, change, Declared::AttributeSet(set))?;
     let key = key(alloc, change)?;
-    push_unit(alloc, units, change, Declared::Key(key))?;
-    Ok(())
+    push_unit(alloc, &mut units, change, Declared::Key(key))?;
+    Ok(units)
 }
 
 fn push_unit(
@@ -89,21 +88,29 @@ fn push_unit(
     change: &str,
     declared: Declared,
 ) -> Result<(), Memory> {
-    let site = nowhere(alloc)?;
-    units.push(Unit {
-        site,
-        precedence: number(change, "unit-precedence"),
-        declared,
-    })?;
-    Ok(())
+    match nowhere(alloc) {
+        Ok(site) => {
+            let precedence = number(change, "unit-precedence");
+            units.push(Unit {
+                site,
+                precedence,
+                declared,
+            })?;
+            Ok(())
+        }
+        Err(memory) => {
+            drop(declared);
+            Err(memory)
+        }
+    }
 }
 
 fn template(alloc: Global, change: &str) -> Result<Template, Fault> {
     let parameter = binding(alloc, word(change, "parameter", "2", "1"))?;
     let parameters = one(alloc, parameter)?;
     let parameters = Rc::new(alloc, parameters)?;
-    let name = name(alloc, word(change, "template-name", "u", "t"))?;
     let content = content(alloc)?;
+    let name = name(alloc, word(change, "template-name", "u", "t"))?;
     Ok(Template {
         name: Some(name),
         parameters,
@@ -132,9 +139,9 @@ fn attribute_set(alloc: Global, change: &str) -> Result<AttributeSet, Memory> {
 }
 
 fn key(alloc: Global, change: &str) -> Result<Key, Fault> {
-    let value = parsed(alloc, word(change, "key-value", "@j", "@i"))?;
     let pattern = pattern(alloc, "none")?;
     let name = name(alloc, word(change, "key-name", "l", "k"))?;
+    let value = parsed(alloc, word(change, "key-value", "@j", "@i"))?;
     Ok(Key {
         name,
         pattern,
@@ -143,8 +150,8 @@ fn key(alloc: Global, change: &str) -> Result<Key, Fault> {
 }
 
 fn pattern(alloc: Global, change: &str) -> Result<Pattern, Memory> {
-    let start = start(alloc, change)?;
     let steps = one(alloc, pattern_step(alloc, change)?)?;
+    let start = start(alloc, change)?;
     let alternatives = one(alloc, Alternative { start, steps })?;
     Ok(Pattern { alternatives })
 }
@@ -183,15 +190,10 @@ fn start(alloc: Global, change: &str) -> Result<Start, Memory> {
     }
 }
 
-fn push_rule(alloc: Global, rules: &mut Vec<Rule>, change: &str) -> Result<(), Memory> {
-    let mode = mode(alloc, change)?;
+fn rule(alloc: Global, change: &str) -> Result<Rule, Memory> {
     let pattern = pattern(alloc, change)?;
-    rules.push(rule(change, pattern, mode))?;
-    Ok(())
-}
-
-fn rule(change: &str, pattern: Pattern, mode: Option<Expanded>) -> Rule {
-    Rule {
+    let mode = mode(alloc, change)?;
+    Ok(Rule {
         pattern,
         precedence: number(change, "precedence"),
         imported: number(change, "imported"),
@@ -199,7 +201,7 @@ fn rule(change: &str, pattern: Pattern, mode: Option<Expanded>) -> Rule {
         order: number(change, "order"),
         mode,
         unit: number(change, "unit"),
-    }
+    })
 }
 
 fn priority(change: &str) -> i64 {
@@ -245,14 +247,13 @@ fn method(alloc: Global, change: &str) -> Result<Option<Method>, Memory> {
     }
 }
 
-fn push_alias(alloc: Global, aliases: &mut Vec<Alias>, change: &str) -> Result<(), Memory> {
+fn alias(alloc: Global, change: &str) -> Result<Alias, Memory> {
     let stylesheet = Text::from_str(alloc, word(change, "alias-uri", "urn:2", "urn:1"))?;
     let prefix = Text::from_str(alloc, word(change, "alias-prefix", "q", "p"))?;
     let result = Text::from_str(alloc, word(change, "alias-result", "urn:4", "urn:3"))?;
-    aliases.push(Alias {
+    Ok(Alias {
         stylesheet,
         prefix,
         result,
-    })?;
-    Ok(())
+    })
 }

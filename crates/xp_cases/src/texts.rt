@@ -2,8 +2,9 @@
 // PART`, `concat TEXT..`, `substring TEXT START COUNT` (the count may be missing), `length TEXT`, `normalize
 // TEXT`, `translate TEXT FROM TO`, `lang LANGUAGE WANTED`.
 
-use crate::numbers::{num, push_given};
-use cases::{Fault, Word, push_quoted, push_yes, text_at, text_of};
+use crate::answer_yes;
+use crate::numbers::{answer_given, num_at};
+use cases::{Fault, Word, push_quoted, text_at, text_of};
 use std::alloc::Global;
 use xp_text::{
     after, before, concat, contains, lang_matches, length, normalize, starts_with, substring,
@@ -14,13 +15,26 @@ use xt_text::{Memory, Text};
 /// Answers the call, if it is one of these.
 pub fn answer(alloc: Global, out: &mut Text, call: &str, words: &[Word]) -> Result<bool, Fault> {
     match call {
-        "starts-with" => push_yes(out, starts_with(text_at(words, 0)?, text_at(words, 1)?))?,
-        "contains" => push_yes(out, contains(text_at(words, 0)?, text_at(words, 1)?))?,
-        "lang" => push_yes(out, lang_matches(text_at(words, 0)?, text_at(words, 1)?))?,
-        "length" => push_given(alloc, out, length(text_at(words, 0)?))?,
-        _ => return answer_text(alloc, out, call, words),
+        "starts-with" => {
+            let (text, start) = two(words)?;
+            answer_yes(out, starts_with(text, start))
+        }
+        "contains" => {
+            let (text, part) = two(words)?;
+            answer_yes(out, contains(text, part))
+        }
+        "lang" => {
+            let (language, wanted) = two(words)?;
+            answer_yes(out, lang_matches(language, wanted))
+        }
+        "length" => answer_given(alloc, out, length(text_at(words, 0)?)),
+        _ => answer_text(alloc, out, call, words),
     }
-    Ok(true)
+}
+
+// The texts of the first two words.
+fn two(words: &[Word]) -> Result<(&str, &str), Fault> {
+    Ok((text_at(words, 0)?, text_at(words, 1)?))
 }
 
 fn answer_text(alloc: Global, out: &mut Text, call: &str, words: &[Word]) -> Result<bool, Fault> {
@@ -58,8 +72,14 @@ fn function_of(call: &str) -> Option<Function> {
 
 fn called(alloc: Global, function: Function, words: &[Word]) -> Result<Text, Fault> {
     match function {
-        Function::Before => Ok(before(alloc, text_at(words, 0)?, text_at(words, 1)?)?),
-        Function::After => Ok(after(alloc, text_at(words, 0)?, text_at(words, 1)?)?),
+        Function::Before => {
+            let (text, part) = two(words)?;
+            Ok(before(alloc, text, part)?)
+        }
+        Function::After => {
+            let (text, part) = two(words)?;
+            Ok(after(alloc, text, part)?)
+        }
         Function::Concat => concatenated(alloc, words),
         Function::Substring => cut_out(alloc, words),
         Function::Normalize => Ok(normalize(alloc, text_at(words, 0)?)?),
@@ -77,7 +97,8 @@ fn concatenated(alloc: Global, words: &[Word]) -> Result<Text, Fault> {
 }
 
 fn translated(alloc: Global, words: &[Word]) -> Result<Text, Fault> {
-    let (text, from, to) = (text_at(words, 0)?, text_at(words, 1)?, text_at(words, 2)?);
+    let (text, from) = two(words)?;
+    let to = text_at(words, 2)?;
     Ok(translate(alloc, text, from, to)?)
 }
 
@@ -91,9 +112,9 @@ fn texts(alloc: Global, words: &[Word]) -> Result<Vec<Text>, Fault> {
 }
 
 fn cut_out(alloc: Global, words: &[Word]) -> Result<Text, Fault> {
-    let start = num(text_at(words, 1)?)?;
+    let start = num_at(words, 1)?;
     let count = if words.len() > 2 {
-        Some(num(text_at(words, 2)?)?)
+        Some(num_at(words, 2)?)
     } else {
         None
     };

@@ -3,8 +3,9 @@
 // texts have the same tree, `differ TEXT..` whether each has a tree that is the same as no other's. The scope
 // and the forms of trees are those of `case_trees`.
 
+use crate::answer_yes;
 use case_trees::{push_code, push_tree, scope};
-use cases::{Fault, Word, joined, push_part, push_yes, text_at, text_of};
+use cases::{Fault, Word, joined, push_part, text_at, text_of};
 use std::alloc::Global;
 use xp_parse::{ParseFault, parse};
 use xp_syntax::Expr;
@@ -14,13 +15,10 @@ use xt_text::{Memory, Text};
 pub fn answer(alloc: Global, out: &mut Text, call: &str, words: &[Word]) -> Result<bool, Fault> {
     match call {
         "parse" => push_parsed(alloc, out, text_at(words, 0)?)?,
-        "parse-joined" => push_parsed_text(alloc, out, joined(alloc, words)?)?,
-        "outcome" => push_outcome(alloc, out, joined(alloc, words)?)?,
-        "differ" => push_yes(out, do_differ(alloc, words)?)?,
-        "same" => push_yes(
-            out,
-            are_same(alloc, text_at(words, 0)?, text_at(words, 1)?)?,
-        )?,
+        "parse-joined" => push_joined(alloc, out, words)?,
+        "outcome" => push_outcome(alloc, out, words)?,
+        "differ" => return answer_yes(out, do_differ(alloc, words)?),
+        "same" => return answer_yes(out, are_same(alloc, words)?),
         _ => return Ok(false),
     }
     Ok(true)
@@ -36,10 +34,12 @@ pub fn parsed(alloc: Global, text: &str) -> Result<Expr, Fault> {
     }
 }
 
-fn are_same(alloc: Global, text: &str, other: &str) -> Result<bool, Fault> {
-    let tree = parsed(alloc, text)?;
-    let other = parsed(alloc, other)?;
-    Ok(tree.same(&other))
+fn are_same(alloc: Global, words: &[Word]) -> Result<bool, Fault> {
+    let trees = all_parsed(alloc, words)?;
+    match trees.as_slice() {
+        [first, second] => Ok(first.same(second)),
+        _ => Err(Fault::NoCase),
+    }
 }
 
 fn all_parsed(alloc: Global, words: &[Word]) -> Result<Vec<Expr>, Fault> {
@@ -68,23 +68,30 @@ fn differ(trees: &[Expr]) -> bool {
     true
 }
 
-fn push_outcome(alloc: Global, out: &mut Text, text: Text) -> Result<(), Memory> {
+fn push_outcome(alloc: Global, out: &mut Text, words: &[Word]) -> Result<(), Fault> {
+    let text = joined(alloc, words)?;
     let scope = scope(alloc)?;
-    match parse(alloc, text.as_str(), &scope) {
+    let outcome = parse(alloc, text.as_str(), &scope);
+    Ok(push_kind(out, &outcome)?)
+}
+
+fn push_kind(out: &mut Text, outcome: &Result<Expr, ParseFault>) -> Result<(), Memory> {
+    match outcome {
         Ok(_) => push_part(out, "tree"),
-        Err(fault) => push_refusal(out, fault),
+        Err(fault) => push_refusal(out, *fault),
     }
 }
 
-fn push_parsed_text(alloc: Global, out: &mut Text, text: Text) -> Result<(), Memory> {
-    push_parsed(alloc, out, text.as_str())
+fn push_joined(alloc: Global, out: &mut Text, words: &[Word]) -> Result<(), Fault> {
+    let text = joined(alloc, words)?;
+    Ok(push_parsed(alloc, out, text.as_str())?)
 }
 
 fn push_parsed(alloc: Global, out: &mut Text, text: &str) -> Result<(), Memory> {
     let scope = scope(alloc)?;
-    match parse(alloc, text, &scope) {
-        Ok(tree) => push_tree(out, &tree),
-        Err(fault) => push_refusal(out, fault),
+    match &parse(alloc, text, &scope) {
+        Ok(tree) => push_tree(out, tree),
+        Err(fault) => push_refusal(out, *fault),
     }
 }
 
