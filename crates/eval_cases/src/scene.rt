@@ -120,39 +120,56 @@ impl Scene {
     }
 
     fn set_value(&mut self, alloc: Global, name: &str, text: &str) -> Result<(), Fault> {
+        let name = plain_name(alloc, name)?;
+        let outer = self.context.bindings.share()?;
         let value = self.value(alloc, text)?;
-        self.bind(alloc, name, value)
+        self.bind(alloc, Binding { name, value, outer })
     }
 
     fn set_fragment(&mut self, alloc: Global, name: &str, text: &str) -> Result<(), Fault> {
-        let fragment = fragment(alloc, text)?;
-        self.bind(alloc, name, fragment)
-    }
-
-    fn bind(&mut self, alloc: Global, name: &str, value: Value) -> Result<(), Fault> {
         let name = plain_name(alloc, name)?;
         let outer = self.context.bindings.share()?;
-        let binding = Rc::new(alloc, Binding { name, value, outer })?;
+        let value = fragment(alloc, text)?;
+        self.bind(alloc, Binding { name, value, outer })
+    }
+
+    fn bind(&mut self, alloc: Global, binding: Binding) -> Result<(), Fault> {
+        let binding = Rc::new(alloc, binding)?;
         self.context.bindings = Bindings::More(binding);
         Ok(())
     }
 
     fn set_global(&mut self, alloc: Global, name: &str, text: &str) -> Result<(), Fault> {
-        let value = self.value(alloc, text)?;
         let name = plain_name(alloc, name)?;
-        let known = Known {
+        let value = self.value(alloc, text)?;
+        self.supplies.globals.push(Known {
             name,
             depth: 0,
             value,
-        };
-        self.supplies.globals.push(known)?;
+        })?;
         Ok(())
+    }
+
+    fn document(&self) -> Result<&Doc, Fault> {
+        match &self.document {
+            None => Err(Fault::NoCase),
+            Some(document) => Ok(document),
+        }
     }
 
     // The value of an expression that has one.
     fn value(&self, alloc: Global, text: &str) -> Result<Value, Fault> {
-        let tree = self.parsed(alloc, text).map_err(|_| Fault::NoCase)?;
-        self.evaluated(alloc, &tree)?.map_err(|_| Fault::NoCase)
+        let document = self.document()?;
+        let tree = self.tree(alloc, text)?;
+        value_of(self.evaluated(alloc, document, &tree))
+    }
+
+    // The tree of a text that is an expression.
+    fn tree(&self, alloc: Global, text: &str) -> Result<Expr, Fault> {
+        match self.parsed(alloc, text) {
+            Ok(tree) => Ok(tree),
+            Err(_) => Err(Fault::NoCase),
+        }
     }
 
     fn parsed(&self, alloc: Global, text: &str) -> Result<Expr, ParseFault> {
@@ -160,14 +177,7 @@ impl Scene {
     }
 
     // What an expression evaluates to in the document.
-    fn evaluated(&self, alloc: Global, tree: &Expr) -> Result<Result<Value, EvalFault>, Fault> {
-        match &self.document {
-            None => Err(Fault::NoCase),
-            Some(document) => Ok(self.evaluated_in(alloc, document, tree)),
-        }
-    }
-
-    fn evaluated_in(&self, alloc: Global, document: &Doc, tree: &Expr) -> Result<Value, EvalFault> {
+    fn evaluated(&self, alloc: Global, document: &Doc, tree: &Expr) -> Result<Value, EvalFault> {
         let mut world = PlainWorld { alloc, document };
         eval(
             alloc,
@@ -189,20 +199,13 @@ impl Scene {
 
     // Keeps what is read for an expression.
     fn keep(&mut self, alloc: Global, text: &str) -> Result<(), Fault> {
-        let tree = self.parsed(alloc, text).map_err(|_| Fault::NoCase)?;
-        let reads = self.read(alloc, &tree)?;
-        self.reads = reads;
+        let document = self.document()?;
+        let tree = self.tree(alloc, text)?;
+        self.reads = self.read(alloc, document, &tree);
         Ok(())
     }
 
-    fn read(&self, alloc: Global, tree: &Expr) -> Result<Vec<Read>, Fault> {
-        match &self.document {
-            None => Err(Fault::NoCase),
-            Some(document) => Ok(self.read_in(alloc, document, tree)),
-        }
-    }
-
-    fn read_in(&self, alloc: Global, document: &Doc, tree: &Expr) -> Vec<Read> {
+    fn read(&self, alloc: Global, document: &Doc, tree: &Expr) -> Vec<Read> {
         let mut world = Logged::new(alloc, PlainWorld { alloc, document });
         let _ = eval(
             alloc,
@@ -217,37 +220,29 @@ impl Scene {
 
     // Asks again in the present document what was read.
     fn ask_again(&self, alloc: Global, out: &mut Text) -> Result<(), Fault> {
-        match &self.document {
-            None => Err(Fault::NoCase),
-            Some(document) => {
-                let mut world = PlainWorld { alloc, document };
-                let mut steps = Steps { ran: 0, asked: 0 };
-                let change = holds(alloc, self.reads.as_slice(), &mut world, &mut steps)?;
-                push_held(out, self.reads.len(), steps.asked, change)?;
-                Ok(())
-            }
-        }
+        let document = self.document()?;
+        let mut world = PlainWorld { alloc, document };
+        let mut steps = Steps { ran: 0, asked: 0 };
+        let change = holds(alloc, self.reads.as_slice(), &mut world, &mut steps)?;
+        push_held(out, self.reads.len(), steps.asked, change)?;
+        Ok(())
     }
 
     // Adds the string that a value template stands for.
     fn expand(&self, alloc: Global, out: &mut Text, text: &str) -> Result<(), Fault> {
         match parse_avt(alloc, text, &self.context.scope) {
-            Ok(avt) => {
-                let answer = self.expanded(alloc, &avt)?;
-                push_answer(alloc, out, answer)
-            }
+            Ok(avt) => self.push_expanded(alloc, out, &avt),
             Err(fault) => push_bad_template(alloc, out, fault),
         }
     }
 
-    fn expanded(&self, alloc: Global, avt: &Avt) -> Result<Result<Value, EvalFault>, Fault> {
-        match &self.document {
-            None => Err(Fault::NoCase),
-            Some(document) => Ok(self.expanded_in(alloc, document, avt)),
-        }
+    fn push_expanded(&self, alloc: Global, out: &mut Text, avt: &Avt) -> Result<(), Fault> {
+        let document = self.document()?;
+        let answer = self.expanded(alloc, document, avt);
+        push_answer(alloc, out, &answer)
     }
 
-    fn expanded_in(&self, alloc: Global, document: &Doc, avt: &Avt) -> Result<Value, EvalFault> {
+    fn expanded(&self, alloc: Global, document: &Doc, avt: &Avt) -> Result<Value, EvalFault> {
         let world = PlainWorld { alloc, document };
         let mut world = Eval { world };
         let text = expand(
@@ -263,12 +258,22 @@ impl Scene {
 
     fn answer(&self, alloc: Global, out: &mut Text, text: &str) -> Result<(), Fault> {
         match self.parsed(alloc, text) {
-            Ok(tree) => {
-                let answer = self.evaluated(alloc, &tree)?;
-                push_answer(alloc, out, answer)
-            }
+            Ok(tree) => self.push_evaluated(alloc, out, &tree),
             Err(fault) => push_refused(alloc, out, fault),
         }
+    }
+
+    fn push_evaluated(&self, alloc: Global, out: &mut Text, tree: &Expr) -> Result<(), Fault> {
+        let document = self.document()?;
+        let answer = self.evaluated(alloc, document, tree);
+        push_answer(alloc, out, &answer)
+    }
+}
+
+fn value_of(answer: Result<Value, EvalFault>) -> Result<Value, Fault> {
+    match answer {
+        Ok(value) => Ok(value),
+        Err(_) => Err(Fault::NoCase),
     }
 }
 

@@ -11,13 +11,13 @@ use xt_tree::{NodeRef, Value};
 pub fn push_answer(
     alloc: Global,
     out: &mut Text,
-    answer: Result<Value, EvalFault>,
+    answer: &Result<Value, EvalFault>,
 ) -> Result<(), Fault> {
     match answer {
         Ok(value) => Ok(push_value(alloc, out, value)?),
         Err(EvalFault::Memory) => Err(Fault::Memory),
         Err(EvalFault::Refused(Refusal::Here(code))) => {
-            push_code(alloc, out, Code::Dynamic(code))
+            push_code(alloc, out, Code::Dynamic(*code))
         }
         Err(EvalFault::Refused(Refusal::At(..))) => Err(Fault::NoCase),
         Err(EvalFault::Wants(name)) => {
@@ -35,7 +35,7 @@ pub fn push_code(alloc: Global, out: &mut Text, code: Code) -> Result<(), Fault>
     Ok(())
 }
 
-fn push_value(alloc: Global, out: &mut Text, value: Value) -> Result<(), Memory> {
+fn push_value(alloc: Global, out: &mut Text, value: &Value) -> Result<(), Memory> {
     match value {
         Value::Number(number) => {
             let text = number.text(alloc)?;
@@ -46,7 +46,7 @@ fn push_value(alloc: Global, out: &mut Text, value: Value) -> Result<(), Memory>
             out.push_str("text ")?;
             push_quoted(out, text.as_str())
         }
-        Value::Boolean(holds) => out.push_str(if holds {
+        Value::Boolean(holds) => out.push_str(if *holds {
             "boolean true"
         } else {
             "boolean false"
