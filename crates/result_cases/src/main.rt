@@ -8,21 +8,27 @@ mod stream;
 use cases::{Fault, Word, push_part, push_quoted, text_of, words_of};
 use std::alloc::Global;
 use std::io;
-use std::io::{BufRead, BufReader};
 use stream::stream_of;
 use xt_result::{messages, pyx, shape, text};
 use xt_text::{Memory, Text};
 
 fn main(rt: HostRuntime) -> io::Result<()> {
-    let alloc = rt.alloc();
-    for line in BufReader::new(alloc, rt.reader())?.lines(alloc) {
-        let line = line?;
-        match shown(alloc, line.as_str()) {
-            Ok(text) => rt.println(text.as_str())?,
-            Err(Memory) => rt.println("memory")?,
-        }
+    let text = io::read_to_string(rt.alloc(), rt.reader())?;
+    answer_all(&rt, rt.alloc(), text.as_str())
+}
+
+fn answer_all(rt: &impl Print, alloc: Global, text: &str) -> io::Result<()> {
+    for line in text.lines() {
+        print(rt, shown(alloc, line))?;
     }
     Ok(())
+}
+
+fn print(rt: &impl Print, shown: Result<Text, Memory>) -> io::Result<()> {
+    match shown {
+        Ok(text) => rt.println(text.as_str()),
+        Err(Memory) => rt.println("memory"),
+    }
 }
 
 // What is printed for a line.
@@ -50,9 +56,7 @@ fn answer(alloc: Global, out: &mut Text, line: &str) -> Result<(), Fault> {
 }
 
 fn push_lines(alloc: Global, out: &mut Text, words: &[Word]) -> Result<(), Fault> {
-    let items = stream_of(alloc, words)?;
-    let tree = shape(&items)?;
-    let lines = pyx(alloc, &tree)?;
+    let lines = lines_of(alloc, words)?;
     for line in &lines {
         if !out.is_empty() {
             out.push_str(" | ")?;
@@ -62,17 +66,26 @@ fn push_lines(alloc: Global, out: &mut Text, words: &[Word]) -> Result<(), Fault
     Ok(())
 }
 
-fn push_text(alloc: Global, out: &mut Text, words: &[Word]) -> Result<(), Fault> {
+fn lines_of(alloc: Global, words: &[Word]) -> Result<Vec<Text>, Fault> {
     let items = stream_of(alloc, words)?;
     let tree = shape(&items)?;
-    let whole = text(alloc, &tree)?;
-    push_quoted(out, whole.as_str())?;
+    Ok(pyx(alloc, &tree)?)
+}
+
+fn push_text(alloc: Global, out: &mut Text, words: &[Word]) -> Result<(), Fault> {
+    let text = text_in(alloc, words)?;
+    push_quoted(out, text.as_str())?;
     Ok(())
 }
 
-fn push_messages(alloc: Global, out: &mut Text, words: &[Word]) -> Result<(), Fault> {
+fn text_in(alloc: Global, words: &[Word]) -> Result<Text, Fault> {
     let items = stream_of(alloc, words)?;
-    let list = messages(alloc, &items)?;
+    let tree = shape(&items)?;
+    Ok(text(alloc, &tree)?)
+}
+
+fn push_messages(alloc: Global, out: &mut Text, words: &[Word]) -> Result<(), Fault> {
+    let list = messages_in(alloc, words)?;
     if list.is_empty() {
         push_part(out, "none")?;
     }
@@ -81,4 +94,9 @@ fn push_messages(alloc: Global, out: &mut Text, words: &[Word]) -> Result<(), Fa
         push_quoted(out, message.as_str())?;
     }
     Ok(())
+}
+
+fn messages_in(alloc: Global, words: &[Word]) -> Result<Vec<Text>, Fault> {
+    let items = stream_of(alloc, words)?;
+    Ok(messages(alloc, &items)?)
 }

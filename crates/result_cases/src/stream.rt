@@ -89,41 +89,43 @@ fn take(alloc: Global, open: &mut Vec<Open>, word: &str) -> Result<(), Fault> {
             Ok(())
         }
         '>' => end(alloc, open),
-        '-' => {
-            let text = Text::from_str(alloc, rest)?;
-            add(open, Item::Text(text))
-        }
-        '+' => {
-            let node = namespace(alloc, rest)?;
-            add(open, Item::Namespace(node))
-        }
-        '*' => {
-            let node = namespace(alloc, rest)?;
-            copy(open, node)
-        }
-        '_' => add(open, Item::Hole),
-        _ => Err(Fault::NoCase),
+        _ => last_of(open)?.take(alloc, mark, rest),
     }
 }
 
-// Adds an item to the last that is open.
-fn add(open: &mut Vec<Open>, item: Item) -> Result<(), Fault> {
+// The last item that is open.
+fn last_of(open: &mut Vec<Open>) -> Result<&mut Open, Fault> {
     match open.last_mut() {
-        Some(last) => {
-            last.items.push(item)?;
-            Ok(())
-        }
+        Some(last) => Ok(last),
         None => Err(Fault::NoCase),
     }
 }
 
-fn copy(open: &mut Vec<Open>, node: Namespace) -> Result<(), Fault> {
-    match open.last_mut() {
-        Some(last) => {
-            last.namespaces.push(node)?;
-            Ok(())
+impl Open {
+    // Takes a word that is an item by itself, or a namespace node of the element.
+    fn take(&mut self, alloc: Global, mark: char, rest: &str) -> Result<(), Fault> {
+        match mark {
+            '-' => {
+                let text = Text::from_str(alloc, rest)?;
+                self.add(Item::Text(text))
+            }
+            '+' => {
+                let node = namespace(alloc, rest)?;
+                self.add(Item::Namespace(node))
+            }
+            '*' => {
+                let node = namespace(alloc, rest)?;
+                self.namespaces.push(node)?;
+                Ok(())
+            }
+            '_' => self.add(Item::Hole),
+            _ => Err(Fault::NoCase),
         }
-        None => Err(Fault::NoCase),
+    }
+
+    fn add(&mut self, item: Item) -> Result<(), Fault> {
+        self.items.push(item)?;
+        Ok(())
     }
 }
 
@@ -131,8 +133,9 @@ fn copy(open: &mut Vec<Open>, node: Namespace) -> Result<(), Fault> {
 fn end(alloc: Global, open: &mut Vec<Open>) -> Result<(), Fault> {
     match open.pop() {
         Some(last) => {
+            let around = last_of(open)?;
             let item = item_of(alloc, last)?;
-            add(open, item)
+            around.add(item)
         }
         None => Err(Fault::NoCase),
     }
