@@ -19,11 +19,16 @@ pub fn push_answer(
     modules: &IndexMap<String, Doc>,
 ) -> Result<(), Fault> {
     let main = Text::from_str(alloc, "main")?;
-    match sheet(alloc, modules, &main) {
-        Ok(sheet) => push_asked(out, call, &sheet),
+    let answer = sheet(alloc, modules, &main);
+    push_told(out, call, &answer)
+}
+
+fn push_told(out: &mut Text, call: &str, answer: &Result<Sheet, SheetFault>) -> Result<(), Fault> {
+    match answer {
+        Ok(sheet) => push_asked(out, call, sheet),
         Err(SheetFault::Memory) => Err(Fault::Memory),
         Err(SheetFault::NoMain) => Ok(out.push_str("S01")?),
-        Err(SheetFault::Refused(refusal)) => Ok(push_refusal(out, &refusal)?),
+        Err(SheetFault::Refused(refusal)) => Ok(push_refusal(out, refusal)?),
     }
 }
 

@@ -35,8 +35,8 @@ pub fn modules_of(alloc: Global, words: &[Word]) -> Result<IndexMap<String, Doc>
 fn hold(alloc: Global, modules: &mut IndexMap<String, Doc>, source: Source) -> Result<(), Fault> {
     let mut source = source;
     source.end_all(alloc)?;
-    let document = built(alloc, source.lines.as_slice())?;
     let key = String::from_str(alloc, source.name.as_str())?;
+    let document = built(alloc, source.lines.as_slice())?;
     modules.insert(key, document)?;
     Ok(())
 }
@@ -81,15 +81,19 @@ fn begun(alloc: Global, kind: Kind, name: &str) -> Result<Source, Memory> {
         lines: Vec::new(alloc),
         open: Vec::new(alloc),
     };
-    match kind {
-        Kind::Module => {}
-        Kind::Sheet => source.start_sheet(alloc)?,
-        Kind::Body => source.start_body(alloc)?,
-    }
+    source.begin(alloc, kind)?;
     Ok(source)
 }
 
 impl Source {
+    fn begin(&mut self, alloc: Global, kind: Kind) -> Result<(), Memory> {
+        match kind {
+            Kind::Module => Ok(()),
+            Kind::Sheet => self.start_sheet(alloc),
+            Kind::Body => self.start_body(alloc),
+        }
+    }
+
     fn start_sheet(&mut self, alloc: Global) -> Result<(), Memory> {
         self.start(alloc, "xsl:", "stylesheet")?;
         self.push(alloc, "Aversion 1.0")?;

@@ -20,23 +20,28 @@ use cases::Fault;
 use scene::Scene;
 use std::alloc::Global;
 use std::io;
-use std::io::{BufRead, BufReader};
 use xt_text::{Memory, Text};
 
 fn main(rt: HostRuntime) -> io::Result<()> {
-    let alloc = rt.alloc();
-    let mut scene = match Scene::new(alloc) {
-        Ok(scene) => scene,
-        Err(Memory) => return rt.println("memory"),
-    };
-    for line in BufReader::new(alloc, rt.reader())?.lines(alloc) {
-        let line = line?;
-        match shown(alloc, &mut scene, line.as_str()) {
-            Ok(text) => rt.println(text.as_str())?,
-            Err(Memory) => rt.println("memory")?,
-        }
+    let text = io::read_to_string(rt.alloc(), rt.reader())?;
+    match Scene::new(rt.alloc()) {
+        Ok(mut scene) => take_all(&rt, rt.alloc(), &mut scene, text.as_str()),
+        Err(Memory) => rt.println("memory"),
+    }
+}
+
+fn take_all(rt: &impl Print, alloc: Global, scene: &mut Scene, text: &str) -> io::Result<()> {
+    for line in text.lines() {
+        print(rt, shown(alloc, scene, line))?;
     }
     Ok(())
+}
+
+fn print(rt: &impl Print, shown: Result<Text, Memory>) -> io::Result<()> {
+    match shown {
+        Ok(text) => rt.println(text.as_str()),
+        Err(Memory) => rt.println("memory"),
+    }
 }
 
 // What is printed for a line.

@@ -7,7 +7,7 @@ use cases::{
 use std::alloc::Global;
 use xp_eval::Eval;
 use xp_parse::parse;
-use xp_syntax::{Pattern, Rules};
+use xp_syntax::{Expr, Pattern, Rules};
 use xt_ask::{Bindings, Candidates, Context, EvalFault, Evaluate, Focus, Supplies};
 use xt_match::{choose, matches};
 use xt_names::Scope;
@@ -90,32 +90,37 @@ impl Scene {
         Ok(())
     }
 
-    // Adds the nodes that match.
-    fn answer(&self, alloc: Global, out: &mut Text, pattern: &Pattern) -> Result<(), Fault> {
+    fn document(&self) -> Result<&Doc, Fault> {
         match &self.document {
             None => Err(Fault::NoCase),
-            Some(document) => {
-                let world = PlainWorld { alloc, document };
-                let mut world = Eval { world };
-                let nodes = self.all_nodes(alloc, &mut world)?;
-                self.push_matching(alloc, out, pattern, nodes.as_slice(), &mut world)
-            }
+            Some(document) => Ok(document),
         }
+    }
+
+    // Adds the nodes that match.
+    fn answer(&self, alloc: Global, out: &mut Text, pattern: &Pattern) -> Result<(), Fault> {
+        let document = self.document()?;
+        let world = PlainWorld { alloc, document };
+        let mut world = Eval { world };
+        let nodes = self.all_nodes(alloc, &mut world)?;
+        self.push_matching(alloc, out, pattern, nodes.as_slice(), &mut world)
     }
 
     // All nodes of the document, in its order.
     fn all_nodes<W: Evaluate>(&self, alloc: Global, world: &mut W) -> Result<Vec<NodeRef>, Fault> {
-        let all = parse(alloc, "//. | //@* | //namespace::*", &self.context.scope);
-        let all = all.map_err(|_| Fault::NoCase)?;
+        let all = self.tree(alloc, "//. | //@* | //namespace::*")?;
         let focus = Focus {
             node: root(),
             position: None,
             size: None,
         };
-        let value = world.value(alloc, &all, focus, &self.context, &self.supplies);
-        match answered(value)? {
-            Value::Nodes(nodes) => Ok(nodes),
-            _ => Err(Fault::NoCase),
+        nodes_in(world.value(alloc, &all, focus, &self.context, &self.supplies))
+    }
+
+    fn tree(&self, alloc: Global, text: &str) -> Result<Expr, Fault> {
+        match parse(alloc, text, &self.context.scope) {
+            Ok(tree) => Ok(tree),
+            Err(_) => Err(Fault::NoCase),
         }
     }
 
@@ -145,26 +150,29 @@ impl Scene {
         words: &[Word],
         candidates: Candidates,
     ) -> Result<(), Fault> {
+        let document = self.document()?;
         let node = node(text_at(words, 1)?)?;
         let mode = mode_of(alloc, text_at(words, 2)?)?;
-        match &self.document {
-            None => Err(Fault::NoCase),
-            Some(document) => {
-                let world = PlainWorld { alloc, document };
-                let chosen = choose(
-                    alloc,
-                    &self.rules,
-                    &[],
-                    node,
-                    &mode,
-                    candidates,
-                    &self.supplies,
-                    &mut Eval { world },
-                );
-                push_chosen(out, answered(chosen)?)?;
-                Ok(())
-            }
-        }
+        let world = PlainWorld { alloc, document };
+        let chosen = choose(
+            alloc,
+            &self.rules,
+            &[],
+            node,
+            &mode,
+            candidates,
+            &self.supplies,
+            &mut Eval { world },
+        );
+        push_answered(out, chosen)
+    }
+}
+
+fn nodes_in(answer: Result<Value, EvalFault>) -> Result<Vec<NodeRef>, Fault> {
+    match answer {
+        Ok(Value::Nodes(nodes)) => Ok(nodes),
+        Err(EvalFault::Memory) => Err(Fault::Memory),
+        _ => Err(Fault::NoCase),
     }
 }
 
@@ -175,6 +183,12 @@ fn answered<T: Drop>(answer: Result<T, EvalFault>) -> Result<T, Fault> {
         Err(EvalFault::Memory) => Err(Fault::Memory),
         Err(_) => Err(Fault::NoCase),
     }
+}
+
+fn push_answered(out: &mut Text, chosen: Result<Option<u64>, EvalFault>) -> Result<(), Fault> {
+    let chosen = answered(chosen)?;
+    push_chosen(out, chosen)?;
+    Ok(())
 }
 
 fn push_chosen(out: &mut Text, chosen: Option<u64>) -> Result<(), Memory> {

@@ -25,6 +25,7 @@ use indexmap::IndexMap;
 use modules::modules_of;
 use std::alloc::Global;
 use std::{env, io};
+use xp_syntax::Sheet;
 use xt_compile::{SheetFault, sheet};
 use xt_import::{ListedModule, link_fault, reading_order, stylesheets, tree};
 use xt_sheet::{Fault, check};
@@ -32,37 +33,52 @@ use xt_text::{Memory, Text};
 use xt_tree::Doc;
 
 fn main(rt: HostRuntime) -> io::Result<()> {
-    let alloc = rt.alloc();
-    let words: Vec<String> = env::args(&rt)?.collect(alloc)?;
-    let benches = match words.as_slice() {
+    let words: Vec<String> = env::args(&rt)?.collect(rt.alloc())?;
+    print_all(&rt, rt.alloc(), words.as_slice())
+}
+
+fn print_all(rt: &impl Print, alloc: Global, words: &[String]) -> io::Result<()> {
+    let benches = match words {
         [_, benches @ ..] => benches,
         [] => &[],
     };
     for bench in benches.chunks(3) {
         if let [bench, shape, size] = bench {
             let size = size.as_str().parse::<u64>().unwrap_or(0);
-            match outcome(alloc, bench.as_str(), shape.as_str(), size) {
-                Ok(text) => rt.println(text)?,
-                Err(Memory) => rt.println("memory")?,
-            }
+            print(rt, outcome(alloc, bench.as_str(), shape.as_str(), size))?;
         }
     }
     Ok(())
 }
 
+fn print(rt: &impl Print, outcome: Result<String, Memory>) -> io::Result<()> {
+    match outcome {
+        Ok(text) => rt.println(text),
+        Err(Memory) => rt.println("memory"),
+    }
+}
+
 fn outcome(alloc: Global, bench: &str, shape: &str, size: u64) -> Result<String, Memory> {
     let modules = modules_of(alloc, shape, size)?;
-    let found = match bench {
-        "make" => count(alloc, modules.len(), "modules")?,
-        "order" => ordered(alloc, &modules)?,
-        "tree" => listed(alloc, &modules)?,
-        "fault" => first_fault(alloc, &modules)?,
-        "sheets" => sheets_in_order(alloc, &modules)?,
-        "structure" => structure(alloc, &modules)?,
-        "compile" => compiled(alloc, &modules)?,
-        _ => String::from_str(alloc, "no such bench")?,
-    };
+    let found = found(alloc, bench, &modules)?;
     Ok(format!(in alloc; "{bench} {shape} {size}: {found}")?)
+}
+
+fn found(alloc: Global, bench: &str, modules: &IndexMap<String, Doc>) -> Result<String, Memory> {
+    match bench {
+        "make" => count(alloc, modules.len(), "modules"),
+        "order" => ordered(alloc, modules),
+        "tree" => listed(alloc, modules),
+        "fault" => first_fault(alloc, modules),
+        "sheets" => sheets_in_order(alloc, modules),
+        "structure" => structure(alloc, modules),
+        "compile" => compiled(alloc, modules),
+        _ => string_of(alloc, "no such bench"),
+    }
+}
+
+fn string_of(alloc: Global, text: &str) -> Result<String, Memory> {
+    Ok(String::from_str(alloc, text)?)
 }
 
 fn count(alloc: Global, number: usize, what: &str) -> Result<String, Memory> {
@@ -76,12 +92,12 @@ fn ordered(alloc: Global, modules: &IndexMap<String, Doc>) -> Result<String, Mem
 
 fn listed(alloc: Global, modules: &IndexMap<String, Doc>) -> Result<String, Memory> {
     let tree = tree(alloc, modules, "main")?;
-    let faults = tree
-        .modules
-        .iter()
-        .filter(|module| has_fault(module))
-        .count();
-    let listed = tree.modules.len();
+    listed_modules(alloc, tree.modules.as_slice())
+}
+
+fn listed_modules(alloc: Global, modules: &[ListedModule]) -> Result<String, Memory> {
+    let faults = modules.iter().filter(|module| has_fault(module)).count();
+    let listed = modules.len();
     Ok(format!(in alloc; "{listed} read, {faults} with a fault")?)
 }
 
@@ -91,12 +107,13 @@ fn has_fault(module: &ListedModule) -> bool {
 
 fn first_fault(alloc: Global, modules: &IndexMap<String, Doc>) -> Result<String, Memory> {
     let main = Text::from_str(alloc, "main")?;
-    told(alloc, link_fault(alloc, modules, &main)?)
+    let fault = link_fault(alloc, modules, &main)?;
+    told(alloc, &fault)
 }
 
-fn told(alloc: Global, fault: Option<Fault>) -> Result<String, Memory> {
+fn told(alloc: Global, fault: &Option<Fault>) -> Result<String, Memory> {
     match fault {
-        None => Ok(String::from_str(alloc, "none")?),
+        None => string_of(alloc, "none"),
         Some(fault) => count(alloc, usize::from(fault.code.number()), "is its code"),
     }
 }
@@ -104,17 +121,22 @@ fn told(alloc: Global, fault: Option<Fault>) -> Result<String, Memory> {
 fn sheets_in_order(alloc: Global, modules: &IndexMap<String, Doc>) -> Result<String, Memory> {
     let main = Text::from_str(alloc, "main")?;
     match stylesheets(alloc, modules, &main)? {
-        None => Ok(String::from_str(alloc, "none")?),
+        None => string_of(alloc, "none"),
         Some(sheets) => count(alloc, sheets.len(), "stylesheets"),
     }
 }
 
 fn compiled(alloc: Global, modules: &IndexMap<String, Doc>) -> Result<String, Memory> {
     let main = Text::from_str(alloc, "main")?;
-    match sheet(alloc, modules, &main) {
+    let answer = sheet(alloc, modules, &main);
+    outcome_of(alloc, &answer)
+}
+
+fn outcome_of(alloc: Global, answer: &Result<Sheet, SheetFault>) -> Result<String, Memory> {
+    match answer {
         Ok(sheet) => count(alloc, sheet.units.len(), "units"),
         Err(SheetFault::Memory) => Err(Memory),
-        Err(SheetFault::NoMain) => Ok(String::from_str(alloc, "no module")?),
+        Err(SheetFault::NoMain) => string_of(alloc, "no module"),
         Err(SheetFault::Refused(refusal)) => {
             count(alloc, usize::from(refusal.code.number()), "is its code")
         }
@@ -123,10 +145,10 @@ fn compiled(alloc: Global, modules: &IndexMap<String, Doc>) -> Result<String, Me
 
 fn structure(alloc: Global, modules: &IndexMap<String, Doc>) -> Result<String, Memory> {
     match modules.get("main") {
-        None => Ok(String::from_str(alloc, "no module")?),
+        None => string_of(alloc, "no module"),
         Some(document) => {
             let module = check(alloc, document)?;
-            told(alloc, module.fault)
+            told(alloc, &module.fault)
         }
     }
 }

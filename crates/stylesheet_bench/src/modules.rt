@@ -29,19 +29,28 @@ pub enum Lead {
 /// The modules of this shape and size, of which the principal one is `main`.
 pub fn modules_of(alloc: Global, shape: &str, size: u64) -> Result<IndexMap<String, Doc>, Memory> {
     let mut modules = IndexMap::new(alloc);
-    match shape {
-        "chain" => add_linked(alloc, &mut modules, size, 1, 0)?,
-        "web" => add_linked(alloc, &mut modules, size, LINKS, 0)?,
-        "ring" => add_linked(alloc, &mut modules, size, 1, size)?,
-        "fan" => add_fan(alloc, &mut modules, size)?,
-        "import-chain" => linked::add_chain(alloc, &mut modules, Lead::Import, size)?,
-        "include-chain" => linked::add_chain(alloc, &mut modules, Lead::Include, size)?,
-        "import-fan" => linked::add_fan(alloc, &mut modules, Lead::Import, size)?,
-        "include-fan" => linked::add_fan(alloc, &mut modules, Lead::Include, size)?,
-        "faulty-fan" => linked::add_faulty_fan(alloc, &mut modules, size)?,
-        _ => add_templates(alloc, &mut modules, size)?,
-    }
+    add_all(alloc, &mut modules, shape, size)?;
     Ok(modules)
+}
+
+fn add_all(
+    alloc: Global,
+    modules: &mut IndexMap<String, Doc>,
+    shape: &str,
+    size: u64,
+) -> Result<(), Memory> {
+    match shape {
+        "chain" => add_linked(alloc, modules, size, 1, 0),
+        "web" => add_linked(alloc, modules, size, LINKS, 0),
+        "ring" => add_linked(alloc, modules, size, 1, size),
+        "fan" => add_fan(alloc, modules, size),
+        "import-chain" => linked::add_chain(alloc, modules, Lead::Import, size),
+        "include-chain" => linked::add_chain(alloc, modules, Lead::Include, size),
+        "import-fan" => linked::add_fan(alloc, modules, Lead::Import, size),
+        "include-fan" => linked::add_fan(alloc, modules, Lead::Include, size),
+        "faulty-fan" => linked::add_faulty_fan(alloc, modules, size),
+        _ => add_templates(alloc, modules, size),
+    }
 }
 
 // So many modules, each of which leads to so many of those behind it, and in a ring of this length to those in front.

@@ -4,7 +4,7 @@ use std::alloc::Global;
 use xt_build::{BuildFault, Built, Line, build, lines};
 use xt_names::Scope;
 use xt_text::Memory;
-use xt_tree::NodeId;
+use xt_tree::{Doc, NodeId};
 
 /// How deep the elements of the shape `deep` stand, and those of the shape `random` at most.
 const DEPTH: u64 = 200;
@@ -14,23 +14,27 @@ const RANDOM_DEPTH: u64 = 20;
 /// How many nodes are built, or the refusal.
 pub fn build_outcome(alloc: Global, shape: &str, size: u64) -> Result<String, Memory> {
     match built(alloc, shape, size)? {
-        Ok(built) => {
-            let next = built.next.number;
-            Ok(format!(in alloc; "{next} nodes")?)
-        }
+        Ok(built) => counted(alloc, built.next.number, "nodes"),
         Err(fault) => refusal(alloc, fault),
     }
+}
+
+/// A count of what this word says.
+pub fn counted(alloc: Global, count: u64, what: &str) -> Result<String, Memory> {
+    Ok(format!(in alloc; "{count} {what}")?)
 }
 
 /// How many lines are written for the document, or the refusal.
 pub fn lines_outcome(alloc: Global, shape: &str, size: u64) -> Result<String, Memory> {
     match built(alloc, shape, size)? {
-        Ok(built) => {
-            let count = lines(alloc, &built.document)?.len();
-            Ok(format!(in alloc; "{count} lines")?)
-        }
+        Ok(built) => counted_lines(alloc, &built.document),
         Err(fault) => refusal(alloc, fault),
     }
+}
+
+fn counted_lines(alloc: Global, document: &Doc) -> Result<String, Memory> {
+    let count = lines(alloc, document)?.len();
+    counted(alloc, count as u64, "lines")
 }
 
 /// The document of the body, or why it has none.
@@ -59,16 +63,20 @@ fn body(alloc: Global, shape: &str, size: u64) -> Result<Vec<Line>, Memory> {
         return Ok(body);
     }
     push(alloc, &mut body, "(r")?;
-    match shape {
-        "wide" => push_wide(alloc, &mut body, size)?,
-        "deep" => push_deep(alloc, &mut body, size)?,
-        "random" => push_random(alloc, &mut body, size)?,
-        "attributes" => push_attributes(alloc, &mut body, size)?,
-        "scopes" => push_scopes(alloc, &mut body, size)?,
-        _ => {}
-    }
+    push_shape(alloc, &mut body, shape, size)?;
     push(alloc, &mut body, ")r")?;
     Ok(body)
+}
+
+fn push_shape(alloc: Global, body: &mut Vec<Line>, shape: &str, size: u64) -> Result<(), Memory> {
+    match shape {
+        "wide" => push_wide(alloc, body, size),
+        "deep" => push_deep(alloc, body, size),
+        "random" => push_random(alloc, body, size),
+        "attributes" => push_attributes(alloc, body, size),
+        "scopes" => push_scopes(alloc, body, size),
+        _ => Ok(()),
+    }
 }
 
 fn push(alloc: Global, body: &mut Vec<Line>, line: &str) -> Result<(), Memory> {

@@ -1,12 +1,13 @@
 // Expressions evaluated at the root of a document of a size.
 
 use crate::bodies::{built, refusal};
+use crate::string_of;
 use std::alloc::Global;
 use xp_eval::eval;
 use xp_parse::parse;
 use xp_syntax::Expr;
 use xp_values::to_text;
-use xt_ask::{Bindings, Context, Focus, Supplies};
+use xt_ask::{Bindings, Context, EvalFault, Focus, Supplies};
 use xt_names::Scope;
 use xt_plain::PlainWorld;
 use xt_text::Memory;
@@ -24,7 +25,7 @@ fn parsed(alloc: Global, document: &Doc, text: &str) -> Result<String, Memory> {
     let scope = Scope::root(alloc)?;
     match parse(alloc, text, &scope) {
         Ok(tree) => evaluated(alloc, document, &tree, scope),
-        Err(_) => Ok(String::from_str(alloc, "no expression")?),
+        Err(_) => string_of(alloc, "no expression"),
     }
 }
 
@@ -48,15 +49,24 @@ fn evaluated(alloc: Global, document: &Doc, tree: &Expr, scope: Scope) -> Result
         size: None,
     };
     let mut world = PlainWorld { alloc, document };
-    match eval(alloc, tree, focus, &context, &supplies, &mut world) {
-        Ok(value) => shown(alloc, value, &mut world),
-        Err(_) => Ok(String::from_str(alloc, "refused")?),
+    let answer = eval(alloc, tree, focus, &context, &supplies, &mut world);
+    shown(alloc, answer, &mut world)
+}
+
+fn shown(
+    alloc: Global,
+    answer: Result<Value, EvalFault>,
+    world: &mut PlainWorld<'_>,
+) -> Result<String, Memory> {
+    match answer {
+        Ok(value) => text_of(alloc, value, world),
+        Err(_) => string_of(alloc, "refused"),
     }
 }
 
-fn shown(alloc: Global, value: Value, world: &mut PlainWorld<'_>) -> Result<String, Memory> {
+fn text_of(alloc: Global, value: Value, world: &mut PlainWorld<'_>) -> Result<String, Memory> {
     match to_text(alloc, value, world) {
-        Ok(text) => Ok(String::from_str(alloc, text.as_str())?),
-        Err(_) => Ok(String::from_str(alloc, "refused")?),
+        Ok(text) => string_of(alloc, text.as_str()),
+        Err(_) => string_of(alloc, "refused"),
     }
 }

@@ -1,7 +1,8 @@
 // Expressions of a shape and a size.
 
+use crate::string_of;
 use std::alloc::Global;
-use xp_parse::parse;
+use xp_parse::{ParseFault, parse};
 use xt_names::Scope;
 use xt_text::Memory;
 
@@ -10,14 +11,18 @@ pub fn outcome(alloc: Global, shape: &str, size: u64) -> Result<String, Memory> 
     let text = text(alloc, shape, size)?;
     let scope = Scope::root(alloc)?;
     match parse(alloc, text.as_str(), &scope) {
-        Ok(_) => Ok(String::from_str(alloc, "tree")?),
-        Err(fault) => match fault.code() {
-            None => Err(Memory),
-            Some(code) => {
-                let number = code.number();
-                Ok(format!(in alloc; "S{number}")?)
-            }
-        },
+        Ok(_) => string_of(alloc, "tree"),
+        Err(fault) => refusal(alloc, fault),
+    }
+}
+
+fn refusal(alloc: Global, fault: ParseFault) -> Result<String, Memory> {
+    match fault.code() {
+        None => Err(Memory),
+        Some(code) => {
+            let number = code.number();
+            Ok(format!(in alloc; "S{number}")?)
+        }
     }
 }
 

@@ -28,34 +28,49 @@ use std::{env, io};
 use xt_text::Memory;
 
 fn main(rt: HostRuntime) -> io::Result<()> {
-    let alloc = rt.alloc();
-    let words: Vec<String> = env::args(&rt)?.collect(alloc)?;
-    let benches = match words.as_slice() {
+    let words: Vec<String> = env::args(&rt)?.collect(rt.alloc())?;
+    print_all(&rt, rt.alloc(), words.as_slice())
+}
+
+fn print_all(rt: &impl Print, alloc: Global, words: &[String]) -> io::Result<()> {
+    let benches = match words {
         [_, benches @ ..] => benches,
         [] => &[],
     };
     for bench in benches.chunks(3) {
         if let [bench, shape, size] = bench {
             let size = size.as_str().parse::<u64>().unwrap_or(0);
-            match outcome(alloc, bench.as_str(), shape.as_str(), size) {
-                Ok(text) => rt.println(text)?,
-                Err(Memory) => rt.println("memory")?,
-            }
+            print(rt, outcome(alloc, bench.as_str(), shape.as_str(), size))?;
         }
     }
     Ok(())
 }
 
+fn print(rt: &impl Print, outcome: Result<String, Memory>) -> io::Result<()> {
+    match outcome {
+        Ok(text) => rt.println(text),
+        Err(Memory) => rt.println("memory"),
+    }
+}
+
 fn outcome(alloc: Global, bench: &str, shape: &str, size: u64) -> Result<String, Memory> {
-    let found = match bench {
-        "build" => bodies::build_outcome(alloc, shape, size)?,
-        "lines" => bodies::lines_outcome(alloc, shape, size)?,
-        "parse" => expressions::outcome(alloc, shape, size)?,
-        "evaluate" => evaluation::outcome(alloc, shape, size)?,
-        "find" | "child" | "parent" | "descendant" | "following-sibling" | "order" => {
-            nodes::outcome(alloc, bench, shape, size)?
-        }
-        _ => String::from_str(alloc, "no such bench")?,
-    };
+    let found = found(alloc, bench, shape, size)?;
     Ok(format!(in alloc; "{bench} {shape} {size}: {found}")?)
+}
+
+fn found(alloc: Global, bench: &str, shape: &str, size: u64) -> Result<String, Memory> {
+    match bench {
+        "build" => bodies::build_outcome(alloc, shape, size),
+        "lines" => bodies::lines_outcome(alloc, shape, size),
+        "parse" => expressions::outcome(alloc, shape, size),
+        "evaluate" => evaluation::outcome(alloc, shape, size),
+        "find" | "child" | "parent" | "descendant" | "following-sibling" | "order" => {
+            nodes::outcome(alloc, bench, shape, size)
+        }
+        _ => string_of(alloc, "no such bench"),
+    }
+}
+
+fn string_of(alloc: Global, text: &str) -> Result<String, Memory> {
+    Ok(String::from_str(alloc, text)?)
 }

@@ -1,8 +1,9 @@
 // Nodes of a document of a shape and a size: found by their numbers, by steps, and brought in order.
 
-use crate::bodies::{built, refusal};
+use crate::bodies::{built, counted, refusal};
 use std::alloc::Global;
 use xp_axes::{Axis, Test, order, step};
+use xt_build::Built;
 use xt_text::Memory;
 use xt_tree::{Doc, NodeId, NodeRef};
 
@@ -12,12 +13,14 @@ const STRIDE: u64 = 7919;
 /// How many nodes are found, or the refusal of the document.
 pub fn outcome(alloc: Global, bench: &str, shape: &str, size: u64) -> Result<String, Memory> {
     match built(alloc, shape, size)? {
-        Ok(built) => {
-            let count = found(alloc, bench, &built.document, built.next.number)?;
-            Ok(format!(in alloc; "{count} nodes")?)
-        }
+        Ok(built) => counted_nodes(alloc, bench, &built),
         Err(fault) => refusal(alloc, fault),
     }
+}
+
+fn counted_nodes(alloc: Global, bench: &str, built: &Built) -> Result<String, Memory> {
+    let count = found(alloc, bench, &built.document, built.next.number)?;
+    counted(alloc, count, "nodes")
 }
 
 // The nodes of the document have the numbers below `next`.
