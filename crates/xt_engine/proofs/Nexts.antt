@@ -9,10 +9,10 @@ use Rattle.spec_stylesheet.specs.Instruction.{instrs}
 use Rattle.spec_meaning.specs.Question as question
 use Rattle.spec_meaning.specs.Question.{Question, Answer, AllRules}
 use Rattle.spec_run.specs.Plan.{Plan, End, Put, Wrap, Enter, Inquire}
-use Rattle.spec_run.specs.Going.{wrap}
+use Rattle.spec_run.specs.Going.{Asked, noted, put, wrap}
 use Rattle.spec_run.specs.Content.{plan, planned, at, each, applied, rule_call, nodes_copied}
 use Rattle.spec_run.specs.Copy.{stream_in}
-use Rattle.spec_run.specs.Passes.{wraps, stays}
+use Rattle.spec_run.specs.Passes.{asks, puts, wraps, stays}
 use Rattle.xp_syntax.specs.declared.instr.Instr.{Instr}
 use Rattle.xp_syntax.specs.InstrView.{instr_of}
 use Rattle.xp_syntax.specs.PartView.{place_of}
@@ -31,7 +31,8 @@ use Rattle.xt_frames.specs.declared.frame.Frame.TheVariants as frames
 use Rattle.xt_frames.specs.declared.run.Run.{Run}
 use Rattle.xt_frames.specs.declared.run.Next.TheVariants.{Went, Halt}
 use Rattle.xt_frames.specs.View.{here_of, inside, inside_at, following, left_frame, left_over}
-use Rattle.xt_frames.specs.Left.{left_in, StepsFrom}
+use Rattle.xt_frames.specs.Left.{left_in, Does, Pushed, StepsFrom}
+use Rattle.xt_frames.proofs.Lefts.{pushed, one_more}
 use Rattle.xt_frames.proofs.Performs.{goes}
 use Rattle.xt_frames.proofs.Frames.{does_steps}
 
@@ -79,6 +80,16 @@ copies_next c x after lt = at_drop_more (λ ns. nodes_copied ns after) c.nodes.i
 
 pub copies_none : (c : Copies) (after : Plan NodeRef) → length c.nodes.items ≤ c.next → left_frame (frames.Copies c) after ≡ after
 copies_none c after le = at_drop_all (λ ns. nodes_copied ns after) c.nodes.items c.next le
+
+pub copied_does : (ask : Question NodeRef → Answer NodeRef) (n : NodeRef) (f : Frame) (old mid new : Run) → mid.frames ≡ old.frames → mid.room ≡ old.room → mid.supplies ≡ old.supplies
+    → going_of mid.going ≡ put (stream_in (ask (question.Copy n))) (noted (Asked (question.Copy n) (ask (question.Copy n))) (going_of old.going)) → Pushed f mid new
+    → Does ask (Inquire (question.Copy n) (λ a. Put (stream_in a) (left_frame f (left_in old)))) (suc (length old.frames.items)) old new Went
+copied_does ask n f old mid new same_frames room supplies going push =
+    let a = ask (question.Copy n) in
+    let one = one_more mid.frames.items new.frames.items f push.frames in
+    let m : length mid.frames.items ≡ length old.frames.items = ap (λ (fs : Vec Frame Global). length fs.items) same_frames in
+    let left = pushed mid new f push.frames ∙ ap (λ (fs : Vec Frame Global). left_frame f (left_over fs.items End)) same_frames in
+    goes ask _ (left_frame f (left_in old)) (put (stream_in a) (noted (Asked (question.Copy n) a) (going_of old.going))) old new left (ap going_of push.going ∙ going) (asks (puts stays)) (omega arith) (omega (arith, one, m)) (push.room ∙ room) (push.supplies ∙ supplies)
 
 -- a sink has ended
 pub wrap_does : (ask : Question NodeRef → Answer NodeRef) (how : Wrapping) (old new : Run) → new.frames ≡ old.frames → new.room ≡ old.room → new.supplies ≡ old.supplies → going_of new.going ≡ wrap (wrapping_of how) (going_of old.going)

@@ -18,6 +18,7 @@ use Rattle.xt_text.specs.declared.memory.Memory.{Memory}
 use Rattle.xt_run.specs.declared.call.Call.{Call}
 use Rattle.xt_run.specs.declared.call.Refused.{Refused}
 use Rattle.xt_run.specs.declared.event.Ran.{Ran}
+use Rattle.xt_run.specs.declared.turn.Turn.{Turn}
 use Rattle.xt_run.specs.declared.turn.Turn.TheVariants as turns
 use Rattle.xt_run.specs.declared.turn.RunFault.{RunFault}
 use Rattle.xt_run.specs.declared.turn.RunFault.TheVariants as faults
@@ -28,7 +29,6 @@ use Rattle.xt_run.specs.Advances.{Made, made, ran_of, ends, Ends, Stops, HaltsSo
 use Rattle.xt_going.specs.View.{going_of}
 use Rattle.xt_frames.specs.declared.frame.Frame.{Frame}
 use Rattle.xt_frames.specs.declared.run.Waiting.{Waiting}
-use Rattle.xt_frames.specs.declared.run.Waiting.TheVariants as waits
 use Rattle.xt_frames.specs.declared.run.Run.{Run}
 use Rattle.xt_frames.specs.declared.run.Next.{Next}
 use Rattle.xt_frames.specs.declared.run.Next.TheVariants.{Went, Want, Needs, Done, Gave, Halt}
@@ -60,15 +60,17 @@ from_first r = Goes (going_of r.going) (supplies_of r.supplies)
 abbrev pub waiting_for : Waiting → Run → Run
 waiting_for w r = record { room = r.room; supplies = r.supplies; waiting = w; frames = r.frames; going = r.going }
 
-pub onward_want : {ask : Question NodeRef → Answer NodeRef} {first now new : Run} {k : ℕ} (call kept : Call) (d : ℕ) → Come ask first now → Steps ask (left_in now) k now new (Want call d) → call_of kept ≡ call_of call
-    → Onward ask (progress_of first) (from_first first) (progress_of (waiting_for (waits.ForCall kept d) new)) (Ok (turns.Want call d))
-onward_want {first = first} {now = now} call kept d c s e =
-    record { so = (passes_then c.passes (moved first now c.room c.supplies s.so), ap supplies_of (s.supplies ∙ c.supplies), ap (λ x. progress.ForCall x d) e, s.room ∙ c.room) }
+pub onward_want : {ask : Question NodeRef → Answer NodeRef} {first now new : Run} {k : ℕ} (call : Call) (d : ℕ) (w : Waiting) (turn : Turn) → Come ask first now → Steps ask (left_in now) k now new (Want call d) → turn ≡ turns.Want call d → waiting_of w ≡ progress.ForCall (call_of call) d
+    → Onward ask (progress_of first) (from_first first) (progress_of (waiting_for w new)) (Ok turn)
+onward_want {ask = ask} {first = first} {now = now} {new = new} call d w turn c s is_turn e =
+    let P : Turn → Type 0 = λ t. Onward ask (progress_of first) (from_first first) (progress_of (waiting_for w new)) (Ok t) in
+    subst P (sym is_turn) (record { so = (passes_then c.passes (moved first now c.room c.supplies s.so), ap supplies_of (s.supplies ∙ c.supplies), e, s.room ∙ c.room) })
 
-pub onward_needs : {ask : Question NodeRef → Answer NodeRef} {first now new : Run} {k : ℕ} (name : Expanded) (d : ℕ) (place : Place) (w : Waiting) → Come ask first now → Steps ask (left_in now) k now new (Needs name d place) → waiting_of w ≡ progress.ForGlobal name d (place_of place)
-    → Onward ask (progress_of first) (from_first first) (progress_of (waiting_for w new)) (Ok (turns.WantGlobal name d place))
-onward_needs {first = first} {now = now} name d place w c s e =
-    record {
+pub onward_needs : {ask : Question NodeRef → Answer NodeRef} {first now new : Run} {k : ℕ} (name : Expanded) (d : ℕ) (place : Place) (w : Waiting) (turn : Turn) → Come ask first now → Steps ask (left_in now) k now new (Needs name d place) → turn ≡ turns.WantGlobal name d place → waiting_of w ≡ progress.ForGlobal name d (place_of place)
+    → Onward ask (progress_of first) (from_first first) (progress_of (waiting_for w new)) (Ok turn)
+onward_needs {ask = ask} {first = first} {now = now} {new = new} name d place w turn c s is_turn e =
+    let P : Turn → Type 0 = λ t. Onward ask (progress_of first) (from_first first) (progress_of (waiting_for w new)) (Ok t) in
+    subst P (sym is_turn) (record {
       so = (
         passes_then c.passes (moved first now c.room c.supplies s.so.passes),
         misses_moved first now c.room c.supplies s.so.misses,
@@ -76,7 +78,7 @@ onward_needs {first = first} {now = now} name d place w c s e =
         e,
         s.room ∙ c.room,
       );
-    }
+    })
 
 -- the plan has come to its end
 onward_ends : {ask : Question NodeRef → Answer NodeRef} {first now : Run} (new : Run) (fin : progress.Progress) (ran : Ran) (e : Ending NodeRef) → Come ask first now

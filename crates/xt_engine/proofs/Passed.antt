@@ -41,7 +41,7 @@ use Rattle.xt_frames.specs.declared.run.Next.TheVariants.{Went, Want}
 use Rattle.xt_frames.specs.View.{here_of, inside, left_frame, left_with, passed_to, with_passed}
 use Rattle.xt_frames.specs.Left.{left_in, Does, Performs, Steps, Pushed}
 use Rattle.xt_frames.proofs.Performs.{one_frame}
-use Rattle.xt_engine.specs.Parameter.{valued_by, with_parameter, parameter_planned, IsPastParameter, SameApplication, SamePassing, with_argument, argument_planned, IsPastArgument}
+use Rattle.xt_engine.specs.Parameter.{valued_by, past_parameter, with_parameter, parameter_planned, IsPastParameter, SameApplication, SamePassing, past_argument, with_argument, argument_planned, IsPastArgument}
 
 pub view-Binding : (b : Binding) → binding_of b ≡ record { site = site_of (out-Binding b).site; name = (out-Binding b).name; select = option_map expr_of (out-Binding b).select; content = instrs (map instr_of (out-Binding b).content.value.items) }
 view-Binding b = search (rules, the_lemmas)
@@ -79,19 +79,18 @@ parameters_next p x after is_x lt =
     ∙ ap (λ y. parameter_planned (binding_of y) p after) (sym is_x)
 
 -- what is left once the parameter has a value
-with_past : (x : Binding) (p q : Parameters) (name : Expanded) (v : value.Value NodeRef) (after : Plan NodeRef) → name ≡ (out-Binding x).name → IsPastParameter p q → left_with (holders.Parameter name q) v after ≡ with_parameter (binding_of x) p after v
-with_past x p q name v after is_name h =
-    let is_named : name ≡ (binding_of x).name = is_name ∙ name_is x in
-    λ i. with_parameters (bindings (map binding_of (drop (h.next i) (h.bindings i).items))) (h.given i) (with_variable (is_named i) v (h.here i)) (λ here. planned (instrs (map instr_of (h.content i).items)) here after)
+pub parameter_held : (name given : Expanded) (p q : Parameters) (v : value.Value NodeRef) (after : Plan NodeRef) → name ≡ given → IsPastParameter p q → left_with (holders.Parameter name q) v after ≡ left_with (holders.Parameter given (past_parameter p)) v after
+parameter_held name given p q v after is_name h =
+    λ i. with_parameters (bindings (map binding_of (drop (h.next i) (h.bindings i).items))) (h.given i) (with_variable (is_name i) v (h.here i)) (λ here. planned (instrs (map instr_of (h.content i).items)) here after)
 
-pub parameter_passed : (x : Binding) (p q : Parameters) (name : Expanded) (v : value.Value NodeRef) (after : Plan NodeRef) → name ≡ (out-Binding x).name → IsPastParameter p q → Some v ≡ context.binding_of (out-Binding x).name (bindings_of p.given)
-    → Put Ended (left_with (holders.Parameter name q) v after) ≡ parameter_planned (binding_of x) p after
-parameter_passed x p q name v after is_name h is_v =
+pub parameter_passed : (x : Binding) (p : Parameters) (v : value.Value NodeRef) (after : Plan NodeRef) → Some v ≡ context.binding_of (out-Binding x).name (bindings_of p.given)
+    → Put Ended (left_with (holders.Parameter (out-Binding x).name (past_parameter p)) v after) ≡ parameter_planned (binding_of x) p after
+parameter_passed x p v after is_v =
     let b = binding_of x in
     let k = with_parameter b p after in
     let default = valued_by b (here_of p.here) k in
     let found : Some v ≡ context.binding_of b.name (bindings_of p.given) = is_v ∙ ap (λ n. context.binding_of n (bindings_of p.given)) (name_is x) in
-    ap (Put Ended) (with_past x p q name v after is_name h) ∙ ap (λ o. unless_passed o default k) found
+    ap (λ n. Put Ended (left_with (holders.Parameter n (past_parameter p)) v after)) (name_is x) ∙ ap (λ o. unless_passed o default k) found
 
 -- what an element of the program holds that stands here
 abbrev pub valued_at : Binding → Here NodeRef → (value.Value NodeRef → Plan NodeRef) → Plan NodeRef
@@ -103,10 +102,12 @@ valued_same x h i k l e f =
     let view = sym (view-Binding x) in
     λ j. valued_by (view j) (e j) (λ v. f v j)
 
-pub parameter_default : (x : Binding) (p q : Parameters) (name : Expanded) (h : Here NodeRef) (after : Plan NodeRef) → name ≡ (out-Binding x).name → h ≡ here_of p.here → IsPastParameter p q
-    → valued_at x h (λ v. left_with (holders.Parameter name q) v after) ≡ valued_by (binding_of x) (here_of p.here) (with_parameter (binding_of x) p after)
-parameter_default x p q name h after is_name is_here past =
-    valued_same x h (here_of p.here) (λ v. left_with (holders.Parameter name q) v after) (with_parameter (binding_of x) p after) is_here (λ v. with_past x p q name v after is_name past)
+pub parameter_default : (x : Binding) (p : Parameters) (holder : Holder) (h : Here NodeRef) (after : Plan NodeRef) → h ≡ here_of p.here
+    → ((v : value.Value NodeRef) (after : Plan NodeRef) → left_with holder v after ≡ left_with (holders.Parameter (out-Binding x).name (past_parameter p)) v after)
+    → valued_at x h (λ v. left_with holder v after) ≡ valued_by (binding_of x) (here_of p.here) (with_parameter (binding_of x) p after)
+parameter_default x p holder h after is_here same =
+    valued_same x h (here_of p.here) (λ v. left_with holder v after) (with_parameter (binding_of x) p after) is_here
+    (λ v. same v after ∙ ap (λ n. left_with (holders.Parameter n (past_parameter p)) v after) (name_is x))
 
 pub parameter_not_passed : (x : Binding) (p : Parameters) (after : Plan NodeRef) → None ≡ context.binding_of (out-Binding x).name (bindings_of p.given)
     → valued_by (binding_of x) (here_of p.here) (with_parameter (binding_of x) p after) ≡ parameter_planned (binding_of x) p after
@@ -127,12 +128,17 @@ arguments_next a x after is_x lt =
     at_drop_more (λ bs. passed (bindings (map binding_of bs)) (here_of a.here) (bindings_of a.done) (λ ps. passed_to a.to ps after)) a.bindings.value.items a.next x lt
     ∙ ap (λ y. argument_planned (binding_of y) a after) (sym is_x)
 
-pub argument_next : (x : Binding) (a b : Arguments) (name : Expanded) (h : Here NodeRef) (after : Plan NodeRef) → name ≡ (out-Binding x).name → h ≡ here_of a.here → IsPastArgument a b
-    → valued_at x h (λ v. left_with (holders.Argument name b) v after) ≡ argument_planned (binding_of x) a after
-argument_next x a b name h after is_name is_here past =
-    let is_named : name ≡ (binding_of x).name = is_name ∙ name_is x in
-    valued_same x h (here_of a.here) (λ v. left_with (holders.Argument name b) v after) (with_argument (binding_of x) a after) is_here
-    (λ v i. passed (bindings (map binding_of (drop (past.next i) (past.bindings i).items))) (past.here i) (record { name = is_named i; value = v } ∷ past.done i) (λ ps. past.to.same ps after i))
+-- what is left once it has a value
+pub argument_held : (name given : Expanded) (a b : Arguments) (v : value.Value NodeRef) (after : Plan NodeRef) → name ≡ given → IsPastArgument a b → left_with (holders.Argument name b) v after ≡ left_with (holders.Argument given (past_argument a)) v after
+argument_held name given a b v after is_name past =
+    λ i. passed (bindings (map binding_of (drop (past.next i) (past.bindings i).items))) (past.here i) (record { name = is_name i; value = v } ∷ past.done i) (λ ps. past.to.same ps after i)
+
+pub argument_next : (x : Binding) (a : Arguments) (holder : Holder) (h : Here NodeRef) (after : Plan NodeRef) → h ≡ here_of a.here
+    → ((v : value.Value NodeRef) (after : Plan NodeRef) → left_with holder v after ≡ left_with (holders.Argument (out-Binding x).name (past_argument a)) v after)
+    → valued_at x h (λ v. left_with holder v after) ≡ argument_planned (binding_of x) a after
+argument_next x a holder h after is_here same =
+    valued_same x h (here_of a.here) (λ v. left_with holder v after) (with_argument (binding_of x) a after) is_here
+    (λ v. same v after ∙ ap (λ n. left_with (holders.Argument n (past_argument a)) v after) (name_is x))
 
 -- a call with nothing before it
 pub want_does : (ask : Question NodeRef → Answer NodeRef) (p : Plan NodeRef) (k : ℕ) (r : Run) (call : Call) (depth : ℕ) → p ≡ Enter (call_of call) depth (left_in r) → Steps ask p k r r (Want call depth)

@@ -1,9 +1,16 @@
 // What is left of the frames that evaluate nothing: the next node of a loop, of an application or of copies, and the
 // ends of sinks.
-ghost use Rattle.std.specs.Prelude.{◌≡◌, ◌<◌, suc, length, get_or, IfOk};
+ghost use Rattle.std.specs.Prelude.{◌≡◌, ◌<◌, ◌+◌, suc, length, get_or, IfOk, OnOk};
 ghost use Rattle.spec_meaning.specs.Question as question;
+ghost use Rattle.spec_meaning.specs.Question.{AllRules};
+ghost use Rattle.spec_run.specs.Going.{Asked, noted, put};
+ghost use Rattle.spec_run.specs.Content.{at, rule_call};
+ghost use Rattle.spec_run.specs.Copy.{stream_in};
+ghost use Rattle.xp_syntax.specs.PartView.{place_of};
 ghost use Rattle.xt_tree.specs.declared.node_ref.NodeRef.{NodeRef};
-ghost use Rattle.spec_run.specs.Content.{at};
+ghost use Rattle.xt_ask.specs.View.{bindings_of};
+ghost use Rattle.xt_run.specs.View.{call_of};
+ghost use Rattle.xt_going.specs.View.{going_of};
 ghost use Rattle.xt_frames.specs.View.{here_of};
 ghost use Rattle.xt_frames.specs.declared.frame.Frame.TheVariants as Frame;
 ghost use Rattle.xt_frames.specs.declared.run.Run as declared;
@@ -14,11 +21,14 @@ use std::alloc::Global;
 use xt_ask::{Candidates, Focus, Question, World, copy_name_if, copy_place};
 use xt_base::Place;
 use xt_frames::{
-    Application, Body, Copies, Frame, Loop, Next, Run, Standing, go_into, push, share_content, want,
+    Application, Body, Copies, Frame, Inside, Loop, Next, Run, Standing, go_into, push,
+    share_content, want,
 };
+use xt_going::Going;
 use xt_perform::{call_of_choice, perform, put_copy};
-use xt_run::{Refused, Wrapping};
+use xt_run::{Call, Refused, Wrapping};
 use xt_text::Memory;
+use xt_tree::NodeRef;
 
 /// Goes on with a content.
 pub(crate) fn go_on_body<W: World>(
@@ -52,11 +62,13 @@ pub(crate) fn go_on_loop(alloc: Global, run: &mut Run, left: Loop) -> Result<Nex
     ensures { IfOk result (λ next. (ask : question.Question NodeRef → question.Answer NodeRef) → StepsFrom ask (Frame.Loop left) run.old run.new next) }
 {
     if left.next >= left.nodes.as_slice().len() {
+        drop(left);
         return Ok(Next::Went);
     }
-    let place = copy_place(alloc, &left.place)?;
-    let content = share_content(&left.content)?;
-    let here = item_of(&left)?;
+    let Ok(inner) = next_inside(alloc, &left) else {
+        drop(left);
+        return Err(Memory);
+    };
     push(
         run,
         Frame::Loop(Loop {
@@ -67,7 +79,29 @@ pub(crate) fn go_on_loop(alloc: Global, run: &mut Run, left: Loop) -> Result<Nex
             here: left.here,
         }),
     )?;
+    let Inside {
+        place,
+        content,
+        here,
+    } = inner;
     go_into(alloc, run, &place, content, here)
+}
+
+/// The content of a loop for its next node.
+fn next_inside(alloc: Global, left: &Loop) -> Result<Inside, Memory>
+    requires { left.now.next < length left.now.nodes.items }
+    ensures place { IfOk result (λ i. place_of i.place ≡ place_of left.now.place) }
+    ensures content { IfOk result (λ i. i.content.value ≡ left.now.content.value) }
+    ensures here { IfOk result (λ i. (n : NodeRef) → here_of i.here ≡ at (get_or left.now.nodes.items left.now.next n) (suc left.now.next) (length left.now.nodes.items) (here_of left.now.here)) }
+{
+    let place = copy_place(alloc, &left.place)?;
+    let content = share_content(&left.content)?;
+    let here = item_of(left)?;
+    Ok(Inside {
+        place,
+        content,
+        here,
+    })
 }
 
 /// Where the content of a loop stands for its next node: there no template rule is the current one (XSLT 1.0,
@@ -94,21 +128,14 @@ pub(crate) fn go_on_application<W: World>(
 {
     let nodes = left.nodes.as_slice();
     if left.next >= nodes.len() {
+        drop(left);
         return Ok(Next::Went);
     }
     let node = nodes[left.next];
-    let size = nodes.len() as u64;
-    let mode = copy_name_if(alloc, &left.mode)?;
-    let question = Question::Choice(node, mode, Candidates::AllRules);
-    let answer = run.going.ask(alloc, world, question)?;
-    let rule = answer.into_rule();
-    let focus = Focus {
-        node,
-        position: Some(left.next as u64 + 1),
-        size: Some(size),
+    let Ok(call) = next_call(alloc, &mut run.going, node, &left, world) else {
+        drop(left);
+        return Err(Memory);
     };
-    let parameters = left.parameters.share()?;
-    let call = call_of_choice(alloc, &left.mode, &rule, focus, parameters, &left.place)?;
     let depth = left.depth;
     let rest = Frame::Application(Application {
         place: left.place,
@@ -119,6 +146,34 @@ pub(crate) fn go_on_application<W: World>(
         depth,
     });
     want(run, rest, call, depth)
+}
+
+/// The call that enters the template rule of this node, which is the next of an application.
+fn next_call<W: World>(
+    alloc: Global,
+    going: &mut Going,
+    node: NodeRef,
+    left: &Application,
+    world: &mut W,
+) -> Result<Call, Memory>
+    requires { left.now.next < usize.MAX }
+    ensures call { IfOk result (λ c. call_of c ≡ rule_call (place_of left.now.place) left.now.mode (bindings_of left.now.parameters) (length left.now.nodes.items) node (left.now.next + 1) ((W.state world.old).truth (question.Choice node left.now.mode AllRules))) }
+    ensures noted { OnOk result (going_of going.new ≡ noted (Asked (question.Choice node left.now.mode AllRules) ((W.state world.old).truth (question.Choice node left.now.mode AllRules))) (going_of going.old)) }
+    ensures truth { (W.state world.new).truth ≡ (W.state world.old).truth }
+    ensures name { W.name world.new ≡ W.name world.old }
+{
+    let size = left.nodes.as_slice().len() as u64;
+    let mode = copy_name_if(alloc, &left.mode)?;
+    let question = Question::Choice(node, mode, Candidates::AllRules);
+    let answer = going.ask(alloc, world, question)?;
+    let rule = answer.into_rule();
+    let focus = Focus {
+        node,
+        position: Some(left.next as u64 + 1),
+        size: Some(size),
+    };
+    let parameters = left.parameters.share()?;
+    call_of_choice(alloc, &left.mode, &rule, focus, parameters, &left.place)
 }
 
 /// Goes on with nodes that are copied.
@@ -136,9 +191,7 @@ pub(crate) fn go_on_copies<W: World>(
     if left.next >= nodes.len() {
         return Ok(Next::Went);
     }
-    let node = nodes[left.next];
-    let answer = run.going.ask(alloc, world, Question::Copy(node))?;
-    put_copy(&mut run.going, &answer)?;
+    write_copy(alloc, &mut run.going, nodes[left.next], world)?;
     push(
         run,
         Frame::Copies(Copies {
@@ -147,6 +200,23 @@ pub(crate) fn go_on_copies<W: World>(
         }),
     )?;
     Ok(Next::Went)
+}
+
+/// Writes a copy of this node.
+fn write_copy<W: World>(
+    alloc: Global,
+    going: &mut Going,
+    node: NodeRef,
+    world: &mut W,
+) -> Result<(), Memory>
+    ensures written { OnOk result (going_of going.new ≡ put (stream_in ((W.state world.old).truth (question.Copy node))) (noted (Asked (question.Copy node) ((W.state world.old).truth (question.Copy node))) (going_of going.old))) }
+    ensures truth { (W.state world.new).truth ≡ (W.state world.old).truth }
+    ensures name { W.name world.new ≡ W.name world.old }
+{
+    let answer = going.ask(alloc, world, Question::Copy(node))?;
+    let written = put_copy(going, &answer);
+    drop(answer);
+    written
 }
 
 /// Ends the run, by the message at this place (XSLT 1.0, section 13). Takes no memory.

@@ -1,9 +1,12 @@
 // A run, up to its end or to what it wants next.
-ghost use Rattle.std.specs.Prelude.{◌≡◌, IfOk};
+ghost use Rattle.std.specs.Prelude.{◌≡◌, IfOk, OnOk};
 ghost use Rattle.std.specs.Option.{option_map};
+ghost use Rattle.spec_run.specs.Going.{given, opened};
 ghost use Rattle.spec_run.specs.Meaning.{current_by};
 ghost use Rattle.xp_syntax.specs.PartView.{place_of};
+ghost use Rattle.xt_tree.specs.StreamView.{stream_of};
 ghost use Rattle.xt_ask.specs.View.{current_of, supplies_of};
+ghost use Rattle.xt_run.specs.declared.turn.Turn.TheVariants as turns;
 ghost use Rattle.xt_run.specs.View.{call_of, refused_of, ruling_of};
 ghost use Rattle.xt_run.specs.Progress as progress;
 ghost use Rattle.xt_run.specs.Progress.{Goes, started, after_call, after_global};
@@ -16,6 +19,7 @@ use crate::step::step;
 use spec_expression::DynCode;
 use std::alloc::Global;
 use std::mem;
+use std::rc::Rc;
 use xt_ask::{CurrentRule, Known, Supplies, World, copy_name, copy_place, copy_rule_if};
 use xt_base::Place;
 use xt_frames::{Frame, Next, Run, Waiting};
@@ -23,7 +27,7 @@ use xt_going::Going;
 use xt_names::Expanded;
 use xt_run::{Call, Entered, Ran, Refused, Ruling, RunFault, Turn};
 use xt_text::Memory;
-use xt_tree::Value;
+use xt_tree::{Items, Value};
 
 /// Starts one instantiation, with so many levels below its own.
 pub(crate) fn start(alloc: Global, call: &Call, room: u64) -> Result<Run, Memory>
@@ -99,18 +103,45 @@ pub(crate) fn go<W: World>(alloc: Global, run: &mut Run, world: &mut W) -> Resul
         match step(alloc, run, world)? {
             Next::Went => {}
             Next::Want(call, depth) => {
-                run.waiting = Waiting::ForCall(call.copy(alloc)?, depth);
-                return Ok(Turn::Want(call, depth));
+                return Ok(want(alloc, &mut run.waiting, call, depth)?);
             }
             Next::Needs(name, depth, place) => {
-                run.waiting = wait_for(alloc, &name, depth, &place)?;
-                return Ok(Turn::WantGlobal(name, depth, place));
+                return Ok(need(alloc, &mut run.waiting, name, depth, place)?);
             }
             Next::Done => return Ok(Turn::Done(finish(alloc, run, None)?)),
             Next::Gave(value) => return Ok(Turn::Done(finish(alloc, run, Some(value))?)),
             Next::Halt(why) => return Err(halt(alloc, run, why)),
         }
     }
+}
+
+/// Wants this call, from a content so deep, and waits for it.
+fn want(alloc: Global, waiting: &mut Waiting, call: Call, depth: u64) -> Result<Turn, Memory>
+    ensures wants { IfOk result (λ turn. turn ≡ turns.Want call depth) }
+    ensures waits { OnOk result (waiting_of waiting.new ≡ progress.ForCall (call_of call) depth) }
+{
+    let Ok(kept) = call.copy(alloc) else {
+        drop(call);
+        return Err(Memory);
+    };
+    drop(mem::replace(waiting, Waiting::ForCall(kept, depth)));
+    Ok(Turn::Want(call, depth))
+}
+
+/// Wants a global that is needed at this place, in a content so deep, and waits for it.
+fn need(
+    alloc: Global,
+    waiting: &mut Waiting,
+    name: Expanded,
+    depth: u64,
+    place: Place,
+) -> Result<Turn, Memory>
+    ensures wants { IfOk result (λ turn. turn ≡ turns.WantGlobal name depth place) }
+    ensures waits { OnOk result (waiting_of waiting.new ≡ progress.ForGlobal name depth (place_of place)) }
+{
+    let kept = wait_for(alloc, &name, depth, &place)?;
+    drop(mem::replace(waiting, kept));
+    Ok(Turn::WantGlobal(name, depth, place))
 }
 
 /// To wait for a global that is needed at this place.
@@ -137,19 +168,32 @@ pub(crate) fn go_on_call<W: World>(
 {
     match given {
         Some(Entered::Stream(stream)) => {
-            run.going.leave_hole(call, depth)?;
-            run.going.give(stream)?;
+            enter(&mut run.going, call, depth, stream)?;
             go(alloc, run, world)
         }
         Some(Entered::Refused(why, stream)) => {
-            run.going.leave_hole(call, depth)?;
-            run.going.give(stream)?;
+            enter(&mut run.going, call, depth, stream)?;
             Err(halt(alloc, run, why))
         }
         Some(Entered::UnderWay) => Err(halt(alloc, run, circular(call.by))),
-        Some(Entered::Value(_)) => go(alloc, run, world),
-        None => go(alloc, run, world),
+        Some(Entered::Value(value)) => {
+            drop(value);
+            drop(call);
+            go(alloc, run, world)
+        }
+        None => {
+            drop(call);
+            go(alloc, run, world)
+        }
     }
+}
+
+/// Notes that a call was entered from a content so deep, and leaves a hole for its stream.
+fn enter(going: &mut Going, call: Call, depth: u64, stream: Rc<Items>) -> Result<(), Memory>
+    ensures { OnOk result (going_of going.new ≡ given (stream_of stream.value) (opened (call_of call) depth (going_of going.old))) }
+{
+    going.leave_hole(call, depth)?;
+    going.give(stream)
 }
 
 /// That a global needs itself, at this place.

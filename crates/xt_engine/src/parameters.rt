@@ -1,9 +1,10 @@
 // What is left of parameters: those that are passed, those of a template, and globals (XSLT 1.0, section 11).
 ghost use Rattle.std.specs.Prelude.{◌≡◌, ◌<◌, suc, length, IfOk};
 ghost use Rattle.spec_meaning.specs.Stream.{Ended};
+ghost use Rattle.spec_meaning.specs.Value as values;
 ghost use Rattle.spec_meaning.specs.Question as question;
 ghost use Rattle.spec_meaning.specs.Meaning.{meaning};
-ghost use Rattle.spec_run.specs.Plan.{Put, Yield};
+ghost use Rattle.spec_run.specs.Plan.{Plan, Put, Yield};
 ghost use Rattle.spec_run.specs.Content.{asked, held};
 ghost use Rattle.xp_syntax.specs.View.{expr_of};
 ghost use Rattle.xp_syntax.specs.PartView.{site_of};
@@ -17,7 +18,7 @@ ghost use Rattle.xt_frames.specs.declared.frame.Passing.TheVariants as Passing;
 ghost use Rattle.xt_frames.specs.View.{here_of, passed_to, left_with, global_left};
 ghost use Rattle.xt_frames.specs.Left.{left_in, Does, Performs, Steps, StepsFrom};
 ghost use Rattle.xt_engine.specs.Start.{declared_in};
-ghost use Rattle.xt_engine.specs.Parameter.{argument_planned, parameter_planned, past_parameter, valued_by, with_parameter, SameApplication, SamePassing, IsPastArgument, IsPastParameter};
+ghost use Rattle.xt_engine.specs.Parameter.{argument_planned, parameter_planned, past_parameter, past_argument, valued_by, with_parameter, SameApplication, SamePassing, IsPastArgument, IsPastParameter};
 
 use crate::frames::{go_on_application, go_on_body};
 use crate::start::leave_nothing;
@@ -74,7 +75,11 @@ fn go_on_parameter<W: World>(
     ensures truth { (W.state world.new).truth ≡ (W.state world.old).truth }
     ensures name { W.name world.new ≡ W.name world.old }
 {
-    match left.given.look_up(alloc, &binding.name)? {
+    let Ok(found) = left.given.look_up(alloc, &binding.name) else {
+        drop(left);
+        return Err(Memory);
+    };
+    match found {
         Some(value) => go_on_given(alloc, run, &binding.name, left, value),
         None => go_on_default(alloc, run, binding, left, world),
     }
@@ -115,9 +120,14 @@ fn go_on_default<W: World>(
     ensures truth { (W.state world.new).truth ≡ (W.state world.old).truth }
     ensures name { W.name world.new ≡ W.name world.old }
 {
-    let here = left.here.share()?;
-    let name = copy_name(alloc, &binding.name)?;
-    let holder = Holder::Parameter(name, shared_past(&left)?);
+    let Ok(here) = left.here.share() else {
+        drop(left);
+        return Err(Memory);
+    };
+    let Ok(holder) = parameter_holder(alloc, &binding.name, &left) else {
+        drop(left);
+        return Err(Memory);
+    };
     hold(
         alloc,
         run,
@@ -131,8 +141,17 @@ fn go_on_default<W: World>(
     )
 }
 
+/// What holds the value of its next parameter, by this name.
+fn parameter_holder(alloc: Global, name: &Expanded, left: &Parameters) -> Result<Holder, Memory>
+    requires { left.now.next < usize.MAX }
+    ensures { IfOk result (λ h. (v : values.Value NodeRef) → (after : Plan NodeRef) → left_with h v after ≡ left_with (holders.Parameter name.now (past_parameter left.now)) v after) }
+{
+    let name = copy_name(alloc, name)?;
+    Ok(Holder::Parameter(name, shared_past_parameter(left)?))
+}
+
 /// The same after its next parameter, shared.
-fn shared_past(left: &Parameters) -> Result<Parameters, Memory>
+fn shared_past_parameter(left: &Parameters) -> Result<Parameters, Memory>
     requires { left.now.next < usize.MAX }
     ensures { IfOk result (IsPastParameter left.now) }
 {
@@ -167,7 +186,10 @@ pub(crate) fn go_on_arguments<W: World>(
     ensures truth { (W.state world.new).truth ≡ (W.state world.old).truth }
     ensures name { W.name world.new ≡ W.name world.old }
 {
-    let bindings = share_bindings(&left.bindings)?;
+    let Ok(bindings) = share_bindings(&left.bindings) else {
+        drop(left);
+        return Err(Memory);
+    };
     let list = bindings.as_slice();
     if left.next >= list.len() {
         return pass(alloc, run, left.to, left.done, world);
@@ -274,9 +296,14 @@ fn go_on_argument<W: World>(
     ensures truth { (W.state world.new).truth ≡ (W.state world.old).truth }
     ensures name { W.name world.new ≡ W.name world.old }
 {
-    let here = left.here.share()?;
-    let name = copy_name(alloc, &binding.name)?;
-    let holder = Holder::Argument(name, past_argument(alloc, &left)?);
+    let Ok(here) = left.here.share() else {
+        drop(left);
+        return Err(Memory);
+    };
+    let Ok(holder) = argument_holder(alloc, &binding.name, &left) else {
+        drop(left);
+        return Err(Memory);
+    };
     hold(
         alloc,
         run,
@@ -290,8 +317,17 @@ fn go_on_argument<W: World>(
     )
 }
 
+/// What holds the next value that is passed, by this name.
+fn argument_holder(alloc: Global, name: &Expanded, left: &Arguments) -> Result<Holder, Memory>
+    requires { left.now.next < usize.MAX }
+    ensures { IfOk result (λ h. (v : values.Value NodeRef) → (after : Plan NodeRef) → left_with h v after ≡ left_with (holders.Argument name.now (past_argument left.now)) v after) }
+{
+    let name = copy_name(alloc, name)?;
+    Ok(Holder::Argument(name, shared_past_argument(alloc, left)?))
+}
+
 /// The same after what is passed next, shared.
-fn past_argument(alloc: Global, left: &Arguments) -> Result<Arguments, Memory>
+fn shared_past_argument(alloc: Global, left: &Arguments) -> Result<Arguments, Memory>
     requires { left.now.next < usize.MAX }
     ensures { IfOk result (IsPastArgument left.now) }
 {
@@ -323,11 +359,15 @@ fn share_passing(alloc: Global, to: &Passing) -> Result<Passing, Memory>
 fn copy_application(alloc: Global, left: &Application) -> Result<Application, Memory>
     ensures { IfOk result (SameApplication left.now) }
 {
+    let nodes = Vec::from_slice(alloc, left.nodes.as_slice())?;
+    let parameters = left.parameters.share()?;
+    let mode = copy_name_if(alloc, &left.mode)?;
+    let place = copy_place(alloc, &left.place)?;
     Ok(Application {
-        place: copy_place(alloc, &left.place)?,
-        mode: copy_name_if(alloc, &left.mode)?,
-        parameters: left.parameters.share()?,
-        nodes: Vec::from_slice(alloc, left.nodes.as_slice())?,
+        place,
+        mode,
+        parameters,
+        nodes,
         next: left.next,
         depth: left.depth,
     })

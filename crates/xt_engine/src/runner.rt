@@ -40,7 +40,10 @@ fn resume<W: World>(
     ensures name { W.name world.new ≡ W.name world.old }
 {
     match mem::replace(&mut run.waiting, Waiting::Nothing) {
-        Waiting::Nothing => go(alloc, run, world),
+        Waiting::Nothing => {
+            drop(given);
+            go(alloc, run, world)
+        }
         Waiting::ForCall(call, depth) => go_on_call(alloc, run, call, depth, given, world),
         Waiting::ForGlobal(name, depth, place) => {
             go_on_global(alloc, run, name, depth, place, given, world)

@@ -87,7 +87,10 @@ fn begin_answered<W: World>(
             let here = first_of(share_unit(&unit)?, node);
             begin_declared(alloc, run, &unit.unit, here, parameters, world)
         }
-        _ => Ok(Next::Went),
+        other => {
+            drop(other);
+            Ok(Next::Went)
+        }
     }
 }
 
@@ -151,9 +154,10 @@ fn begin_set(
     requires { run.old.frames.items ≡ [] }
     ensures { IfOk result (λ next. (given : List (Bound NodeRef)) → (ask : question.Question NodeRef → question.Answer NodeRef) → Does ask (declared_planned (place_of place.now) (ASet (attribute_set_of set.now)) given (here_of here)) 3 run.old run.new next) }
 {
+    let content = share_content(&set.attributes)?;
     let used = used_sets(alloc, place, set.sets.as_slice(), &here)?;
     let body = Body {
-        content: share_content(&set.attributes)?,
+        content,
         next: 0,
         here,
     };
@@ -245,7 +249,10 @@ fn text_given(answer: Answer) -> Option<Text>
 {
     match answer {
         Answer::Passed(text) => text,
-        _ => None,
+        other => {
+            drop(other);
+            None
+        }
     }
 }
 

@@ -1,20 +1,13 @@
-use Rattle.std.proofs.Common.{◌+◌, get_or, length, ap, arith, refl, ◌∙◌}
-use Rattle.spec_run.specs.Plan.{Put}
-use Rattle.spec_run.specs.Copy.{stream_in}
-use Rattle.spec_meaning.specs.Question.{Copy}
-use Rattle.spec_run.specs.Going.{put}
+use Rattle.std.proofs.Common.{◌+◌, get_or, length, ap, arith, refl}
 use Rattle.xt_tree.specs.declared.node_ref.NodeRef.{NodeRef}
 use Rattle.xt_tree.specs.declared.node_ref.Part.TheVariants.{Itself}
-use Rattle.xt_going.specs.View.{going_of}
 use Rattle.xt_frames.specs.declared.run.Run.{Run}
 use Rattle.xt_frames.specs.declared.run.Next.TheVariants.{Went}
 use Rattle.xt_frames.specs.declared.frame.Copies.{Copies}
 use Rattle.xt_frames.specs.declared.frame.Frame.TheVariants as frames
-use Rattle.xt_frames.specs.View.{left_frame}
 use Rattle.xt_frames.specs.Left.{left_in}
-use Rattle.xt_frames.proofs.Performs.{inquired, put_does}
 use Rattle.xt_frames.proofs.Frames.{at_end, from_same}
-use Rattle.xt_engine.proofs.Nexts.{copies_next, copies_none}
+use Rattle.xt_engine.proofs.Nexts.{copies_next, copies_none, copied_does}
 use Rattle.xt_engine.proofs.frames.go_on_copies.Goals as goal
 
 pub returns-then-left-nodes-clause-does : goal.returns-then-left-nodes-clause-does
@@ -33,8 +26,6 @@ returns-clause-does g c =
     let none : NodeRef = record { node = record { number = 0 }; part = Itself } in
     let n = get_or a.nodes.items a.next none in
     let j : Copies = record { nodes = a.nodes; next = a.next + 1 } in
-    let mid : Run = record { room = r.room; supplies = r.supplies; waiting = r.waiting; frames = r.frames; going = c.ask.new.self } in
-    let low : Run = record { room = r.room; supplies = r.supplies; waiting = r.waiting; frames = r.frames; going = c.put_copy.new.going } in
+    let mid : Run = record { room = r.room; supplies = r.supplies; waiting = r.waiting; frames = r.frames; going = c.write_copy.new.going } in
     from_same truth (frames.Copies a) _ r c.push.new.run Went (copies_next a none (left_in r) (omega (arith, e)))
-    (inquired truth (Copy n) (λ x. Put (stream_in x) (left_frame (frames.Copies j) (left_in r))) _ r mid c.push.new.run Went (rw slice at c.in_ok-answer.ensures.noted) refl refl
-    (put_does truth (stream_in (truth (Copy n))) (frames.Copies j) mid low c.push.new.run refl refl refl (c.in_ok-put_copy.ensures ∙ ap (λ x. put (stream_in x) (going_of c.ask.new.self)) (rw slice at c.in_ok-answer.ensures.answer)) c.in_ok-push.ensures))
+    (copied_does truth n (frames.Copies j) r mid c.push.new.run refl refl refl (rw slice at c.in_ok-write_copy.ensures.written) c.in_ok-push.ensures)

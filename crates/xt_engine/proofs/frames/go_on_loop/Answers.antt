@@ -27,9 +27,9 @@ returns c =
     let e = ap length c.as_slice.ensures.value in
     let j : Loop = record { place = l.place; content = l.content; nodes = l.nodes; next = l.next + 1; here = l.here } in
     let is = instrs (map instr_of l.content.value.items) in
-    let n : NodeRef = c.in_ok-here.here.focus.node in
+    let n : NodeRef = c.in-Ok.inner.here.focus.node in
     let here = at (get_or l.nodes.items l.next n) (suc l.next) (length l.nodes.items) (here_of l.here) in
     if_ok c.go_into.result c.go_into.ensures (λ next h ask.
     let P : Here NodeRef → Type 0 = λ x. Does ask (inside (place_of l.place) is x (left_in c.push.new.run)) (length c.push.new.run.frames.items) c.push.new.run c.go_into.new.run next in
     from_same ask (frames.Loop l) _ r c.go_into.new.run next (loop_next l n (left_in r) (omega (arith, e)))
-    (after_frame ask (inside (place_of l.place) is here) (frames.Loop j) r c.push.new.run c.go_into.new.run next c.in_ok-push.ensures (subst P (c.in_ok-here.ensures n) (rw (c.in_ok-place.ensures, c.in_ok-content.ensures) at h ask))))
+    (after_frame ask (inside (place_of l.place) is here) (frames.Loop j) r c.push.new.run c.go_into.new.run next c.in_ok-push.ensures (subst P (c.in-Ok.ensures.here n) (rw (c.in-Ok.ensures.place, c.in-Ok.ensures.content) at h ask))))

@@ -17,13 +17,13 @@ pub returns-in-Want-clause-onward : goal.returns-in-Want-clause-onward
 returns-in-Want-clause-onward g c =
     let inv = c.loop-call.invariant in
     let come : Come (g.W.World.state c.args.world.now).truth c.args.run.now c.loop-call.run = record { passes = inv.passes; room = inv.room; supplies = inv.supplies } in
-    onward_want c.in-Want.call c.in_ok-copy-in-Want.field-0 c.in-Want.depth come (steps_in inv.truth c.in-Want.is c.in_ok-step.ensures.does) c.in_ok-copy-in-Want.ensures
+    onward_want c.in-Want.call c.in-Want.depth c.want.new.waiting c.in_ok-want-in-Want.field-0 come (steps_in inv.truth c.in-Want.is c.in_ok-step.ensures.does) c.in_ok-want-in-Want.ensures.wants c.in_ok-want-in-Want.ensures.waits
 
 pub returns-in-Needs-clause-onward : goal.returns-in-Needs-clause-onward
 returns-in-Needs-clause-onward g c =
     let inv = c.loop-call.invariant in
     let come : Come (g.W.World.state c.args.world.now).truth c.args.run.now c.loop-call.run = record { passes = inv.passes; room = inv.room; supplies = inv.supplies } in
-    onward_needs c.in-Needs.name c.in-Needs.depth c.in-Needs.place c.in_ok-run-in-Needs.field-0 come (steps_in inv.truth c.in-Needs.is c.in_ok-step.ensures.does) c.in_ok-run-in-Needs.ensures
+    onward_needs c.in-Needs.name c.in-Needs.depth c.in-Needs.place c.need.new.waiting c.in_ok-need-in-Needs.field-0 come (steps_in inv.truth c.in-Needs.is c.in_ok-step.ensures.does) c.in_ok-need-in-Needs.ensures.wants c.in_ok-need-in-Needs.ensures.waits
 
 pub returns-in-Done-clause-onward : goal.returns-in-Done-clause-onward
 returns-in-Done-clause-onward g c =

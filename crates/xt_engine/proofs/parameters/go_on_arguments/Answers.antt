@@ -9,12 +9,12 @@ use Rattle.xt_engine.proofs.parameters.go_on_arguments.Goals as goal
 pub returns-then-left-list-clause-does : goal.returns-then-left-list-clause-does
 returns-then-left-list-clause-does g c =
     let a = c.args.left in
-    let e = ap length (rw (c.deref.ensures, c.in_ok-bindings.ensures) at c.as_slice-list.ensures.value) in
+    let e = ap length (rw (c.deref.ensures, c.in-Ok.ensures) at c.as_slice-list.ensures.value) in
     if_ok c.pass.result c.pass.ensures.does (λ next h. steps_as (sym (arguments_none a (left_in c.args.run.now) (omega (arith, e)))) h)
 
 pub returns-clause-does : goal.returns-clause-does
 returns-clause-does g c =
     let a = c.args.left in
-    let e = ap length (rw (c.deref.ensures, c.in_ok-bindings.ensures) at c.as_slice-list.ensures.value) in
+    let e = ap length (rw (c.deref.ensures, c.in-Ok.ensures) at c.as_slice-list.ensures.value) in
     if_ok c.go_on_argument.result c.go_on_argument.ensures.does (λ next h.
-    performs_steps _ (frames.Arguments a) _ c.args.run.now c.go_on_argument.new.run next (arguments_next a c.index-list-left.result (left_in c.args.run.now) (rw (c.as_slice-list.ensures.value, c.deref.ensures, c.in_ok-bindings.ensures) at c.index-list-left.is) (omega (arith, e))) h)
+    performs_steps _ (frames.Arguments a) _ c.args.run.now c.go_on_argument.new.run next (arguments_next a c.index-list-left.result (left_in c.args.run.now) (rw (c.as_slice-list.ensures.value, c.deref.ensures, c.in-Ok.ensures) at c.index-list-left.is) (omega (arith, e))) h)

@@ -7,4 +7,4 @@ use Rattle.xt_engine.proofs.parameters.go_on_default.Goals as goal
 pub returns-clause-does : goal.returns-clause-does
 returns-clause-does g c =
     if_ok c.hold.result c.hold.ensures.does (λ next h.
-    performs_as (parameter_default c.args.binding.now c.args.left c.in_ok-shared_past.field-0 c.in_ok-name.name (here_of c.in_ok-here.here) (left_in c.args.run.now) c.in_ok-name.ensures c.in_ok-here.ensures.here c.in_ok-shared_past.ensures) h)
+    performs_as (parameter_default c.args.binding.now c.args.left c.in-Ok-parameter_holder.holder (here_of c.in-Ok.here) (left_in c.args.run.now) c.in-Ok.ensures.here c.in-Ok-parameter_holder.ensures) h)

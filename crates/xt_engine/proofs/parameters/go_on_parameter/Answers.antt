@@ -1,11 +1,8 @@
-use Rattle.std.proofs.Common.{refl}
-use Rattle.xp_syntax.specs.declared.instr.Binding.{out-Binding}
 use Rattle.xt_tree.specs.ValueView.{value_of}
 use Rattle.xt_frames.specs.declared.frame.Frame.TheVariants as frames
 use Rattle.xt_frames.specs.Left.{left_in}
 use Rattle.xt_frames.proofs.Lefts.{if_ok}
 use Rattle.xt_frames.proofs.Performs.{does_performs}
-use Rattle.xt_engine.specs.Parameter.{past_parameter}
 use Rattle.xt_engine.proofs.Passed.{performs_as, parameter_passed, parameter_not_passed}
 use Rattle.xt_engine.proofs.parameters.go_on_parameter.Goals as goal
 
@@ -16,10 +13,10 @@ returns-in-Some-clause-does g c =
     let p = c.args.left in
     let x = c.args.binding.now in
     if_ok c.go_on_given.result c.go_on_given.ensures (λ next h.
-    performs_as (parameter_passed x p (past_parameter p) (out-Binding x).name (value_of c.in-Some.value) (left_in r) refl (record { bindings = refl; next = refl; given = refl; content = refl; here = refl }) (rw c.in-Some.is at c.in_ok-value.ensures))
+    performs_as (parameter_passed x p (value_of c.in-Some.value) (left_in r) (rw c.in-Some.is at c.in-Ok.ensures))
     (does_performs truth _ (frames.Parameters p) r c.go_on_given.new.run next (h truth)))
 
 pub returns-in-None-clause-does : goal.returns-in-None-clause-does
 returns-in-None-clause-does g c =
     if_ok c.go_on_default.result c.go_on_default.ensures.does (λ next h.
-    performs_as (parameter_not_passed c.args.binding.now c.args.left (left_in c.args.run.now) (rw c.in-None.is at c.in_ok-value.ensures)) h)
+    performs_as (parameter_not_passed c.args.binding.now c.args.left (left_in c.args.run.now) (rw c.in-None.is at c.in-Ok.ensures)) h)

@@ -15,8 +15,8 @@ use Rattle.xt_engine.proofs.Passed.{does_as}
 use Rattle.xt_engine.proofs.Starts.{nothing_does, no_unit}
 use Rattle.xt_engine.proofs.start.begin_answered.Goals as goal
 
-pub returns-clause-does : goal.returns-clause-does
-returns-clause-does g c =
+pub returns-in_default-clause-does : goal.returns-in_default-clause-does
+returns-in_default-clause-does g c =
     nothing_does (g.W.World.state c.args.world.now).truth _ 3 c.args.run.now (omega arith) (no_unit c.args.node (bindings_of c.args.parameters) c.args.answer c.in_default.not-Resolved) c.requires
 
 pub begin_declared-requires-clause-stands : goal.begin_declared-requires-clause-stands
@@ -25,8 +25,8 @@ begin_declared-requires-clause-stands g c =
     ∙ ap (λ (u : ResolvedUnit). declared_of u.unit.value.declared) c.in_ok-share_unit-in-Resolved.ensures
     ∙ sym (ap (λ (u : Unit). declared_of u.declared) c.deref-in-Resolved.ensures ∙ ap (λ (u : ResolvedUnit). declared_of u.unit.value.declared) c.deref.ensures)
 
-pub returns-in-Resolved-clause-does : goal.returns-in-Resolved-clause-does
-returns-in-Resolved-clause-does g c =
+pub returns-in_ok-share_unit-in-Resolved-clause-does : goal.returns-in_ok-share_unit-in-Resolved-clause-does
+returns-in_ok-share_unit-in-Resolved-clause-does g c =
     let node = c.args.node in
     let given = bindings_of c.args.parameters in
     let F : Unit → Here NodeRef → Plan NodeRef = λ u h. declared_planned (place_of u.site.place) (declared_of u.declared) given h in

@@ -7,5 +7,5 @@ use Rattle.xt_engine.proofs.start.text_given.Goals as goal
 pub returns-in-Passed : goal.returns-in-Passed
 returns-in-Passed c own = ap (λ a. unless_given (answer_of a) own) c.in-Passed.is ∙ text_passed c.in-Passed.text own
 
-pub returns : goal.returns
-returns c own = no_text c.args.answer own c.in_default.not-Passed
+pub returns-in_default : goal.returns-in_default
+returns-in_default c own = no_text c.args.answer own c.in_default.not-Passed
