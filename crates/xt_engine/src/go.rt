@@ -222,12 +222,22 @@ pub(crate) fn go_on_global<W: World>(
 {
     match given {
         Some(Entered::Value(value)) => {
+            drop(place);
             run.supplies.globals.push(Known { name, depth, value })?;
             go(alloc, run, world)
         }
-        Some(Entered::Refused(why, _)) => Err(halt(alloc, run, why)),
+        Some(Entered::Refused(why, _)) => {
+            drop(place);
+            Err(halt(alloc, run, why))
+        }
         Some(Entered::UnderWay) => Err(halt(alloc, run, circular(place))),
-        Some(Entered::Stream(_)) => go(alloc, run, world),
-        None => go(alloc, run, world),
+        Some(Entered::Stream(_)) => {
+            drop(place);
+            go(alloc, run, world)
+        }
+        None => {
+            drop(place);
+            go(alloc, run, world)
+        }
     }
 }
