@@ -33,10 +33,11 @@ use xt_tree::{Items, Value};
 pub(crate) fn start(alloc: Global, call: &Call, room: u64) -> Result<Run, Memory>
     ensures { IfOk result (λ run. progress_of run ≡ started (call_of call.now) room) }
 {
-    let supplies = supplies_for(alloc, call)?;
-    let mut frames = Vec::new(alloc);
     let parameters = call.parameters.share()?;
-    frames.push(Frame::Start(call.target.copy(alloc)?, call.node, parameters))?;
+    let target = call.target.copy(alloc)?;
+    let mut frames = Vec::new(alloc);
+    frames.push(Frame::Start(target, call.node, parameters))?;
+    let supplies = supplies_for(alloc, call)?;
     Ok(Run {
         room,
         supplies,

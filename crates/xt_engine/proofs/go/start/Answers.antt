@@ -20,6 +20,6 @@ returns c =
       waits = ForNothing;
       room = c.args.room;
     } in
-    let target = ap (λ t. P t (bindings_of c.in_ok-parameters.parameters)) c.in_ok-copy.ensures in
+    let target = ap (λ t. P t (bindings_of c.in_ok-parameters.parameters)) c.in_ok-target.ensures in
     let whole = target ∙ ap (λ given. P (target_of call.target) given) c.in_ok-parameters.ensures in
     rw (c.in_ok-push.ensures.items, c.new-frames.ensures.items, c.new.ensures, c.in_ok-supplies.ensures) whole
