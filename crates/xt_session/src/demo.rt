@@ -1,8 +1,9 @@
 // A demonstration: the generated session of a size is answered, and the summary of its replies is written.
 ghost use Rattle.std.specs.Prelude.{◌≡◌, ◌≢◌, ◌≤◌, ◌<◌, ℕ, List, take, IfOk, OnErr};
 ghost use Rattle.spec_lines.specs.Outside.{Appends, HasRisen};
+ghost use Rattle.spec_run.specs.Documents.{no_documents};
 ghost use Rattle.spec_session.specs.Served.{Demonstrates};
-ghost use Rattle.xt_repair.specs.View.{IsCurrent};
+ghost use Rattle.xt_repair.specs.View.{IsCurrent, documents_of, made_of};
 ghost use Rattle.xt_session.specs.State.{state_of};
 ghost use Rattle.xt_session.specs.Counting.{HasAnswered, IsSmall, Turns};
 
@@ -58,11 +59,25 @@ fn answer_all(alloc: Global, size: u16) -> Result<Counts, Memory>
     requires most { size ≤ 1000 }
     ensures { IfOk result (λ counts. HasAnswered size counts) }
 {
-    let mut commands = Gen::new(size);
     let mut held = Held::new(alloc);
+    let counts = answer_by(alloc, size, &mut held);
+    drop(held);
+    counts
+}
+
+// Answers them all by what holds nothing yet.
+fn answer_by(alloc: Global, size: u16, held: &mut Held) -> Result<Counts, Memory>
+    requires least { 1 ≤ size }
+    requires most { size ≤ 1000 }
+    requires documents { documents_of held.old ≡ no_documents }
+    requires made { made_of held.old ≡ 0 }
+    requires current { IsCurrent held.old }
+    ensures { IfOk result (λ counts. HasAnswered size counts) }
+{
+    let mut commands = Gen::new(size);
     let mut counts = Counts::new();
     while let Some(command) = commands.next(alloc)? {
-        answer_one(alloc, &mut held, command, &mut counts);
+        answer_one(alloc, held, command, &mut counts);
     }
     Ok(counts)
 }
