@@ -12,11 +12,13 @@
 
 mod documents;
 mod fault;
+mod printing;
 mod show;
 mod words;
 
 pub use documents::{body, built, document, node, push_reference};
 pub use fault::Fault;
+pub use printing::print;
 pub use show::{
     part, push_bytes, push_name, push_number, push_part, push_quoted, push_uri, push_word, push_yes,
 };

@@ -18,7 +18,7 @@ mod rules;
 mod units;
 
 use answer::push_answer;
-use cases::{Fault, behind, text_of, words_of};
+use cases::{Fault, behind, print, text_of, words_of};
 use modules::modules_of;
 use std::alloc::Global;
 use std::io;
@@ -34,13 +34,6 @@ fn answer_all(rt: &impl Print, alloc: Global, text: &str) -> io::Result<()> {
         print(rt, shown(alloc, line))?;
     }
     Ok(())
-}
-
-fn print(rt: &impl Print, shown: Result<Text, Memory>) -> io::Result<()> {
-    match shown {
-        Ok(text) => rt.println(text.as_str()),
-        Err(Memory) => rt.println("memory"),
-    }
 }
 
 // What is printed for a line.

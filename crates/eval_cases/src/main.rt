@@ -19,7 +19,7 @@
 mod scene;
 mod show;
 
-use cases::Fault;
+use cases::{Fault, print};
 use scene::Scene;
 use std::alloc::Global;
 use std::io;
@@ -38,13 +38,6 @@ fn take_all(rt: &impl Print, alloc: Global, scene: &mut Scene, text: &str) -> io
         print(rt, shown(alloc, scene, line))?;
     }
     Ok(())
-}
-
-fn print(rt: &impl Print, shown: Result<Text, Memory>) -> io::Result<()> {
-    match shown {
-        Ok(text) => rt.println(text.as_str()),
-        Err(Memory) => rt.println("memory"),
-    }
 }
 
 // What is printed for a line.

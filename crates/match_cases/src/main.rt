@@ -16,7 +16,7 @@
 mod rules;
 mod scene;
 
-use cases::Fault;
+use cases::{Fault, print};
 use scene::Scene;
 use std::alloc::Global;
 use std::io;
@@ -35,13 +35,6 @@ fn take_all(rt: &impl Print, alloc: Global, scene: &mut Scene, text: &str) -> io
         print(rt, shown(alloc, scene, line))?;
     }
     Ok(())
-}
-
-fn print(rt: &impl Print, shown: Result<Text, Memory>) -> io::Result<()> {
-    match shown {
-        Ok(text) => rt.println(text.as_str()),
-        Err(Memory) => rt.println("memory"),
-    }
 }
 
 // What is printed for a line.

@@ -5,7 +5,7 @@
 
 mod stream;
 
-use cases::{Fault, Word, push_part, push_quoted, text_of, words_of};
+use cases::{Fault, Word, print, push_part, push_quoted, text_of, words_of};
 use std::alloc::Global;
 use std::io;
 use stream::stream_of;
@@ -22,13 +22,6 @@ fn answer_all(rt: &impl Print, alloc: Global, text: &str) -> io::Result<()> {
         print(rt, shown(alloc, line))?;
     }
     Ok(())
-}
-
-fn print(rt: &impl Print, shown: Result<Text, Memory>) -> io::Result<()> {
-    match shown {
-        Ok(text) => rt.println(text.as_str()),
-        Err(Memory) => rt.println("memory"),
-    }
 }
 
 // What is printed for a line.

@@ -9,20 +9,19 @@ mod answer;
 mod modules;
 
 use answer::push_answer;
-use cases::{Fault, behind, text_of, words_of};
+use cases::{Fault, behind, print, text_of, words_of};
 use std::alloc::Global;
 use std::io;
-use std::io::{BufRead, BufReader};
 use xt_text::{Memory, Text};
 
 fn main(rt: HostRuntime) -> io::Result<()> {
-    let alloc = rt.alloc();
-    for line in BufReader::new(alloc, rt.reader())?.lines(alloc) {
-        let line = line?;
-        match shown(alloc, line.as_str()) {
-            Ok(text) => rt.println(text.as_str())?,
-            Err(Memory) => rt.println("memory")?,
-        }
+    let text = io::read_to_string(rt.alloc(), rt.reader())?;
+    answer_all(&rt, rt.alloc(), text.as_str())
+}
+
+fn answer_all(rt: &impl Print, alloc: Global, text: &str) -> io::Result<()> {
+    for line in text.lines() {
+        print(rt, shown(alloc, line))?;
     }
     Ok(())
 }

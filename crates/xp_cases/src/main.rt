@@ -9,7 +9,7 @@ mod sheets;
 mod texts;
 mod trees;
 
-use cases::{Fault, Word, push_yes, text_of, words_of};
+use cases::{Fault, Word, print, push_yes, text_of, words_of};
 use std::alloc::Global;
 use std::io;
 use xt_text::{Memory, Text};
@@ -24,13 +24,6 @@ fn answer_all(rt: &impl Print, alloc: Global, text: &str) -> io::Result<()> {
         print(rt, shown(alloc, line))?;
     }
     Ok(())
-}
-
-fn print(rt: &impl Print, shown: Result<Text, Memory>) -> io::Result<()> {
-    match shown {
-        Ok(text) => rt.println(text.as_str()),
-        Err(Memory) => rt.println("memory"),
-    }
 }
 
 // What is printed for a line.
