@@ -1,5 +1,6 @@
-"""What the benches of whole sessions share: PYX lines as XML, and the time of a session and of xsltproc."""
+"""What the benches share: shapes of documents, PYX lines as XML, and the time of a session and of xsltproc."""
 import os
+import random
 import resource
 import subprocess
 import sys
@@ -42,6 +43,49 @@ def session(commands):
         if done.returncode != 0 or b'refused D' in done.stdout or b'refused S9' in done.stdout:
             sys.exit(f'the program ended with status {done.returncode}: {done.stdout[-200:]!r}')
     return seconds(run)
+
+
+GREATEST_RATIO = 2.5
+
+# How deep the elements of the shape `deep` stand, and those of random form at most.
+DEPTH = 200
+RANDOM_DEPTH = 20
+
+
+def wide(elements):
+    """The document element with elements below it, each with an attribute and a text."""
+    return ['(t'] + [line for i in range(elements) for line in ('(r', f'Ax {i % 100}', f'-{i % 97}', ')r')] + [')t']
+
+
+def deep(elements):
+    """Chains of 200 elements side by side."""
+    return ['(t'] + (['(r'] * DEPTH + [')r'] * DEPTH) * (elements // DEPTH) + [')t']
+
+
+def of_random_form(elements):
+    """A walk down and up by chance, which goes down a little more often."""
+    chance, lines, depth = random.Random(1), ['(t'], 0
+    for _ in range(elements):
+        ends = min(depth, chance.choice([0] * 4 + [1] * 3 + [4]) if depth < RANDOM_DEPTH else 1)
+        lines += [')r'] * ends + ['(r']
+        depth += 1 - ends
+    return lines + [')r'] * depth + [')t']
+
+
+def compared(name, size, one, two):
+    """Prints what the work takes at a size and at twice that size, in seconds, and their ratio. Whether that is not
+    over the greatest: about 2 is in proportion to the size."""
+    ratio = two / max(one, 1e-9)
+    print(f'{name:44} {size:7} {one:8.3f} s {2 * size:7} {two:8.3f} s  ratio {ratio:5.2f}', flush=True)
+    return ratio <= GREATEST_RATIO
+
+
+def wanted(names):
+    """Those of these names that the words of the command line give, or all."""
+    unknown = [word for word in sys.argv[1:] if word not in names]
+    if unknown:
+        sys.exit(f'no bench {unknown[0]}; there are: {", ".join(names)}')
+    return sys.argv[1:] or names
 
 
 def escaped(text):
