@@ -14,7 +14,7 @@ use Rattle.spec_compile.specs.Sheet as spec
 use Rattle.xp_syntax.specs.SheetView.{alias_of, rule_of, space_rule_of, unit_of}
 use Rattle.xt_scoping.specs.View.{ranked_in}
 use Rattle.xt_scoping.specs.declared.violation.Ranked.{Ranked}
-use Rattle.xt_compile.specs.Rank.{AreNumbered}
+use Rattle.xt_rank.specs.Rank.{AreNumbered}
 use Rattle.xt_compile.specs.Rules.{rules_by}
 use Rattle.xt_compile.specs.declared.declared.Declared.{Declared}
 

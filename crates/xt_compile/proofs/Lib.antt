@@ -1,4 +1,3 @@
-pub mod Ranking
 pub mod Lasting
 pub mod Alternatives
 pub mod Tests

@@ -1,7 +1,6 @@
 pub mod Faulty
 pub mod Opened
 pub mod Placed
-pub mod Rank
 pub mod Rules
 pub mod Space
 pub mod Stock

@@ -12,13 +12,13 @@ ghost use Rattle.xt_compile.specs.Space.{space_rule};
 ghost use Rattle.xt_scoping.specs.View.{ranked_in};
 
 use crate::aliases::last_aliases;
-use crate::rank::in_rank;
 use crate::rules::{Common, add_rules};
 use crate::space::add_space_rules;
 use std::alloc::Global;
 use xp_syntax::{
     Alias, Declared as UnitKind, Method, Rule, Rules, Sheet, Site, SpaceRule, SpaceRules, Unit,
 };
+use xt_rank::in_rank;
 use xt_scoping::Ranked;
 use xt_text::Memory;
 use xt_units::{Declaration, NamedSpace, RuleTemplate};

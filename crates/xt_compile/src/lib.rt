@@ -17,7 +17,6 @@ mod declared;
 mod fault;
 mod opened;
 mod placing;
-mod rank;
 mod read;
 mod rules;
 mod space;

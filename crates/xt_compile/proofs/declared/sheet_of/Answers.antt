@@ -1,7 +1,7 @@
 use Rattle.std.proofs.Common.{List, map, sym, subst}
 use Rattle.spec_stylesheet.specs.Sheet as sheet
 use Rattle.xt_scoping.specs.View.{ranked_in}
-use Rattle.xt_compile.specs.Rank.{AreNumbered}
+use Rattle.xt_rank.specs.Rank.{AreNumbered}
 use Rattle.xt_compile.proofs.Declaring.{numbered}
 use Rattle.xt_compile.proofs.declared.sheet_of.Goals as goal
 

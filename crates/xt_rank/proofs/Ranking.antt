@@ -12,7 +12,7 @@ use Rattle.spec_stylesheet.specs.Sheet as sheet
 use Rattle.spec_compile.specs.Sheet.{is_greater, put_rule, in_rank}
 use Rattle.xp_syntax.specs.SheetView.{rule_of}
 use Rattle.xp_syntax.specs.declared.rule.Rule.{Rule}
-use Rattle.xt_compile.specs.Rank.{AreNumbered, AreRanked, IsRanked, Rank, ranked_rules}
+use Rattle.xt_rank.specs.Rank.{AreNumbered, AreRanked, IsRanked, Rank, ranked_rules}
 
 abbrev pub rank_cmp : Rank → Rank → Ordering
 rank_cmp a b = ordering_then (ordering_then (nat_cmp b.0.0 a.0.0) (int_cmp b.1.0 a.1.0)) (nat_cmp b.2.0 a.2.0)

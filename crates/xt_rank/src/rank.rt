@@ -2,7 +2,7 @@
 ghost use Rattle.std.specs.Prelude.{◌≡◌, ◌+◌, map, IfOk, OnOk};
 ghost use Rattle.spec_compile.specs.Sheet as spec;
 ghost use Rattle.xp_syntax.specs.SheetView.{rule_of};
-ghost use Rattle.xt_compile.specs.Rank.{AreNumbered, AreRanked, ranked_rules};
+ghost use Rattle.xt_rank.specs.Rank.{AreNumbered, AreRanked, ranked_rules};
 
 use std::alloc::Global;
 use std::cmp::Reverse;
@@ -15,7 +15,7 @@ type Rank = (Reverse<u64>, Reverse<i64>, Reverse<u64>);
 
 /// The rules in the order in which they count, the first for most (XSLT 1.0, section 5.5): by import precedence, then
 /// by priority, then the last in the stylesheet. They are given in the order of the stylesheet, numbered from 0.
-pub(crate) fn in_rank(alloc: Global, rules: Vec<Rule>) -> Result<Vec<Rule>, Memory>
+pub fn in_rank(alloc: Global, rules: Vec<Rule>) -> Result<Vec<Rule>, Memory>
     requires { AreNumbered 0 (map rule_of rules.items) }
     ensures { IfOk result (λ ranked. map rule_of ranked.items ≡ spec.in_rank (map rule_of rules.items)) }
 {

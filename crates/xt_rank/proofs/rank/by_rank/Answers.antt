@@ -1,5 +1,5 @@
-use Rattle.xt_compile.proofs.Ranking.{next_rule}
-use Rattle.xt_compile.proofs.rank.by_rank.Goals as goal
+use Rattle.xt_rank.proofs.Ranking.{next_rule}
+use Rattle.xt_rank.proofs.rank.by_rank.Goals as goal
 
 pub loop-rule-preserved : goal.loop-rule-preserved
 loop-rule-preserved c =

@@ -2,8 +2,8 @@ use Rattle.std.proofs.Common.{◌≡◌, List, ◌++◌, length, map}
 use Rattle.spec_compile.specs.Sheet as spec
 use Rattle.xp_syntax.specs.SheetView.{rule_of}
 use Rattle.xp_syntax.specs.declared.rule.Rule.{Rule}
-use Rattle.xt_compile.specs.Rank.{AreRanked, ranked_rules}
-use Rattle.xt_compile.proofs.rank.by_rank.Given as goal
+use Rattle.xt_rank.specs.Rank.{AreRanked, ranked_rules}
+use Rattle.xt_rank.proofs.rank.by_rank.Given as goal
 
 abbrev pub invariant-loop-rule : goal.invariant-loop-rule
 invariant-loop-rule l =
