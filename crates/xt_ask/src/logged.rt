@@ -1,7 +1,7 @@
 // Worlds that keep what is read there.
-ghost use Rattle.std.specs.Prelude.{◌≡◌, [], Some, map};
-ghost use Rattle.spec_meaning.specs.Program.{State};
-ghost use Rattle.xt_ask.specs.View.{read_of};
+ghost use Rattle.std.specs.Prelude.{◌≡◌, ◌++◌, ◌∷◌, [], Some, map, OnOk};
+ghost use Rattle.spec_meaning.specs.Program.{State, Asked};
+ghost use Rattle.xt_ask.specs.View.{answer_of, question_of, read_of};
 
 use crate::{Answer, Given, Question, Read, Wanted, World};
 use std::alloc::Global;
@@ -38,11 +38,14 @@ impl<W: World> World for Logged<W> {
     ghost name = { λ l. W.name l.world };
 
     fn ask(&mut self, question: &Question) -> Result<Answer, Memory> {
-        let asked = question.copy(self.alloc)?;
         let answer = self.world.ask(question)?;
-        let kept = answer.copy(self.alloc)?;
-        self.reads.push(Read::Asked(asked, kept))?;
-        Ok(answer)
+        match note_asked(self.alloc, &mut self.reads, question, &answer) {
+            Ok(()) => Ok(answer),
+            Err(memory) => {
+                drop(answer);
+                Err(memory)
+            }
+        }
     }
 
     fn see(&mut self, wanted: &Wanted, depth: u64, given: &Given) -> Result<(), Memory> {
@@ -51,4 +54,22 @@ impl<W: World> World for Logged<W> {
         self.reads.push(Read::Saw(wanted, depth, given))?;
         Ok(())
     }
+}
+
+// Keeps copies of a question and its answer.
+fn note_asked(
+    alloc: Global,
+    reads: &mut Vec<Read>,
+    question: &Question,
+    answer: &Answer,
+) -> Result<(), Memory>
+    ensures { OnOk result (map read_of reads.new.items ≡ map read_of reads.old.items ++ Asked (question_of question.now) (answer_of answer.now) ∷ []) }
+{
+    let asked = question.copy(alloc)?;
+    let Ok(kept) = answer.copy(alloc) else {
+        drop(asked);
+        return Err(Memory);
+    };
+    reads.push(Read::Asked(asked, kept))?;
+    Ok(())
 }
