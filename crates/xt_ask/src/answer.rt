@@ -103,8 +103,12 @@ impl Answer {
             Answer::Nodes(nodes) => Ok(Answer::Nodes(Vec::from_slice(alloc, nodes.as_slice())?)),
             Answer::Text(text) => Ok(Answer::Text(text.copy(alloc)?)),
             Answer::Named(kind, name, written) => {
-                let name = copy_name_if(alloc, name)?;
-                Ok(Answer::Named(*kind, name, written.copy(alloc)?))
+                let written = written.copy(alloc)?;
+                let Ok(name) = copy_name_if(alloc, name) else {
+                    drop(written);
+                    return Err(Memory);
+                };
+                Ok(Answer::Named(*kind, name, written))
             }
             Answer::Chosen(rule) => Ok(Answer::Chosen(*rule)),
             Answer::Copied(copy) => Ok(Answer::Copied(Fragment::new(copy.items().clone()?))),
@@ -143,7 +147,10 @@ impl Answer {
     {
         match self {
             Answer::Nodes(nodes) => nodes,
-            _ => Vec::new(alloc),
+            other => {
+                drop(other);
+                Vec::new(alloc)
+            }
         }
     }
 
@@ -153,7 +160,10 @@ impl Answer {
     {
         match self {
             Answer::Chosen(rule) => rule,
-            _ => None,
+            other => {
+                drop(other);
+                None
+            }
         }
     }
 
@@ -163,7 +173,10 @@ impl Answer {
     {
         match self {
             Answer::Text(text) => text,
-            _ => Text::new(alloc),
+            other => {
+                drop(other);
+                Text::new(alloc)
+            }
         }
     }
 }

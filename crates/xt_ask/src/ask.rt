@@ -21,8 +21,9 @@ pub fn ask_text<W: World>(alloc: Global, world: &mut W, node: NodeRef) -> Result
     ensures name { W.name world.new ≡ W.name world.old }
 {
     let question = Question::Text(node);
-    let answer = world.ask(&question)?;
-    Ok(answer.into_text(alloc))
+    let answer = world.ask(&question);
+    drop(question);
+    Ok(answer?.into_text(alloc))
 }
 
 /// The nodes of an axis that pass a node test, in the order of the axis.
@@ -37,8 +38,9 @@ pub fn ask_nodes<W: World>(
     ensures name { W.name world.new ≡ W.name world.old }
 {
     let question = Question::Step(node, axis, test);
-    let answer = world.ask(&question)?;
-    Ok(answer.into_nodes(alloc))
+    let answer = world.ask(&question);
+    drop(question);
+    Ok(answer?.into_nodes(alloc))
 }
 
 /// The nodes in document order, each once.
@@ -51,6 +53,7 @@ pub fn ask_order<W: World>(
     ensures name { W.name world.new ≡ W.name world.old }
 {
     let question = Question::Order(nodes);
-    let answer = world.ask(&question)?;
-    Ok(answer.into_nodes(alloc))
+    let answer = world.ask(&question);
+    drop(question);
+    Ok(answer?.into_nodes(alloc))
 }

@@ -59,7 +59,9 @@ fn stands<W: World>(alloc: Global, read: &Read, world: &mut W) -> Result<bool, M
         Read::Saw(_, _, _) => Ok(true),
         Read::Asked(question, answer) => {
             let now = world.ask(question)?;
-            now.same(alloc, answer)
+            let same = now.same(alloc, answer);
+            drop(now);
+            same
         }
     }
 }

@@ -99,8 +99,12 @@ impl Question {
                 Ok(Question::Order(Vec::from_slice(alloc, nodes.as_slice())?))
             }
             Question::Key(name, value) => {
-                let name = copy_name(alloc, name)?;
-                Ok(Question::Key(name, value.copy(alloc)?))
+                let value = value.copy(alloc)?;
+                let Ok(name) = copy_name(alloc, name) else {
+                    drop(value);
+                    return Err(Memory);
+                };
+                Ok(Question::Key(name, value))
             }
             Question::Choice(node, mode, candidates) => {
                 Ok(Question::Choice(*node, copy_name_if(alloc, mode)?, *candidates))
