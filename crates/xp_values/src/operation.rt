@@ -1,5 +1,6 @@
 // What operators make of two values (XPath 1.0, sections 3.3 to 3.5).
-ghost use Rattle.std.specs.Prelude.{◌≡◌, ℕ, ◌&&◌, ◌||◌};
+ghost use Rattle.std.specs.Prelude.{◌≡◌, ◌≢◌, ℕ, ◌&&◌, ◌||◌};
+ghost use Rattle.spec_expression.specs.declared.Operator.TheVariants as op;
 ghost use Rattle.xt_base.specs.Fault.{Gives};
 ghost use Rattle.spec_meaning.specs.Program.{Supply};
 ghost use Rattle.spec_meaning.specs.Convert as convert;
@@ -7,6 +8,7 @@ ghost use Rattle.spec_meaning.specs.Operation as operation;
 ghost use Rattle.xt_tree.specs.ValueView.{value_of};
 ghost use Rattle.xt_tree.specs.declared.node_ref.NodeRef.{NodeRef};
 ghost use Rattle.xt_ask.specs.Runs.{Runs};
+ghost use Rattle.xp_values.specs.View.{is_comparison};
 
 use crate::{compare, given, to_boolean, to_nodes, to_number};
 use spec_expression::Operator;
@@ -51,21 +53,52 @@ pub fn combine<W: World>(
     ensures name { W.name world.new ≡ W.name world.old }
 {
     match operator {
-        Operator::Or => Ok(Value::Boolean(is_either(&left, &right))),
-        Operator::And => Ok(Value::Boolean(are_both(&left, &right))),
         Operator::Union => unite(alloc, left, right, world),
-        Operator::Equal => comparison(alloc, operator, &left, &right, world),
-        Operator::NotEqual => comparison(alloc, operator, &left, &right, world),
-        Operator::Less => comparison(alloc, operator, &left, &right, world),
-        Operator::LessOrEqual => comparison(alloc, operator, &left, &right, world),
-        Operator::Greater => comparison(alloc, operator, &left, &right, world),
-        Operator::GreaterOrEqual => comparison(alloc, operator, &left, &right, world),
-        Operator::Add => arithmetic(alloc, operator, &left, &right, world),
-        Operator::Subtract => arithmetic(alloc, operator, &left, &right, world),
-        Operator::Multiply => arithmetic(alloc, operator, &left, &right, world),
-        Operator::Divide => arithmetic(alloc, operator, &left, &right, world),
-        Operator::Modulo => arithmetic(alloc, operator, &left, &right, world),
+        _ => {
+            let made = combine_lent(alloc, operator, &left, &right, world);
+            drop(left);
+            drop(right);
+            made
+        }
     }
+}
+
+// What an operator but `|` makes of two values, which only `|` takes apart.
+fn combine_lent<W: World>(
+    alloc: Global,
+    operator: Operator,
+    left: &Value,
+    right: &Value,
+    world: &mut W,
+) -> Result<Value, EvalFault>
+    ensures runs { operator ≢ op.Union → (supply : Supply NodeRef) → (depth : ℕ) → Runs value_of supply depth (operation.combined operator (value_of left.now) (value_of right.now)) (W.state world.old) (W.state world.new) result }
+    ensures name { W.name world.new ≡ W.name world.old }
+{
+    match operator {
+        Operator::Or => Ok(Value::Boolean(is_either(left, right))),
+        Operator::And => Ok(Value::Boolean(are_both(left, right))),
+        _ => {
+            if is_comparison(operator) {
+                comparison(alloc, operator, left, right, world)
+            } else {
+                arithmetic(alloc, operator, left, right, world)
+            }
+        }
+    }
+}
+
+fn is_comparison(operator: Operator) -> bool
+    ensures { result ≡ is_comparison operator }
+{
+    matches!(
+        operator,
+        Operator::Equal
+            | Operator::NotEqual
+            | Operator::Less
+            | Operator::LessOrEqual
+            | Operator::Greater
+            | Operator::GreaterOrEqual
+    )
 }
 
 fn is_either(left: &Value, right: &Value) -> bool
@@ -90,7 +123,13 @@ fn unite<W: World>(
     ensures runs { (supply : Supply NodeRef) → (depth : ℕ) → Runs value_of supply depth (operation.united (value_of left) (value_of right)) (W.state world.old) (W.state world.new) result }
     ensures name { W.name world.new ≡ W.name world.old }
 {
-    let mut nodes = to_nodes(left)?;
+    let mut nodes = match to_nodes(left) {
+        Ok(nodes) => nodes,
+        Err(fault) => {
+            drop(right);
+            return Err(fault);
+        }
+    };
     let more = to_nodes(right)?;
     nodes.extend_from_slice(more.as_slice())?;
     let ordered = ask_order(alloc, world, nodes)?;
