@@ -2,14 +2,16 @@
 ghost use Rattle.std.specs.Prelude.{◌≡◌, ℕ, [], ◌∷◌, drop, map, IfOk, IfErr};
 ghost use Rattle.spec_meaning.specs.Program.{Supply};
 ghost use Rattle.spec_meaning.specs.Call.{all_texts, argument, value_or_node};
+ghost use Rattle.spec_meaning.specs.Convert.{to_number};
 ghost use Rattle.xt_tree.specs.ValueView.{value_of};
 ghost use Rattle.xt_tree.specs.declared.node_ref.NodeRef.{NodeRef};
 ghost use Rattle.xt_ask.specs.View.{context_of};
-ghost use Rattle.xt_ask.specs.Runs.{Runs, items};
+ghost use Rattle.xt_ask.specs.Runs.{Runs, items, itself};
 
 use std::alloc::Global;
-use xp_values::to_text;
+use xp_values::{to_number, to_text};
 use xt_ask::{Context, EvalFault, Focus, World};
+use xt_base::Num;
 use xt_text::{Memory, Text};
 use xt_tree::{NodeRef, Value};
 
@@ -49,6 +51,20 @@ pub(crate) fn take_first(alloc: Global, arguments: &mut Vec<Value>) -> Value
         return Value::Text(Text::new(alloc));
     }
     arguments.remove(0)
+}
+
+/// The number of a value, which is let go.
+pub(crate) fn number_of<W: World>(
+    alloc: Global,
+    value: Value,
+    world: &mut W,
+) -> Result<Num, EvalFault>
+    ensures runs { (supply : Supply NodeRef) → (depth : ℕ) → Runs itself supply depth (to_number (value_of value)) (W.state world.old) (W.state world.new) result }
+    ensures name { W.name world.new ≡ W.name world.old }
+{
+    let number = to_number(alloc, &value, world);
+    drop(value);
+    number
 }
 
 /// All arguments as texts.

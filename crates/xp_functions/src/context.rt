@@ -1,12 +1,12 @@
 // Functions without arguments (XPath 1.0, sections 4.1 and 4.3; XSLT 1.0, section 12.4).
-ghost use Rattle.std.specs.Prelude.{◌≡◌, ℕ, [], ◌∷◌};
+ghost use Rattle.std.specs.Prelude.{◌≡◌, ℕ, [], ◌∷◌, OnErr, OnOk};
 ghost use Rattle.spec_meaning.specs.Value as value;
 ghost use Rattle.spec_meaning.specs.Supplies.{at_hand};
-ghost use Rattle.spec_meaning.specs.Program.{Give, Position, Size, State, Supply};
+ghost use Rattle.spec_meaning.specs.Program.{Counted, Give, Position, Saw, Size, State, Supply, noted};
 ghost use Rattle.spec_meaning.specs.Call.{known_or_needed, of_context};
 ghost use Rattle.xt_tree.specs.ValueView.{value_of};
 ghost use Rattle.xt_tree.specs.declared.node_ref.NodeRef.{NodeRef};
-ghost use Rattle.xt_ask.specs.View.{context_of, supplies_of};
+ghost use Rattle.xt_ask.specs.View.{context_of, supplies_of, wanted_of};
 ghost use Rattle.xt_ask.specs.Runs.{Runs};
 
 use crate::argument::only;
@@ -14,6 +14,7 @@ use spec_meaning::ContextFunction;
 use std::alloc::Global;
 use xp_values::count;
 use xt_ask::{Context, EvalFault, Focus, Given, Supplies, Wanted, World};
+use xt_text::Memory;
 use xt_tree::{NodeRef, Value};
 
 /// What a function without arguments gives.
@@ -58,8 +59,7 @@ fn position<W: World>(
     match known {
         Some(position) => count(position),
         None => {
-            let given = Given::Counted(supplies.position);
-            world.see(&Wanted::Position, depth, &given)?;
+            note_counted(Wanted::Position, depth, supplies.position, world)?;
             count(supplies.position)
         }
     }
@@ -78,9 +78,26 @@ fn size<W: World>(
     match known {
         Some(size) => count(size),
         None => {
-            let given = Given::Counted(supplies.size);
-            world.see(&Wanted::Size, depth, &given)?;
+            note_counted(Wanted::Size, depth, supplies.size, world)?;
             count(supplies.size)
         }
     }
+}
+
+// Notes that a number was needed of the run, and what was given.
+fn note_counted<W: World>(
+    wanted: Wanted,
+    depth: u64,
+    number: u64,
+    world: &mut W,
+) -> Result<(), Memory>
+    ensures seen { OnOk result (W.state world.new ≡ noted (Saw (wanted_of wanted) depth (Counted number)) (W.state world.old)) }
+    ensures err { OnErr result ((W.state world.new).truth ≡ (W.state world.old).truth) }
+    ensures name { W.name world.new ≡ W.name world.old }
+{
+    let given = Given::Counted(number);
+    let seen = world.see(&wanted, depth, &given);
+    drop(given);
+    drop(wanted);
+    seen
 }

@@ -148,7 +148,9 @@ fn nodes_of_key<W: World>(
 {
     let name = copy_name(alloc, name)?;
     let question = Question::Key(name, text);
-    let answer = world.ask(&question)?;
+    let asked = world.ask(&question);
+    drop(question);
+    let answer = asked?;
     nodes_or_refusal(alloc, answer)
 }
 
@@ -159,6 +161,9 @@ fn nodes_or_refusal(alloc: Global, answer: Answer) -> Result<Vec<NodeRef>, EvalF
     match answer {
         Answer::Refused(why) => Err(EvalFault::Refused(why)),
         Answer::Nodes(nodes) => Ok(nodes),
-        _ => Ok(Vec::new(alloc)),
+        other => {
+            drop(other);
+            Ok(Vec::new(alloc))
+        }
     }
 }

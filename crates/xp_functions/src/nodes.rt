@@ -116,7 +116,9 @@ fn of_node<W: World>(
     ensures name { W.name world.new ≡ W.name world.old }
 {
     let question = asked_by(part, node);
-    let answer = world.ask(&question)?;
+    let asked = world.ask(&question);
+    drop(question);
+    let answer = asked?;
     let text = told_by(alloc, part, answer)?;
     Ok(Value::Text(text))
 }
@@ -137,15 +139,23 @@ fn told_by(alloc: Global, part: Part, answer: Answer) -> Result<Text, Memory>
     ensures { IfOk result (λ text. text ≡ told_by part (answer_of answer)) }
 {
     match part {
-        Part::Local => local_in(alloc, answer),
-        Part::Uri => uri_in(alloc, answer),
+        Part::Local => {
+            let text = local_in(alloc, &answer);
+            drop(answer);
+            text
+        }
+        Part::Uri => {
+            let text = uri_in(alloc, &answer);
+            drop(answer);
+            text
+        }
         Part::Written => Ok(written_in(alloc, answer)),
         Part::Place => Ok(answer.into_text(alloc)),
     }
 }
 
-fn local_in(alloc: Global, answer: Answer) -> Result<Text, Memory>
-    ensures { IfOk result (λ text. text ≡ local_in (answer_of answer)) }
+fn local_in(alloc: Global, answer: &Answer) -> Result<Text, Memory>
+    ensures { IfOk result (λ text. text ≡ local_in (answer_of answer.now)) }
 {
     match answer {
         Answer::Named(_, name, _) => match name {
@@ -156,8 +166,8 @@ fn local_in(alloc: Global, answer: Answer) -> Result<Text, Memory>
     }
 }
 
-fn uri_in(alloc: Global, answer: Answer) -> Result<Text, Memory>
-    ensures { IfOk result (λ text. text ≡ uri_in (answer_of answer)) }
+fn uri_in(alloc: Global, answer: &Answer) -> Result<Text, Memory>
+    ensures { IfOk result (λ text. text ≡ uri_in (answer_of answer.now)) }
 {
     match answer {
         Answer::Named(_, name, _) => match name {
@@ -172,7 +182,13 @@ fn written_in(alloc: Global, answer: Answer) -> Text
     ensures { result ≡ written_in (answer_of answer) }
 {
     match answer {
-        Answer::Named(_, _, written) => written,
-        _ => Text::new(alloc),
+        Answer::Named(_, name, written) => {
+            drop(name);
+            written
+        }
+        other => {
+            drop(other);
+            Text::new(alloc)
+        }
     }
 }

@@ -7,7 +7,7 @@ ghost use Rattle.xt_tree.specs.ValueView.{value_of};
 ghost use Rattle.xt_tree.specs.declared.node_ref.NodeRef.{NodeRef};
 ghost use Rattle.xt_ask.specs.Runs.{Runs, itself};
 
-use crate::argument::take_first;
+use crate::argument::{number_of, take_first};
 use std::alloc::Global;
 use xp_text::substring;
 use xp_values::{to_number, to_text};
@@ -28,7 +28,7 @@ pub(crate) fn substring_of<W: World>(
     let first = take_first(alloc, &mut rest);
     let text = to_text(alloc, first, world)?;
     let second = take_first(alloc, &mut rest);
-    let start = to_number(alloc, &second, world)?;
+    let start = number_of(alloc, second, world)?;
     let count = length_argument(alloc, rest.as_slice(), world)?;
     let part = substring(alloc, text.as_str(), start, count)?;
     Ok(Value::Text(part))

@@ -8,9 +8,10 @@ ghost use Rattle.xt_tree.specs.ValueView.{value_of};
 ghost use Rattle.xt_tree.specs.declared.node_ref.NodeRef.{NodeRef};
 ghost use Rattle.xt_ask.specs.Runs.{Runs};
 
+use crate::argument::number_of;
 use spec_meaning::ValueFunction;
 use std::alloc::Global;
-use xp_values::{to_boolean, to_number, to_text};
+use xp_values::{to_boolean, to_text};
 use xt_ask::{EvalFault, World};
 use xt_tree::Value;
 
@@ -26,11 +27,14 @@ pub(crate) fn of_value<W: World>(
 {
     match function {
         ValueFunction::String => string(alloc, value, world),
-        ValueFunction::Number => number(alloc, &value, world),
-        ValueFunction::Boolean => Ok(Value::Boolean(to_boolean(&value))),
-        ValueFunction::Not => Ok(Value::Boolean(!to_boolean(&value))),
-        ValueFunction::Rounded => number(alloc, &value, world),
-        ValueFunction::Id => Ok(Value::Nodes(Vec::new(alloc))),
+        ValueFunction::Number => number(alloc, value, world),
+        ValueFunction::Boolean => Ok(Value::Boolean(boolean(value))),
+        ValueFunction::Not => Ok(Value::Boolean(!boolean(value))),
+        ValueFunction::Rounded => number(alloc, value, world),
+        ValueFunction::Id => {
+            drop(value);
+            Ok(Value::Nodes(Vec::new(alloc)))
+        }
     }
 }
 
@@ -44,10 +48,18 @@ fn string<W: World>(alloc: Global, value: Value, world: &mut W) -> Result<Value,
 }
 
 // The number of a value, as a value.
-fn number<W: World>(alloc: Global, value: &Value, world: &mut W) -> Result<Value, EvalFault>
-    ensures runs { (supply : Supply NodeRef) → (depth : ℕ) → Runs value_of supply depth (then (convert.to_number (value_of value.now)) (λ n. Give (values.Number n))) (W.state world.old) (W.state world.new) result }
+fn number<W: World>(alloc: Global, value: Value, world: &mut W) -> Result<Value, EvalFault>
+    ensures runs { (supply : Supply NodeRef) → (depth : ℕ) → Runs value_of supply depth (then (convert.to_number (value_of value)) (λ n. Give (values.Number n))) (W.state world.old) (W.state world.new) result }
     ensures name { W.name world.new ≡ W.name world.old }
 {
-    let number = to_number(alloc, value, world)?;
+    let number = number_of(alloc, value, world)?;
     Ok(Value::Number(number))
+}
+
+fn boolean(value: Value) -> bool
+    ensures { result ≡ convert.to_boolean (value_of value) }
+{
+    let is_true = to_boolean(&value);
+    drop(value);
+    is_true
 }
