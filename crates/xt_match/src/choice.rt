@@ -88,7 +88,9 @@ fn is_chosen<W: Evaluate>(
     if may_be_chosen(mode, candidates, rule) {
         let context = context_for(alloc, units, rule, node)?;
         let alternatives = rule.pattern.alternatives.as_slice();
-        matches_one(alloc, alternatives, node, called, &context, supplies, world)
+        let matches = matches_one(alloc, alternatives, node, called, &context, supplies, world);
+        drop(context);
+        matches
     } else {
         Ok(false)
     }
@@ -140,7 +142,9 @@ pub fn choose<W: Evaluate>(
 {
     let called = ask_called(world, node)?;
     let list = rules.rules.as_slice();
-    first_that_matches(
+    let chosen = first_that_matches(
         alloc, list, units, node, &called, mode, candidates, supplies, world,
-    )
+    );
+    drop(called);
+    chosen
 }

@@ -34,7 +34,9 @@ pub(crate) fn ask_called<W: World>(world: &mut W, node: NodeRef) -> Result<Answe
     ensures name { W.name world.new ≡ W.name world.old }
 {
     let question = Question::Name(node);
-    let answer = world.ask(&question)?;
+    let asked = world.ask(&question);
+    drop(question);
+    let answer = asked?;
     Ok(answer)
 }
 
@@ -52,7 +54,9 @@ fn has_key<W: World>(
     let name = copy_name(alloc, name)?;
     let value = value.copy(alloc)?;
     let question = Question::Key(name, value);
-    let answer = world.ask(&question)?;
+    let asked = world.ask(&question);
+    drop(question);
+    let answer = asked?;
     let nodes = answer.into_nodes(alloc);
     Ok(is_one(node, nodes.as_slice()))
 }
@@ -115,9 +119,11 @@ fn one_matches<W: Evaluate>(
 {
     for node in nodes {
         let called = ask_called(world, *node)?;
-        let matches = matches_steps(
+        let ended = matches_steps(
             alloc, start, steps, *node, &called, context, supplies, world,
-        )?;
+        );
+        drop(called);
+        let matches = ended?;
         if matches {
             return Ok(true);
         }
@@ -261,5 +267,7 @@ pub fn matches<W: Evaluate>(
 {
     let called = ask_called(world, node)?;
     let alternatives = pattern.alternatives.as_slice();
-    matches_one(alloc, alternatives, node, &called, context, supplies, world)
+    let matches = matches_one(alloc, alternatives, node, &called, context, supplies, world);
+    drop(called);
+    matches
 }

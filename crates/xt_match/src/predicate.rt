@@ -50,7 +50,11 @@ fn caught(ended: Result<Value, EvalFault>, position: u64) -> Result<bool, EvalFa
     ensures { (supply : Supply NodeRef) → (depth : ℕ) → (p : Program NodeRef (plain.Value NodeRef)) → (s t : State NodeRef) → Runs value_of supply depth p s t ended → Runs itself supply depth (definition.caught (and_then p (λ v. Give (meanings.keeps v position)))) s t result }
 {
     match ended {
-        Ok(value) => Ok(keeps(&value, position)),
+        Ok(value) => {
+            let kept = keeps(&value, position);
+            drop(value);
+            Ok(kept)
+        }
         Err(EvalFault::Refused(_)) => Ok(false),
         Err(EvalFault::Wants(name)) => Err(EvalFault::Wants(name)),
         Err(EvalFault::Memory) => Err(EvalFault::Memory),

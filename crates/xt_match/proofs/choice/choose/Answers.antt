@@ -17,4 +17,4 @@ returns-in_err-called-clause-runs g c =
 pub returns-clause-runs : goal.returns-clause-runs
 returns-clause-runs g c =
     let program = ask_then (Name c.args.node) (λ a. a) (first_that_matches same_ref (context_for (units_in c.args.units.now) c.args.node) c.args.mode.now (candidates_of c.args.candidates) 0 (map rule_of c.args.rules.now.rules.items) c.args.node) in
-    runs_as program (runs_then _ (c.in_ok-called.ensures.runs _ _) (rw c.as_slice-list.ensures.value at (c.first_that_matches.ensures.runs)))
+    runs_as program (runs_then _ (c.in_ok-called.ensures.runs _ _) (rw c.as_slice-list.ensures.value at (c.first_that_matches-chosen.ensures.runs)))

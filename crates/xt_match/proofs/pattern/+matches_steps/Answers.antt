@@ -43,8 +43,8 @@ pub matches_steps-matches_above-requires : goal.matches_steps-matches_above-requ
 matches_steps-matches_above-requires g t c =
     let shorter = c.in-Some.ensures.cases.1 in λ κs lives. (omega (arith, shorter), lives)
 
-pub one_matches-matches_steps-requires : goal.one_matches-matches_steps-requires
-one_matches-matches_steps-requires g t c =
+pub one_matches-matches_steps-ended-requires : goal.one_matches-matches_steps-ended-requires
+one_matches-matches_steps-ended-requires g t c =
     λ κs lives. (omega arith, lives)
 
 pub one_matches-returns-in_err-called-clause-runs : goal.one_matches-returns-in_err-called-clause-runs
@@ -81,5 +81,5 @@ one_matches-loop-node-preserved g t c =
           let on = goes_on _ turn (c.in_ok-called.ensures.runs _ _) in
           let after = goes_on _ on (c.in_ok-matches.ensures.runs f) in
           rw c.if-matches.false at after;
-      name = c.matches_steps.ensures.name ∙ c.ask_called.ensures.name ∙ c.loop-node.invariant.name;
+      name = c.matches_steps-ended.ensures.name ∙ c.ask_called.ensures.name ∙ c.loop-node.invariant.name;
     }

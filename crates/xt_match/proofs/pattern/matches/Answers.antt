@@ -16,4 +16,4 @@ returns-in_err-called-clause-runs g c f =
 pub returns-clause-runs : goal.returns-clause-runs
 returns-clause-runs g c f =
     let program = ask_then (Name c.args.node) (λ a. a) (matches_one same_ref (context_of f c.args.context.now) (map alternative_of c.args.pattern.now.alternatives.items) c.args.node) in
-    runs_as program (runs_then _ (c.in_ok-called.ensures.runs _ _) (rw c.as_slice-alternatives.ensures.value at (c.matches_one.ensures.runs f)))
+    runs_as program (runs_then _ (c.in_ok-called.ensures.runs _ _) (rw c.as_slice-alternatives.ensures.value at (c.matches_one-matches.ensures.runs f)))
