@@ -7,3 +7,5 @@ mod Digits
 mod Pieces
 mod Patterns
 mod Uris
+mod Adding
+mod Searching

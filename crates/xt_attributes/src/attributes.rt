@@ -47,7 +47,10 @@ fn named(alloc: Global, local: &str, value: Read<Value>) -> Result<Read<Option<E
     match value {
         Err(code) => Ok(Err(code)),
         Ok(value) => {
-            let name = Text::from_str(alloc, local)?;
+            let Ok(name) = Text::from_str(alloc, local) else {
+                drop(value);
+                return Err(Memory);
+            };
             Ok(Ok(Some(Entry { name, value })))
         }
     }

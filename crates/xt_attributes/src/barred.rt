@@ -14,42 +14,20 @@ use spec_expression::StaticCode;
 use spec_structure::XsltElement;
 use xp_syntax::{Expr, Pattern};
 
-fn calls_current(pattern: &Pattern) -> bool
-    ensures { result ≡ walk.has_in_pattern (walk.calls_of (codes "current")) (pattern_of pattern.now) }
-{
-    has_in_pattern(Sought::Current, pattern)
-}
-
-fn calls_key(pattern: &Pattern) -> bool
-    ensures { result ≡ walk.has_in_pattern (walk.calls_of (codes "key")) (pattern_of pattern.now) }
-{
-    has_in_pattern(Sought::Key, pattern)
-}
-
-fn has_variable(pattern: &Pattern) -> bool
-    ensures { result ≡ walk.has_in_pattern walk.variables (pattern_of pattern.now) }
-{
-    has_in_pattern(Sought::Variable, pattern)
-}
-
 fn is_barred_of_template(pattern: &Pattern) -> bool
     ensures { result ≡ (walk.has_in_pattern walk.variables (pattern_of pattern.now) || walk.has_in_pattern (walk.calls_of (codes "current")) (pattern_of pattern.now)) }
 {
-    has_variable(pattern) || calls_current(pattern)
-}
-
-fn is_barred_or_calls_key(pattern: &Pattern) -> bool
-    ensures { result ≡ (walk.has_in_pattern walk.variables (pattern_of pattern.now) || walk.has_in_pattern (walk.calls_of (codes "current")) (pattern_of pattern.now)
-        || walk.has_in_pattern (walk.calls_of (codes "key")) (pattern_of pattern.now)) }
-{
-    is_barred_of_template(pattern) || calls_key(pattern)
+    has_in_pattern(Sought::Variable, pattern) || has_in_pattern(Sought::Current, pattern)
 }
 
 fn is_barred_of_key(pattern: &Pattern) -> bool
     ensures { result ≡ (walk.has_in_pattern walk.variables (pattern_of pattern.now) || walk.has_in_pattern (walk.calls_of (codes "current")) (pattern_of pattern.now)
         || walk.has_in_pattern (walk.calls_of (codes "key")) (pattern_of pattern.now) || walk.starts_with_key (pattern_of pattern.now)) }
 {
-    is_barred_or_calls_key(pattern) || starts_with_key(pattern)
+    has_in_pattern(Sought::Variable, pattern)
+        || has_in_pattern(Sought::Current, pattern)
+        || has_in_pattern(Sought::Key, pattern)
+        || starts_with_key(pattern)
 }
 
 fn has_barred_pattern(element: XsltElement, pattern: &Pattern) -> bool
@@ -58,7 +36,7 @@ fn has_barred_pattern(element: XsltElement, pattern: &Pattern) -> bool
     match element {
         XsltElement::Template => is_barred_of_template(pattern),
         XsltElement::Key => is_barred_of_key(pattern),
-        _ => calls_current(pattern),
+        _ => has_in_pattern(Sought::Current, pattern),
     }
 }
 
@@ -110,6 +88,7 @@ fn one_unless_barred(element: Option<XsltElement>, value: Value) -> Read<Value>
     ensures { seen value_in result ≡ spec.unless_barred (barred_by element) (Ok (value_in value)) }
 {
     if is_barred(element, &value) {
+        drop(value);
         Err(StaticCode::BarredReference)
     } else {
         Ok(value)

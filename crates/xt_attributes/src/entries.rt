@@ -8,7 +8,7 @@ ghost use Rattle.spec_compile.specs.Value as spec;
 ghost use Rattle.xt_attributes.specs.View.{entries_in, value_in};
 
 use crate::value::Value;
-use crate::variables::add_entry_variables;
+use crate::variables::add_variables;
 use std::alloc::Global;
 use xt_names::Expanded;
 use xt_text::{Memory, Text};
@@ -63,6 +63,9 @@ impl Entries {
     pub fn add_variables(&self, alloc: Global, into: &mut Vec<Expanded>) -> Result<(), Memory>
         ensures { OnOk result (into.new.items ≡ into.old.items ++ flat_map (λ e. variables_by e.value) (entries_in self.now)) }
     {
-        add_entry_variables(alloc, self.list.as_slice(), into)
+        for entry in self.list.as_slice() {
+            add_variables(alloc, &entry.value, into)?;
+        }
+        Ok(())
     }
 }

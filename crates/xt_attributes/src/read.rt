@@ -121,6 +121,7 @@ fn known_expression(expr: Expr) -> Read<Value>
     ensures { seen value_in result ≡ spec.expression_by (Ok (expr_of expr)) }
 {
     if has(Sought::UnknownCall, &expr) {
+        drop(expr);
         Err(StaticCode::BadFunction)
     } else {
         Ok(Value::Expr(expr))

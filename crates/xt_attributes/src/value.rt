@@ -68,7 +68,10 @@ pub fn into_text(value: Option<Value>) -> Option<Text>
 {
     match value {
         Some(Value::Text(text)) => Some(text),
-        _ => None,
+        other => {
+            drop(other);
+            None
+        }
     }
 }
 
@@ -78,7 +81,10 @@ pub fn into_expr(value: Option<Value>) -> Option<Expr>
 {
     match value {
         Some(Value::Expr(expr)) => Some(expr),
-        _ => None,
+        other => {
+            drop(other);
+            None
+        }
     }
 }
 
@@ -88,7 +94,10 @@ pub fn into_pattern(value: Option<Value>) -> Option<Pattern>
 {
     match value {
         Some(Value::Pattern(pattern)) => Some(pattern),
-        _ => None,
+        other => {
+            drop(other);
+            None
+        }
     }
 }
 
@@ -98,7 +107,10 @@ pub fn into_avt(value: Option<Value>) -> Option<Avt>
 {
     match value {
         Some(Value::Avt(avt)) => Some(avt),
-        _ => None,
+        other => {
+            drop(other);
+            None
+        }
     }
 }
 
@@ -108,7 +120,10 @@ pub fn into_name(value: Option<Value>) -> Option<Expanded>
 {
     match value {
         Some(Value::Name(name)) => Some(name),
-        _ => None,
+        other => {
+            drop(other);
+            None
+        }
     }
 }
 
@@ -118,7 +133,10 @@ pub fn into_names(value: Option<Value>) -> Option<Vec<Expanded>>
 {
     match value {
         Some(Value::Names(names)) => Some(names),
-        _ => None,
+        other => {
+            drop(other);
+            None
+        }
     }
 }
 
@@ -128,7 +146,10 @@ pub fn into_tests(value: Option<Value>) -> Option<Vec<Test>>
 {
     match value {
         Some(Value::Tests(tests)) => Some(tests),
-        _ => None,
+        other => {
+            drop(other);
+            None
+        }
     }
 }
 
@@ -138,7 +159,10 @@ pub fn into_priority(value: Option<Value>) -> Option<i64>
 {
     match value {
         Some(Value::Priority(millionths)) => Some(millionths),
-        _ => None,
+        other => {
+            drop(other);
+            None
+        }
     }
 }
 
@@ -148,6 +172,9 @@ pub fn into_method(value: Option<Value>) -> Option<Method>
 {
     match value {
         Some(Value::Method(method)) => Some(method),
-        _ => None,
+        other => {
+            drop(other);
+            None
+        }
     }
 }

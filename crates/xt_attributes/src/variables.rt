@@ -4,30 +4,22 @@ ghost use Rattle.std.specs.List.{flat_map};
 ghost use Rattle.spec_compile.specs.Content.{variables_by};
 ghost use Rattle.spec_compile.specs.Walk as spec;
 ghost use Rattle.spec_expression.specs.Syntax.{exprs, links, steps};
-ghost use Rattle.xp_syntax.specs.PartView.{alternative_of, avt_of, avt_part_of, pattern_of, pattern_step_of};
+ghost use Rattle.xp_syntax.specs.PartView.{avt_of, avt_part_of, pattern_of, pattern_step_of};
 ghost use Rattle.xp_syntax.specs.View.{expr_of, link_of, step_of};
-ghost use Rattle.xt_attributes.specs.View.{entry_in, value_in};
+ghost use Rattle.xt_attributes.specs.View.{value_in};
 
-use crate::entries::Entry;
 use crate::value::Value;
 use std::alloc::Global;
-use xp_syntax::{Alternative, Avt, AvtPart, Expr, Link, Pattern, PatternStep, Step};
+use xp_syntax::{Avt, AvtPart, Expr, Link, Pattern, PatternStep, Step};
 use xt_names::Expanded;
 use xt_text::Memory;
-
-fn copy_of(alloc: Global, name: &Expanded) -> Result<Expanded, Memory>
-    ensures { IfOk result (λ copy. copy ≡ name.now) }
-{
-    let uri = name.uri().copy(alloc)?;
-    let local = name.local().copy(alloc)?;
-    Ok(Expanded::new(uri, local))
-}
 
 fn add_name(alloc: Global, name: &Expanded, into: &mut Vec<Expanded>) -> Result<(), Memory>
     ensures { OnOk result (into.new.items ≡ into.old.items ++ name.now ∷ []) }
 {
-    let copy = copy_of(alloc, name)?;
-    into.push(copy)?;
+    let uri = name.uri().copy(alloc)?;
+    let local = name.local().copy(alloc)?;
+    into.push(Expanded::new(uri, local))?;
     Ok(())
 }
 
@@ -88,16 +80,6 @@ fn add_in_steps(alloc: Global, list: &[Step], into: &mut Vec<Expanded>) -> Resul
     Ok(())
 }
 
-fn add_in_pattern_step(
-    alloc: Global,
-    step: &PatternStep,
-    into: &mut Vec<Expanded>,
-) -> Result<(), Memory>
-    ensures { OnOk result (into.new.items ≡ into.old.items ++ spec.variables_in_all (pattern_step_of step.now).step.predicates) }
-{
-    add_in_all(alloc, step.step.predicates.as_slice(), into)
-}
-
 fn add_in_pattern_steps(
     alloc: Global,
     steps: &[PatternStep],
@@ -106,30 +88,7 @@ fn add_in_pattern_steps(
     ensures { OnOk result (into.new.items ≡ into.old.items ++ flat_map (λ s. spec.variables_in_all s.step.predicates) (map pattern_step_of steps.now)) }
 {
     for step in steps {
-        add_in_pattern_step(alloc, step, into)?;
-    }
-    Ok(())
-}
-
-fn add_in_alternative(
-    alloc: Global,
-    alternative: &Alternative,
-    into: &mut Vec<Expanded>,
-) -> Result<(), Memory>
-    ensures { OnOk result (into.new.items ≡ into.old.items ++ spec.variables_in_alternative (alternative_of alternative.now)) }
-{
-    add_in_pattern_steps(alloc, alternative.steps.as_slice(), into)
-}
-
-fn add_in_alternatives(
-    alloc: Global,
-    alternatives: &[Alternative],
-    into: &mut Vec<Expanded>,
-) -> Result<(), Memory>
-    ensures { OnOk result (into.new.items ≡ into.old.items ++ flat_map spec.variables_in_alternative (map alternative_of alternatives.now)) }
-{
-    for alternative in alternatives {
-        add_in_alternative(alloc, alternative, into)?;
+        add_in_all(alloc, step.step.predicates.as_slice(), into)?;
     }
     Ok(())
 }
@@ -137,7 +96,10 @@ fn add_in_alternatives(
 fn add_in_pattern(alloc: Global, pattern: &Pattern, into: &mut Vec<Expanded>) -> Result<(), Memory>
     ensures { OnOk result (into.new.items ≡ into.old.items ++ spec.variables_in_pattern (pattern_of pattern.now)) }
 {
-    add_in_alternatives(alloc, pattern.alternatives.as_slice(), into)
+    for alternative in pattern.alternatives.as_slice() {
+        add_in_pattern_steps(alloc, alternative.steps.as_slice(), into)?;
+    }
+    Ok(())
 }
 
 fn add_in_part(alloc: Global, part: &AvtPart, into: &mut Vec<Expanded>) -> Result<(), Memory>
@@ -149,15 +111,6 @@ fn add_in_part(alloc: Global, part: &AvtPart, into: &mut Vec<Expanded>) -> Resul
     }
 }
 
-fn add_in_parts(alloc: Global, parts: &[AvtPart], into: &mut Vec<Expanded>) -> Result<(), Memory>
-    ensures { OnOk result (into.new.items ≡ into.old.items ++ flat_map spec.variables_in_part (map avt_part_of parts.now)) }
-{
-    for part in parts {
-        add_in_part(alloc, part, into)?;
-    }
-    Ok(())
-}
-
 /// Adds the variables that stand in a value template. Want of memory alone is an error, after which some are added.
 pub fn add_template_variables(
     alloc: Global,
@@ -166,7 +119,10 @@ pub fn add_template_variables(
 ) -> Result<(), Memory>
     ensures { OnOk result (into.new.items ≡ into.old.items ++ spec.variables_in_template (avt_of template.now)) }
 {
-    add_in_parts(alloc, template.parts.as_slice(), into)
+    for part in template.parts.as_slice() {
+        add_in_part(alloc, part, into)?;
+    }
+    Ok(())
 }
 
 /// Adds the variables that stand in a value. Want of memory alone is an error, after which some are added.
@@ -179,18 +135,4 @@ pub fn add_variables(alloc: Global, value: &Value, into: &mut Vec<Expanded>) -> 
         Value::Avt(template) => add_template_variables(alloc, template, into),
         _ => Ok(()),
     }
-}
-
-/// Adds the variables that stand in these values.
-pub(crate) fn add_entry_variables(
-    alloc: Global,
-    list: &[Entry],
-    into: &mut Vec<Expanded>,
-) -> Result<(), Memory>
-    ensures { OnOk result (into.new.items ≡ into.old.items ++ flat_map (λ e. variables_by e.value) (map entry_in list.now)) }
-{
-    for entry in list {
-        add_variables(alloc, &entry.value, into)?;
-    }
-    Ok(())
 }

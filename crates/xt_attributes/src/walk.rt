@@ -5,12 +5,12 @@ ghost use Rattle.std.specs.Str.{chars};
 ghost use Rattle.spec_compile.specs.Value as value;
 ghost use Rattle.spec_compile.specs.Walk as spec;
 ghost use Rattle.spec_expression.specs.Syntax.{exprs, links, steps};
-ghost use Rattle.xp_syntax.specs.PartView.{alternative_of, avt_of, avt_part_of, pattern_of, pattern_step_of};
+ghost use Rattle.xp_syntax.specs.PartView.{avt_of, avt_part_of, pattern_of, pattern_step_of};
 ghost use Rattle.xp_syntax.specs.View.{expr_of, link_of, step_of};
 ghost use Rattle.xt_attributes.specs.Sought.{sought_in};
 
 use xp_functions::find;
-use xp_syntax::{Alternative, Avt, AvtPart, Expr, Link, Pattern, PatternStep, Start, Step};
+use xp_syntax::{Avt, AvtPart, Expr, Link, Pattern, PatternStep, Start, Step};
 use xt_names::Expanded;
 
 /// What is looked for.
@@ -139,23 +139,11 @@ fn has_step(sought: Sought, list: &[Step]) -> bool
     false
 }
 
-fn has_in_step(sought: Sought, step: &PatternStep) -> bool
-    ensures { result ≡ spec.has_one (sought_in sought) (step_of step.now.step).predicates }
-{
-    has_one(sought, step.step.predicates.as_slice())
-}
-
-fn has_in_alternative(sought: Sought, alternative: &Alternative) -> bool
-    ensures { result ≡ spec.has_in_alternative (sought_in sought) (alternative_of alternative.now) }
-{
-    has_in_steps(sought, alternative.steps.as_slice())
-}
-
 fn has_in_steps(sought: Sought, steps: &[PatternStep]) -> bool
     ensures { result ≡ list_any (λ s. spec.has_one (sought_in sought) s.step.predicates) (map pattern_step_of steps.now) }
 {
     for step in steps {
-        if has_in_step(sought, step) {
+        if has_one(sought, step.step.predicates.as_slice()) {
             return true;
         }
     }
@@ -166,14 +154,8 @@ fn has_in_steps(sought: Sought, steps: &[PatternStep]) -> bool
 pub(crate) fn has_in_pattern(sought: Sought, pattern: &Pattern) -> bool
     ensures { result ≡ spec.has_in_pattern (sought_in sought) (pattern_of pattern.now) }
 {
-    has_in_alternatives(sought, pattern.alternatives.as_slice())
-}
-
-fn has_in_alternatives(sought: Sought, alternatives: &[Alternative]) -> bool
-    ensures { result ≡ list_any (spec.has_in_alternative (sought_in sought)) (map alternative_of alternatives.now) }
-{
-    for alternative in alternatives {
-        if has_in_alternative(sought, alternative) {
+    for alternative in pattern.alternatives.as_slice() {
+        if has_in_steps(sought, alternative.steps.as_slice()) {
             return true;
         }
     }
@@ -189,22 +171,16 @@ fn has_in_part(sought: Sought, part: &AvtPart) -> bool
     }
 }
 
-fn has_in_parts(sought: Sought, parts: &[AvtPart]) -> bool
-    ensures { result ≡ list_any (spec.has_in_part (sought_in sought)) (map avt_part_of parts.now) }
+/// Whether the value template has such a part.
+pub(crate) fn has_in_template(sought: Sought, template: &Avt) -> bool
+    ensures { result ≡ spec.has_in_template (sought_in sought) (avt_of template.now) }
 {
-    for part in parts {
+    for part in template.parts.as_slice() {
         if has_in_part(sought, part) {
             return true;
         }
     }
     false
-}
-
-/// Whether the value template has such a part.
-pub(crate) fn has_in_template(sought: Sought, template: &Avt) -> bool
-    ensures { result ≡ spec.has_in_template (sought_in sought) (avt_of template.now) }
-{
-    has_in_parts(sought, template.parts.as_slice())
 }
 
 fn is_key_start(start: &Start) -> bool
@@ -218,20 +194,14 @@ fn is_key_start(start: &Start) -> bool
     }
 }
 
-fn any_starts_with_key(alternatives: &[Alternative]) -> bool
-    ensures { result ≡ list_any (λ a. spec.is_key_start a.start) (map alternative_of alternatives.now) }
+/// Whether the pattern begins with `key()`.
+pub(crate) fn starts_with_key(pattern: &Pattern) -> bool
+    ensures { result ≡ spec.starts_with_key (pattern_of pattern.now) }
 {
-    for alternative in alternatives {
+    for alternative in pattern.alternatives.as_slice() {
         if is_key_start(&alternative.start) {
             return true;
         }
     }
     false
-}
-
-/// Whether the pattern begins with `key()`.
-pub(crate) fn starts_with_key(pattern: &Pattern) -> bool
-    ensures { result ≡ spec.starts_with_key (pattern_of pattern.now) }
-{
-    any_starts_with_key(pattern.alternatives.as_slice())
 }
