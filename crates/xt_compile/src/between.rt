@@ -26,11 +26,26 @@ pub(crate) fn first_violation(
     ensures { IfOk result (λ first. refusals_in first ≡ spec.first_violation names.now (map violation_in violations.now)) }
 {
     let faulty = faulty_modules(alloc, violations)?;
+    first_by_name(alloc, &faulty, names, violations)
+}
+
+// The same where these are the names of the modules in which faults stand.
+fn first_by_name(
+    alloc: Global,
+    faulty: &IndexSet<String>,
+    names: &[Text],
+    violations: &[Violation],
+) -> Result<Option<StaticRefusal>, Memory>
+    ensures { IfOk result (λ first. AreFaulty (map violation_in violations.now) faulty.now.keys → refusals_in first ≡ spec.first_violation names.now (map violation_in violations.now)) }
+{
     for name in names {
-        match first_where_faulty(alloc, &faulty, name, violations)? {
+        match first_where_faulty(alloc, faulty, name, violations)? {
             None => {}
             Some(fault) => {
-                let name = name.copy(alloc)?;
+                let Ok(name) = name.copy(alloc) else {
+                    drop(fault);
+                    return Err(Memory);
+                };
                 return Ok(Some(refusal_at(name, fault)));
             }
         }

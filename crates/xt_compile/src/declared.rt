@@ -94,6 +94,8 @@ fn declare(alloc: Global, declared: &mut Declared, ranked: Ranked) -> Result<(),
     let top_level = ranked.top_level;
     let site = top_level.site;
     let declaration = top_level.declaration;
+    drop(top_level.uses);
+    drop(top_level.outline);
     match declaration {
         Declaration::Template(template) => {
             add_template(alloc, declared, precedence, imported, site, template)
@@ -106,12 +108,19 @@ fn declare(alloc: Global, declared: &mut Declared, ranked: Ranked) -> Result<(),
         ),
         Declaration::Set(set) => add_unit(declared, precedence, site, UnitKind::AttributeSet(set)),
         Declaration::Key(key) => add_unit(declared, precedence, site, UnitKind::Key(key)),
-        Declaration::SpaceRule(space) => add_space(declared, precedence, space),
+        Declaration::SpaceRule(space) => {
+            drop(site);
+            add_space(declared, precedence, space)
+        }
         Declaration::Output(method) => {
+            drop(site);
             set_method(declared, method);
             Ok(())
         }
-        Declaration::Alias(alias) => add_alias(declared, alias),
+        Declaration::Alias(alias) => {
+            drop(site);
+            add_alias(declared, alias)
+        }
     }
 }
 

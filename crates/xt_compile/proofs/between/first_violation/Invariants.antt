@@ -1,8 +1,0 @@
-use Rattle.std.proofs.Common.{◌≡◌, drop, map}
-use Rattle.spec_compile.specs.Sheet as spec
-use Rattle.xt_scoping.specs.View.{violation_in}
-use Rattle.xt_compile.proofs.between.first_violation.Given as goal
-
-abbrev pub invariant-loop-name : goal.invariant-loop-name
-invariant-loop-name l =
-    spec.first_violation (drop l.name-index l.names) (map violation_in l.fn.violations) ≡ spec.first_violation l.names (map violation_in l.fn.violations)
