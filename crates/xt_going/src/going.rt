@@ -71,10 +71,16 @@ impl Going {
         ensures truth { (W.state world.new).truth ≡ (W.state world.old).truth }
         ensures name { W.name world.new ≡ W.name world.old }
     {
-        let answer = world.ask(&question)?;
-        let kept = answer.copy(alloc)?;
-        self.note(Event::Asked(question, kept))?;
-        Ok(answer)
+        let Ok(answer) = world.ask(&question) else {
+            drop(question);
+            return Err(Memory);
+        };
+        let copied = answer.copy(alloc);
+        let Ok(()) = self.note(Event::Asked(question, answer)) else {
+            drop(copied);
+            return Err(Memory);
+        };
+        copied
     }
 
     /// Puts an item. Holes are of what is entered alone, so it has none.
@@ -109,9 +115,16 @@ impl Going {
         match self.outer.pop() {
             Some(around) => {
                 let inner = mem::replace(&mut self.top, around);
-                self.top.push(wrapped(wrapping, Rc::new(alloc, inner)?))
+                let Ok(content) = Rc::new(alloc, inner) else {
+                    drop(wrapping);
+                    return Err(Memory);
+                };
+                self.top.push(wrapped(wrapping, content))
             }
-            None => Ok(()),
+            None => {
+                drop(wrapping);
+                Ok(())
+            }
         }
     }
 
@@ -151,7 +164,10 @@ impl Going {
     pub fn leave_hole(&mut self, call: Call, depth: u64) -> Result<(), Memory>
         ensures { OnOk result (going_of self.new ≡ opened (call_of call) depth (going_of self.old)) }
     {
-        self.top.push(Item::Hole)?;
+        let Ok(()) = self.top.push(Item::Hole) else {
+            drop(call);
+            return Err(Memory);
+        };
         self.note(Event::Entered(call, depth))
     }
 
@@ -173,8 +189,8 @@ impl Going {
     {
         while let Some(around) = self.outer.pop() {
             let inner = mem::replace(&mut self.top, around);
-            self.top
-                .push(wrapped(nameless_attribute(alloc), Rc::new(alloc, inner)?))?;
+            let content = Rc::new(alloc, inner)?;
+            self.top.push(wrapped(nameless_attribute(alloc), content))?;
         }
         let whole = mem::replace(&mut self.top, Items::new(alloc));
         Ok(Rc::new(alloc, whole)?)

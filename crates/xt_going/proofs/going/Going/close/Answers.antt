@@ -12,8 +12,8 @@ loop-around-preserved c =
     let top = stream_of c.loop-around.self.top in
     let around = c.in-Some.around in
     let rest = c.pop.new.self.items in
-    let content = stream_of c.in_ok-new.field-0.value in
-    let inner = c.wrapped.ensures ∙ ap (λ (how : Wrapping). wrapped how content) c.nameless_attribute.ensures ∙ ap (λ i. aside_of (stream_of i)) (c.in_ok-new.ensures.ok ∙ c.replace-inner.ensures.value) in
+    let content = stream_of c.in_ok-content.content.value in
+    let inner = c.wrapped.ensures ∙ ap (λ (how : Wrapping). wrapped how content) c.nameless_attribute.ensures ∙ ap (λ i. aside_of (stream_of i)) (c.in_ok-content.ensures.ok ∙ c.replace-inner.ensures.value) in
     let longer = c.in_ok-push.ensures.ok ∙ ap (λ i. followed (stream_of i) (single_of c.wrapped.result)) c.replace-inner.ensures.after ∙ ap (followed (stream_of around)) inner in
     record {
       closed = ap (λ s. closed_in s (stacked rest [])) longer ∙ sym (closed_more rest around top) ∙ ap (λ l. closed_in top (stacked l [])) (sym c.in-Some.ensures.items) ∙ c.loop-around.invariant.closed;
