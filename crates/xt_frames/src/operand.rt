@@ -22,10 +22,8 @@ ghost use Rattle.xt_going.specs.View.{going_of};
 ghost use Rattle.xt_frames.specs.View.{here_of};
 ghost use Rattle.xt_frames.specs.Left.{Found, hand, IsStill};
 
-use crate::noting::{
-    noted_attribute, noted_criterion, noted_element, noted_expansion, noted_instruction, noted_key,
-    noted_nodes, noted_number, noted_text, noted_truth, noted_value,
-};
+use crate::meant::{AttributeName, KeyBy, Operand};
+use crate::noting::noted;
 use crate::settle::settle;
 use crate::{Came, Run, Standing};
 use std::alloc::Global;
@@ -50,18 +48,7 @@ pub fn value<W: World>(
     ensures truth { (W.state world.new).truth ≡ (W.state world.old).truth }
     ensures name { W.name world.new ≡ W.name world.old }
 {
-    let context = here.context(site)?;
-    let mut reads = Vec::new(alloc);
-    let found = noted_value(
-        alloc,
-        expr,
-        here.focus,
-        &context,
-        &run.supplies,
-        world,
-        &mut reads,
-    );
-    settle(alloc, run, &site.place, reads, found)
+    came(alloc, run, expr, site, here, world)
 }
 
 /// The value of an expression as a string.
@@ -78,18 +65,7 @@ pub fn text<W: World>(
     ensures truth { (W.state world.new).truth ≡ (W.state world.old).truth }
     ensures name { W.name world.new ≡ W.name world.old }
 {
-    let context = here.context(site)?;
-    let mut reads = Vec::new(alloc);
-    let found = noted_text(
-        alloc,
-        expr,
-        here.focus,
-        &context,
-        &run.supplies,
-        world,
-        &mut reads,
-    );
-    settle(alloc, run, &site.place, reads, found)
+    came(alloc, run, expr, site, here, world)
 }
 
 /// The nodes that an expression selects.
@@ -106,18 +82,7 @@ pub fn nodes<W: World>(
     ensures truth { (W.state world.new).truth ≡ (W.state world.old).truth }
     ensures name { W.name world.new ≡ W.name world.old }
 {
-    let context = here.context(site)?;
-    let mut reads = Vec::new(alloc);
-    let found = noted_nodes(
-        alloc,
-        expr,
-        here.focus,
-        &context,
-        &run.supplies,
-        world,
-        &mut reads,
-    );
-    settle(alloc, run, &site.place, reads, found)
+    came(alloc, run, expr, site, here, world)
 }
 
 /// The value of an expression as a boolean.
@@ -134,18 +99,7 @@ pub fn truth<W: World>(
     ensures truth { (W.state world.new).truth ≡ (W.state world.old).truth }
     ensures name { W.name world.new ≡ W.name world.old }
 {
-    let context = here.context(site)?;
-    let mut reads = Vec::new(alloc);
-    let found = noted_truth(
-        alloc,
-        expr,
-        here.focus,
-        &context,
-        &run.supplies,
-        world,
-        &mut reads,
-    );
-    settle(alloc, run, &site.place, reads, found)
+    came(alloc, run, expr, site, here, world)
 }
 
 /// The string of a value template.
@@ -162,18 +116,7 @@ pub fn expansion<W: World>(
     ensures truth { (W.state world.new).truth ≡ (W.state world.old).truth }
     ensures name { W.name world.new ≡ W.name world.old }
 {
-    let context = here.context(site)?;
-    let mut reads = Vec::new(alloc);
-    let found = noted_expansion(
-        alloc,
-        avt,
-        here.focus,
-        &context,
-        &run.supplies,
-        world,
-        &mut reads,
-    );
-    settle(alloc, run, &site.place, reads, found)
+    came(alloc, run, avt, site, here, world)
 }
 
 /// The element that an xsl:element makes.
@@ -190,18 +133,7 @@ pub fn element<W: World>(
     ensures truth { (W.state world.new).truth ≡ (W.state world.old).truth }
     ensures name { W.name world.new ≡ W.name world.old }
 {
-    let context = here.context(site)?;
-    let mut reads = Vec::new(alloc);
-    let found = noted_element(
-        alloc,
-        made,
-        here.focus,
-        &context,
-        &run.supplies,
-        world,
-        &mut reads,
-    );
-    settle(alloc, run, &site.place, reads, found)
+    came(alloc, run, made, site, here, world)
 }
 
 /// The attribute that an xsl:attribute makes.
@@ -218,18 +150,7 @@ pub fn attribute<W: World>(
     ensures truth { (W.state world.new).truth ≡ (W.state world.old).truth }
     ensures name { W.name world.new ≡ W.name world.old }
 {
-    let context = here.context(site)?;
-    let mut reads = Vec::new(alloc);
-    let found = noted_attribute(
-        alloc,
-        made,
-        here.focus,
-        &context,
-        &run.supplies,
-        world,
-        &mut reads,
-    );
-    settle(alloc, run, &site.place, reads, found)
+    came(alloc, run, &AttributeName(made), site, here, world)
 }
 
 /// The processing instruction that an xsl:processing-instruction makes.
@@ -246,18 +167,7 @@ pub fn instruction<W: World>(
     ensures truth { (W.state world.new).truth ≡ (W.state world.old).truth }
     ensures name { W.name world.new ≡ W.name world.old }
 {
-    let context = here.context(site)?;
-    let mut reads = Vec::new(alloc);
-    let found = noted_instruction(
-        alloc,
-        avt,
-        here.focus,
-        &context,
-        &run.supplies,
-        world,
-        &mut reads,
-    );
-    settle(alloc, run, &site.place, reads, found)
+    came(alloc, run, avt, site, here, world)
 }
 
 /// How a sort key compares, where the instruction that it sorts for stands.
@@ -273,18 +183,7 @@ pub fn criterion<W: World>(
     ensures truth { (W.state world.new).truth ≡ (W.state world.old).truth }
     ensures name { W.name world.new ≡ W.name world.old }
 {
-    let context = here.context(&key.site)?;
-    let mut reads = Vec::new(alloc);
-    let found = noted_criterion(
-        alloc,
-        key,
-        here.focus,
-        &context,
-        &run.supplies,
-        world,
-        &mut reads,
-    );
-    settle(alloc, run, &key.site.place, reads, found)
+    came(alloc, run, key, &key.site, here, world)
 }
 
 /// The key of the current node.
@@ -301,19 +200,14 @@ pub fn key_value<W: World>(
     ensures truth { (W.state world.new).truth ≡ (W.state world.old).truth }
     ensures name { W.name world.new ≡ W.name world.old }
 {
-    let context = here.context(&key.site)?;
-    let mut reads = Vec::new(alloc);
-    let found = noted_key(
+    came(
         alloc,
-        key,
-        criterion,
-        here.focus,
-        &context,
-        &run.supplies,
+        run,
+        &KeyBy { key, criterion },
+        &key.site,
+        here,
         world,
-        &mut reads,
-    );
-    settle(alloc, run, &key.site.place, reads, found)
+    )
 }
 
 /// The text of an xsl:number.
@@ -330,11 +224,28 @@ pub fn number<W: World>(
     ensures truth { (W.state world.new).truth ≡ (W.state world.old).truth }
     ensures name { W.name world.new ≡ W.name world.old }
 {
+    came(alloc, run, numbering, site, here, world)
+}
+
+// What an operand comes to.
+fn came<T: Drop, O: Operand<T>, W: World>(
+    alloc: Global,
+    run: &mut Run,
+    operand: &O,
+    site: &Site,
+    here: &Standing,
+    world: &mut W,
+) -> Result<Came<T>, Memory>
+    ensures found { IfOk result (λ came. (k : O.Seen → plan.Plan NodeRef) → Found O.seen (W.state world.old).truth (hand run.old) run.old.room (asked (site_of site.now) (here_of here.now) (O.meant operand.now) k) k here.now.depth (place_of site.now.place) (going_of run.old.going) (going_of run.new.going) came) }
+    ensures still { IsStill run.old run.new }
+    ensures truth { (W.state world.new).truth ≡ (W.state world.old).truth }
+    ensures name { W.name world.new ≡ W.name world.old }
+{
     let context = here.context(site)?;
     let mut reads = Vec::new(alloc);
-    let found = noted_number(
+    let found = noted(
         alloc,
-        numbering,
+        operand,
         here.focus,
         &context,
         &run.supplies,

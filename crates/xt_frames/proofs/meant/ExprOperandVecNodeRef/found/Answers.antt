@@ -1,5 +1,5 @@
 use Rattle.xt_ask.proofs.Steps.{runs_then, runs_stop, exits}
-use Rattle.xt_frames.proofs.meant.nodes_of.Goals as goal
+use Rattle.xt_frames.proofs.meant.ExprOperandVecNodeRef.found.Goals as goal
 
 pub returns-in_err-value-clause-runs : goal.returns-in_err-value-clause-runs
 returns-in_err-value-clause-runs g c = exits _ c.from_residual.ensures.1 (runs_stop _ c.in_err-value.ensures.runs)
