@@ -67,13 +67,25 @@ fn with_argument(
 ) -> Result<Frame, Memory>
     ensures { IfOk result (λ f. (after : Plan NodeRef) → left_frame f after ≡ left_with (holders.Argument name arguments) (value_of value) after) }
 {
-    let done = one_more(alloc, name, value, arguments.done)?;
-    Ok(Frame::Arguments(Arguments {
-        bindings: arguments.bindings,
-        next: arguments.next,
+    let Arguments {
+        bindings,
+        next,
         done,
-        here: arguments.here,
-        to: arguments.to,
+        here,
+        to,
+    } = arguments;
+    let Ok(done) = one_more(alloc, name, value, done) else {
+        drop(bindings);
+        drop(here);
+        drop(to);
+        return Err(Memory);
+    };
+    Ok(Frame::Arguments(Arguments {
+        bindings,
+        next,
+        done,
+        here,
+        to,
     }))
 }
 
@@ -169,7 +181,10 @@ fn hold_content(
 pub fn take_held(alloc: Global, run: &mut Run, holder: Holder) -> Result<Next, Memory>
     ensures { IfOk result (λ next. (ask : question.Question NodeRef → question.Answer NodeRef) → StepsFrom ask (Frame.Take holder) run.old run.new next) }
 {
-    let value = taken_value(alloc, &mut run.going)?;
+    let Ok(value) = taken_value(alloc, &mut run.going) else {
+        drop(holder);
+        return Err(Memory);
+    };
     let frame = holding(alloc, holder, value)?;
     push(run, frame)?;
     Ok(Next::Went)

@@ -34,7 +34,10 @@ impl<'a, W: World> World for Noting<'a, W> {
 
     fn ask(&mut self, question: &Question) -> Result<Answer, Memory> {
         let answer = self.world.ask(question)?;
-        note_asked(self.alloc, self.reads, question, &answer)?;
+        let Ok(()) = note_asked(self.alloc, self.reads, question, &answer) else {
+            drop(answer);
+            return Err(Memory);
+        };
         Ok(answer)
     }
 
@@ -56,7 +59,10 @@ fn note_asked(
     ensures { OnOk result (map read_of reads.new.items ≡ map read_of reads.old.items ++ Asked (question_of question.now) (answer_of answer.now) ∷ []) }
 {
     let question = question.copy(alloc)?;
-    let answer = answer.copy(alloc)?;
+    let Ok(answer) = answer.copy(alloc) else {
+        drop(question);
+        return Err(Memory);
+    };
     reads.push(Read::Asked(question, answer))?;
     Ok(())
 }

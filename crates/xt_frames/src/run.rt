@@ -120,7 +120,10 @@ pub fn write_fragment(run: &mut Run, fragment: &Fragment, rest: Frame) -> Result
 pub fn want(run: &mut Run, rest: Frame, call: Call, depth: u64) -> Result<Next, Memory>
     ensures { IfOk result (λ next. (ask : question.Question NodeRef → question.Answer NodeRef) → Does ask (Enter (call_of call) depth (left_frame rest (left_in run.old))) (suc (length run.old.frames.items)) run.old run.new next) }
 {
-    push(run, rest)?;
+    let Ok(()) = push(run, rest) else {
+        drop(call);
+        return Err(Memory);
+    };
     Ok(Next::Want(call, depth))
 }
 
@@ -173,7 +176,11 @@ pub fn sink(
 ) -> Result<Next, Memory>
     ensures { IfOk result (λ next. (ask : question.Question NodeRef → question.Answer NodeRef) → Does ask (Begin (inside (place_of place.now) (instrs (map instr_of content.now.value.items)) (here_of here) (Wrap (wrapping_of end) (left_frame rest (left_in run.old))))) (suc (length run.old.frames.items)) run.old run.new next) }
 {
-    begin(alloc, run, rest)?;
+    let Ok(()) = begin(alloc, run, rest) else {
+        drop(end);
+        drop(here);
+        return Err(Memory);
+    };
     push(run, Frame::Wrap(end))?;
     let inner = share_content(content)?;
     go_into(alloc, run, place, inner, here)

@@ -86,7 +86,11 @@ fn event_at(alloc: Global, place: &Place, read: Read) -> Result<Event, Memory>
     match read {
         Read::Asked(question, answer) => Ok(Event::Asked(question, answer)),
         Read::Saw(wanted, depth, given) => {
-            let place = copy_place(alloc, place)?;
+            let Ok(place) = copy_place(alloc, place) else {
+                drop(wanted);
+                drop(given);
+                return Err(Memory);
+            };
             Ok(Event::Saw(wanted, depth, place, given))
         }
     }

@@ -9,7 +9,7 @@ use Rattle.xt_frames.proofs.run.want.Goals as goal
 pub returns : goal.returns
 returns c ask =
     let r = c.args.run.now in
-    let p = c.in_ok-push.ensures in
+    let p = c.in-Ok.ensures in
     record {
       so = passes_at (ap (Enter (call_of c.args.call) c.args.depth) (pushed r c.push.new.run c.args.rest p.frames)) (ap going_of p.going) stays;
       room = p.room;
