@@ -1,7 +1,7 @@
 // Whether a node is counted.
-ghost use Rattle.std.specs.Prelude.{◌≡◌, ℕ};
+ghost use Rattle.std.specs.Prelude.{◌≡◌, ℕ, IfOk, OnErr, OnOk};
 ghost use Rattle.std.specs.Option.{option_map};
-ghost use Rattle.spec_meaning.specs.Program.{Ask, Give, Supply};
+ghost use Rattle.spec_meaning.specs.Program.{Ask, Give, Supply, asked};
 ghost use Rattle.spec_meaning.specs.Question as question;
 ghost use Rattle.spec_meaning.specs.Supplies.{at_hand};
 ghost use Rattle.spec_transform.specs.Numbering as definition;
@@ -20,6 +20,7 @@ use xp_syntax::Pattern;
 use xt_ask::{Answer, Context, EvalFault, Evaluate, Focus, Question, Supplies, World};
 use xt_match::matches;
 use xt_names::Expanded;
+use xt_text::Memory;
 use xt_tree::NodeRef;
 
 /// What is counted.
@@ -60,14 +61,28 @@ fn called_alike(one: &Answer, other: &Answer) -> bool
     }
 }
 
+// What a node is called.
+fn ask_name<W: World>(node: NodeRef, world: &mut W) -> Result<Answer, Memory>
+    ensures answer { IfOk result (λ a. answer_of a ≡ (W.state world.old).truth (question.Name node)) }
+    ensures asked { OnOk result (W.state world.new ≡ asked (question.Name node) (W.state world.old)) }
+    ensures err { OnErr result ((W.state world.new).truth ≡ (W.state world.old).truth) }
+    ensures name { W.name world.new ≡ W.name world.old }
+{
+    let question = Question::Name(node);
+    let answer = world.ask(&question);
+    drop(question);
+    answer
+}
+
 // Whether the node is called so.
 fn is_called<W: World>(called: &Answer, node: NodeRef, world: &mut W) -> Result<bool, EvalFault>
     ensures runs { (supply : Supply NodeRef) → (depth : ℕ) → Runs itself supply depth (Ask (question.Name node) (λ a. Give (definition.called_alike (answer_of called.now) a))) (W.state world.old) (W.state world.new) result }
     ensures name { W.name world.new ≡ W.name world.old }
 {
-    let question = Question::Name(node);
-    let answer = world.ask(&question)?;
-    Ok(called_alike(called, &answer))
+    let answer = ask_name(node, world)?;
+    let alike = called_alike(called, &answer);
+    drop(answer);
+    Ok(alike)
 }
 
 /// Whether the node is counted.
@@ -101,8 +116,7 @@ pub(crate) fn counted_by<'a, W: World>(
     match count {
         Some(pattern) => Ok(Counted::Matching(pattern)),
         None => {
-            let question = Question::Name(focus.node);
-            let answer = world.ask(&question)?;
+            let answer = ask_name(focus.node, world)?;
             Ok(Counted::CalledAs(answer))
         }
     }

@@ -193,7 +193,7 @@ pub(crate) fn numbers<W: Evaluate>(
 {
     refer_to_all(alloc, count, focus, context, supplies, world)?;
     let counted = counted_by(&count.count, focus, world)?;
-    at_level(
+    let numbers = at_level(
         alloc,
         count.level,
         &count.from,
@@ -202,5 +202,7 @@ pub(crate) fn numbers<W: Evaluate>(
         context,
         supplies,
         world,
-    )
+    );
+    drop(counted);
+    numbers
 }

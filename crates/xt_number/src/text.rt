@@ -1,13 +1,17 @@
 // The text of an xsl:number.
-ghost use Rattle.std.specs.Prelude.{◌≡◌, [], ◌∷◌, IfOk};
+ghost use Rattle.std.specs.Prelude.{◌≡◌, ℕ, [], ◌∷◌, IfOk};
 ghost use Rattle.std.specs.Option.{option_map};
 ghost use Rattle.spec_format.specs.Format as spec;
 ghost use Rattle.spec_stylesheet.specs.Instruction.{FromValue};
+ghost use Rattle.spec_meaning.specs.Convert.{to_number};
+ghost use Rattle.spec_meaning.specs.Program.{Supply};
 ghost use Rattle.spec_meaning.specs.Supplies.{at_hand};
 ghost use Rattle.spec_transform.specs.Numbering as definition;
 ghost use Rattle.xp_axes.specs.View.{same_ref};
 ghost use Rattle.xp_syntax.specs.PartView.{avt_of, number_source_of, numbering_of};
 ghost use Rattle.xp_syntax.specs.View.{expr_of};
+ghost use Rattle.xt_tree.specs.ValueView.{value_of};
+ghost use Rattle.xt_tree.specs.declared.node_ref.NodeRef.{NodeRef};
 ghost use Rattle.xt_ask.specs.View.{context_of, supplies_of};
 ghost use Rattle.xt_ask.specs.Runs.{Runs, itself, items};
 
@@ -15,11 +19,22 @@ use crate::levels::{numbers, only};
 use std::alloc::Global;
 use xp_syntax::{Avt, Expr, NumberSource, Numbering};
 use xp_values::to_number;
-use xt_ask::{Context, EvalFault, Evaluate, Focus, Supplies};
+use xt_ask::{Context, EvalFault, Evaluate, Focus, Supplies, World};
 use xt_avt::expand;
 use xt_base::Num;
 use xt_text::{Memory, Text};
 use xt_tokens::{Format, Grouping, grouping_size, split, write};
+use xt_tree::Value;
+
+// The number of a value, which is let go.
+fn converted<W: World>(alloc: Global, value: Value, world: &mut W) -> Result<Num, EvalFault>
+    ensures runs { (supply : Supply NodeRef) → (depth : ℕ) → Runs itself supply depth (to_number (value_of value)) (W.state world.old) (W.state world.new) result }
+    ensures name { W.name world.new ≡ W.name world.old }
+{
+    let number = to_number(alloc, &value, world);
+    drop(value);
+    number
+}
 
 // The number of the value of an expression, as a list of it.
 fn number_of<W: Evaluate>(
@@ -34,7 +49,7 @@ fn number_of<W: Evaluate>(
     ensures name { W.name world.new ≡ W.name world.old }
 {
     let value = world.value(alloc, expr, focus, context, supplies)?;
-    let number = to_number(alloc, &value, world)?;
+    let number = converted(alloc, value, world)?;
     Ok(only(alloc, number)?)
 }
 
@@ -137,5 +152,11 @@ pub fn number_text<W: Evaluate>(
     let size = &numbering.grouping_size;
     let size = expand_if(alloc, size, focus, context, supplies, world)?;
     let list = numbers.as_slice();
-    Ok(write_by(alloc, &format, list, &separator, &size)?)
+    let written = write_by(alloc, &format, list, &separator, &size);
+    drop(size);
+    drop(separator);
+    drop(format);
+    drop(numbers);
+    let text = written?;
+    Ok(text)
 }

@@ -9,4 +9,4 @@ use Rattle.xt_number.proofs.counted.is_called.Goals as goal
 pub returns-clause-runs : goal.returns-clause-runs
 returns-clause-runs g c supply depth =
     asks (Name c.args.node) (λ a. Give (called_alike (answer_of c.args.called.now) a)) (c.in_ok-answer.ensures {u = tt}).answer (c.in_ok-answer.ensures {u = tt}).asked
-    (runs_gives c.called_alike.ensures)
+    (runs_gives c.called_alike-alike.ensures)

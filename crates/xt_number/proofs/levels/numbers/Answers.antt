@@ -11,4 +11,4 @@ returns-in_err-counted-clause-runs g c =
 
 pub returns-clause-runs : goal.returns-clause-runs
 returns-clause-runs g c =
-    runs_then _ c.in_ok-refer_to_all.ensures.runs (runs_then _ (c.in_ok-counted.ensures.runs _ _ c.args.context.now) c.at_level.ensures.runs)
+    runs_then _ c.in_ok-refer_to_all.ensures.runs (runs_then _ (c.in_ok-counted.ensures.runs _ _ c.args.context.now) c.at_level-numbers.ensures.runs)

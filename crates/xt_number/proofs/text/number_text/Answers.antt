@@ -14,8 +14,8 @@ returns-in_err-separator-clause-runs g c = exits _ c.from_residual-in_err-separa
 pub returns-in_err-size-clause-runs : goal.returns-in_err-size-clause-runs
 returns-in_err-size-clause-runs g c = exits _ c.from_residual-in_err-size.ensures.1 (runs_then _ c.in_ok-numbers.ensures.runs (runs_then _ c.in_ok-format.ensures.runs (runs_then _ c.in_ok-separator.ensures.runs (runs_stop _ c.in_err-size.ensures.runs))))
 
-pub returns-in_err-write_by-clause-runs : goal.returns-in_err-write_by-clause-runs
-returns-in_err-write_by-clause-runs g c = exits _ c.from_residual-in_err-write_by.ensures.1 (runs_then _ c.in_ok-numbers.ensures.runs (runs_then _ c.in_ok-format.ensures.runs (runs_then _ c.in_ok-separator.ensures.runs (runs_then _ c.in_ok-size.ensures.runs (runs_memory refl refl)))))
+pub returns-in_err-text-clause-runs : goal.returns-in_err-text-clause-runs
+returns-in_err-text-clause-runs g c = exits _ c.from_residual-in_err-text.ensures.1 (runs_then _ c.in_ok-numbers.ensures.runs (runs_then _ c.in_ok-format.ensures.runs (runs_then _ c.in_ok-separator.ensures.runs (runs_then _ c.in_ok-size.ensures.runs (runs_memory refl refl)))))
 
 pub returns-clause-runs : goal.returns-clause-runs
-returns-clause-runs g c = runs_then _ c.in_ok-numbers.ensures.runs (runs_then _ c.in_ok-format.ensures.runs (runs_then _ c.in_ok-separator.ensures.runs (runs_then _ c.in_ok-size.ensures.runs (runs_gives (rw c.as_slice-list.ensures.value at (c.in_ok-write_by.ensures {u = tt}))))))
+returns-clause-runs g c = runs_then _ c.in_ok-numbers.ensures.runs (runs_then _ c.in_ok-format.ensures.runs (runs_then _ c.in_ok-separator.ensures.runs (runs_then _ c.in_ok-size.ensures.runs (runs_gives (rw c.as_slice-list.ensures.value at (c.in_ok-text.ensures {u = tt}))))))
