@@ -1,4 +1,4 @@
-//! What the programs of cases on texts of stylesheets have in common: the scope of the texts, and the forms
+//! What the libraries of cases on texts of stylesheets have in common: the scope of the texts, and the forms
 //! in which trees and refusals are written.
 #![tactic(auto)]
 

@@ -113,6 +113,12 @@ fn decoded(alloc: Global, raw: &[u8]) -> Result<Word, Memory> {
     Ok(word)
 }
 
+/// The name of the call that the words are, and its arguments.
+pub fn call_of(words: &[Word]) -> Result<(&str, &[Word]), Fault> {
+    let (call, arguments) = words.split_first().ok_or(Fault::NoCase)?;
+    Ok((text_of(call)?, arguments))
+}
+
 /// The text of this word, from 0.
 pub fn text_at(words: &[Word], index: usize) -> Result<&str, Fault> {
     if index < words.len() {

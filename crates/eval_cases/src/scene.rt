@@ -75,9 +75,6 @@ impl Scene {
             out.push(' ')?;
             return self.expand(alloc, out, text);
         }
-        if line.is_empty() || line.starts_with("#") {
-            return Ok(());
-        }
         if line == "again" {
             return self.ask_again(alloc, out);
         }

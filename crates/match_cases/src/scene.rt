@@ -66,9 +66,6 @@ impl Scene {
             let pattern = pattern_of(alloc, text, &self.context.scope)?;
             return self.answer(alloc, out, &pattern);
         }
-        if line.is_empty() || line.starts_with("#") {
-            return Ok(());
-        }
         let words = words_of(alloc, line)?;
         self.set(alloc, out, words.as_slice())
     }

@@ -1,49 +1,10 @@
-//! Sessions as data: reads sessions from standard input, one after another, runs each over a source and
-//! a sink in memory, and prints its status and what it wrote. What is wanted stands in the file `stdout`.
-//!
-//! A session is a line `== NAME`, and behind it the lines of its input up to the next line that begins with
-//! `==` or `#`; empty lines before that belong to none. A comment (`#`) is printed as it is.
-//!
-//! A line stands for its bytes and one LF. In a line that begins with `%` the rest counts: `%` and two
-//! hexadecimal digits stand for that byte, and with `%.` at its end no LF follows. `%*N LINE` stands for N
-//! times LINE. What a session wrote is printed in the same form.
-//!
-//! Behind the name, after ` | `, may stand: `limit N`, how many bytes are taken at most; `pieces N`, how many
-//! bytes a read gives at most; `reads N,N` and `writes N,N`, the numbers of the calls that fail; `room N`, how
-//! many bytes the sink has place for; `over std`, that source and sink are a reader and a writer of std, which
-//! move one byte a call and never fail; and last `words WORD..`, the words of a command line behind the
-//! program's name. With these `run` is called, else `serve`.
+//! Cases of whole sessions: reads sessions from standard input in the form that the crate `session_scripts` tells,
+//! runs each, and prints its status and what it wrote. What is wanted stands in the file `stdout`.
 #![tactic(auto)]
 
-mod line;
-mod one_byte;
-mod session;
-mod setting;
-mod show;
-
-use session::Sessions;
 use std::io;
-use std::io::{BufRead, BufReader};
-use xt_text::Memory;
 
 fn main(rt: HostRuntime) -> io::Result<()> {
-    let alloc = rt.alloc();
-    let mut sessions = Sessions::new(alloc);
-    for line in BufReader::new(alloc, rt.reader())?.lines(alloc) {
-        let line = line?;
-        let taken = sessions.take_line(alloc, line.as_str());
-        print(&rt, &mut sessions, taken)?;
-    }
-    let ended = sessions.end(alloc);
-    print(&rt, &mut sessions, ended)
-}
-
-// Prints what was answered since the last call.
-fn print(rt: &impl Print, sessions: &mut Sessions, done: Result<(), Memory>) -> io::Result<()> {
-    if done.is_err() {
-        rt.println("memory")?;
-    }
-    rt.print(sessions.answers())?;
-    sessions.clear();
-    Ok(())
+    let text = io::read_to_string(rt.alloc(), rt.reader())?;
+    session_scripts::play_all(&rt, rt.alloc(), text.as_str())
 }

@@ -1,5 +1,4 @@
-//! Cases of matching and of choice. A line is one of these, and any other line, as a comment or an empty one, is
-//! printed as it is:
+//! Cases of matching and of choice. A line is one of these, and is printed with what it asks behind it:
 //!
 //! - `document LINE..`: the document whose lines these are, its nodes numbered from 0, the root; rules are
 //!   forgotten
@@ -16,33 +15,23 @@
 mod rules;
 mod scene;
 
-use cases::{Fault, print};
+use cases::{Answers, Fault};
 use scene::Scene;
 use std::alloc::Global;
 use std::io;
 use xt_text::{Memory, Text};
 
-fn main(rt: HostRuntime) -> io::Result<()> {
-    let text = io::read_to_string(rt.alloc(), rt.reader())?;
-    match Scene::new(rt.alloc()) {
-        Ok(mut scene) => take_all(&rt, rt.alloc(), &mut scene, text.as_str()),
+/// Prints the head of a section, and the answer to each of its lines.
+pub fn answer_all(rt: &impl Print, alloc: Global, section: &str) -> io::Result<()> {
+    match Scene::new(alloc) {
+        Ok(mut scene) => cases::answer_all(rt, alloc, section, &mut scene),
         Err(Memory) => rt.println("memory"),
     }
 }
 
-fn take_all(rt: &impl Print, alloc: Global, scene: &mut Scene, text: &str) -> io::Result<()> {
-    for line in text.lines() {
-        print(rt, shown(alloc, scene, line))?;
-    }
-    Ok(())
-}
-
-// What is printed for a line.
-fn shown(alloc: Global, scene: &mut Scene, line: &str) -> Result<Text, Memory> {
-    let mut out = Text::from_str(alloc, line)?;
-    match scene.take(alloc, &mut out, line) {
-        Ok(()) => Ok(out),
-        Err(Fault::NoCase) => Text::from_str(alloc, "?"),
-        Err(Fault::Memory) => Err(Memory),
+impl Answers for Scene {
+    fn answer(&mut self, alloc: Global, out: &mut Text, line: &str) -> Result<(), Fault> {
+        out.push_str(line)?;
+        self.take(alloc, out, line)
     }
 }

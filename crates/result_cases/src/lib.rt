@@ -5,46 +5,31 @@
 
 mod stream;
 
-use cases::{Fault, Word, print, push_part, push_quoted, text_of, words_of};
+use cases::{Answers, Fault, Word, call_of, push_part, push_quoted, words_of};
 use std::alloc::Global;
 use std::io;
 use stream::stream_of;
 use xt_result::{messages, pyx, shape, text};
-use xt_text::{Memory, Text};
+use xt_text::Text;
 
-fn main(rt: HostRuntime) -> io::Result<()> {
-    let text = io::read_to_string(rt.alloc(), rt.reader())?;
-    answer_all(&rt, rt.alloc(), text.as_str())
+#[derive(Clone, Copy)]
+struct Results;
+
+/// Prints the head of a section, and the answer to each of its lines.
+pub fn answer_all(rt: &impl Print, alloc: Global, section: &str) -> io::Result<()> {
+    cases::answer_all(rt, alloc, section, &mut Results)
 }
 
-fn answer_all(rt: &impl Print, alloc: Global, text: &str) -> io::Result<()> {
-    for line in text.lines() {
-        print(rt, shown(alloc, line))?;
-    }
-    Ok(())
-}
-
-// What is printed for a line.
-fn shown(alloc: Global, line: &str) -> Result<Text, Memory> {
-    if line.is_empty() || line.starts_with("#") {
-        return Text::from_str(alloc, line);
-    }
-    let mut out = Text::new(alloc);
-    match answer(alloc, &mut out, line) {
-        Ok(()) => Ok(out),
-        Err(Fault::NoCase) => Text::from_str(alloc, "?"),
-        Err(Fault::Memory) => Err(Memory),
-    }
-}
-
-fn answer(alloc: Global, out: &mut Text, line: &str) -> Result<(), Fault> {
-    let words = words_of(alloc, line)?;
-    let (call, arguments) = words.as_slice().split_first().ok_or(Fault::NoCase)?;
-    match text_of(call)? {
-        "lines" => push_lines(alloc, out, arguments),
-        "text" => push_text(alloc, out, arguments),
-        "messages" => push_messages(alloc, out, arguments),
-        _ => Err(Fault::NoCase),
+impl Answers for Results {
+    fn answer(&mut self, alloc: Global, out: &mut Text, line: &str) -> Result<(), Fault> {
+        let words = words_of(alloc, line)?;
+        let (call, arguments) = call_of(words.as_slice())?;
+        match call {
+            "lines" => push_lines(alloc, out, arguments),
+            "text" => push_text(alloc, out, arguments),
+            "messages" => push_messages(alloc, out, arguments),
+            _ => Err(Fault::NoCase),
+        }
     }
 }
 
