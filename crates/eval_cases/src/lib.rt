@@ -18,23 +18,15 @@
 mod scene;
 mod show;
 
-use cases::{Answers, Fault};
 use scene::Scene;
 use std::alloc::Global;
 use std::io;
-use xt_text::{Memory, Text};
+use xt_text::Memory;
 
 /// Prints the head of a section, and the answer to each of its lines.
 pub fn answer_all(rt: &impl Print, alloc: Global, section: &str) -> io::Result<()> {
     match Scene::new(alloc) {
         Ok(mut scene) => cases::answer_all(rt, alloc, section, &mut scene),
         Err(Memory) => rt.println("memory"),
-    }
-}
-
-impl Answers for Scene {
-    fn answer(&mut self, alloc: Global, out: &mut Text, line: &str) -> Result<(), Fault> {
-        out.push_str(line)?;
-        self.take(alloc, out, line)
     }
 }

@@ -1,7 +1,7 @@
 // What the lines so far have set, and what the next one asks.
 
 use crate::show::{push_answer, push_code, push_held};
-use cases::{Fault, Word, behind, document, node, text_at, words_of};
+use cases::{Answers, Fault, Word, behind, document, node, text_at, words_of};
 use std::alloc::Global;
 use std::rc::Rc;
 use xp_eval::{Eval, eval};
@@ -47,6 +47,25 @@ fn scope(alloc: Global) -> Result<Scope, Memory> {
     Ok(scope)
 }
 
+impl Answers for Scene {
+    fn answer(&mut self, alloc: Global, out: &mut Text, line: &str) -> Result<(), Fault> {
+        out.push_str(line)?;
+        if let Some(text) = line.strip_suffix(" ->") {
+            out.push(' ')?;
+            return self.evaluate(alloc, out, text);
+        }
+        if let Some(text) = line.strip_suffix(" =>") {
+            out.push(' ')?;
+            return self.expand(alloc, out, text);
+        }
+        if line == "again" {
+            return self.ask_again(alloc, out);
+        }
+        let words = words_of(alloc, line)?;
+        self.set(alloc, words.as_slice())
+    }
+}
+
 impl Scene {
     /// Nothing is set.
     pub fn new(alloc: Global) -> Result<Scene, Memory> {
@@ -63,23 +82,6 @@ impl Scene {
             supplies: no_supplies(alloc),
             reads: Vec::new(alloc),
         })
-    }
-
-    /// Takes a line, and adds to it what it asks.
-    pub fn take(&mut self, alloc: Global, out: &mut Text, line: &str) -> Result<(), Fault> {
-        if let Some(text) = line.strip_suffix(" ->") {
-            out.push(' ')?;
-            return self.answer(alloc, out, text);
-        }
-        if let Some(text) = line.strip_suffix(" =>") {
-            out.push(' ')?;
-            return self.expand(alloc, out, text);
-        }
-        if line == "again" {
-            return self.ask_again(alloc, out);
-        }
-        let words = words_of(alloc, line)?;
-        self.set(alloc, words.as_slice())
     }
 
     // Does what a line says that asks nothing.
@@ -253,7 +255,8 @@ impl Scene {
         Ok(Value::Text(text))
     }
 
-    fn answer(&self, alloc: Global, out: &mut Text, text: &str) -> Result<(), Fault> {
+    // Adds what an expression evaluates to.
+    fn evaluate(&self, alloc: Global, out: &mut Text, text: &str) -> Result<(), Fault> {
         match self.parsed(alloc, text) {
             Ok(tree) => self.push_evaluated(alloc, out, &tree),
             Err(fault) => push_refused(alloc, out, fault),

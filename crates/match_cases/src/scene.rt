@@ -2,7 +2,8 @@
 
 use crate::rules::{add_rule, imported, mode_of, pattern_of};
 use cases::{
-    Fault, Word, behind, document, node, push_number, push_part, push_reference, text_at, words_of,
+    Answers, Fault, Word, behind, document, node, push_number, push_part, push_reference, text_at,
+    words_of,
 };
 use std::alloc::Global;
 use xp_eval::Eval;
@@ -36,6 +37,18 @@ const fn root() -> NodeRef {
     NodeRef::of(NodeId { number: 0 })
 }
 
+impl Answers for Scene {
+    fn answer(&mut self, alloc: Global, out: &mut Text, line: &str) -> Result<(), Fault> {
+        out.push_str(line)?;
+        if let Some(text) = line.strip_suffix(" ->") {
+            let pattern = pattern_of(alloc, text, &self.context.scope)?;
+            return self.find(alloc, out, &pattern);
+        }
+        let words = words_of(alloc, line)?;
+        self.set(alloc, out, words.as_slice())
+    }
+}
+
 impl Scene {
     /// Nothing is set.
     pub fn new(alloc: Global) -> Result<Scene, Memory> {
@@ -58,16 +71,6 @@ impl Scene {
                 globals: Vec::new(alloc),
             },
         })
-    }
-
-    /// Takes a line, and adds to it what it asks.
-    pub fn take(&mut self, alloc: Global, out: &mut Text, line: &str) -> Result<(), Fault> {
-        if let Some(text) = line.strip_suffix(" ->") {
-            let pattern = pattern_of(alloc, text, &self.context.scope)?;
-            return self.answer(alloc, out, &pattern);
-        }
-        let words = words_of(alloc, line)?;
-        self.set(alloc, out, words.as_slice())
     }
 
     fn set(&mut self, alloc: Global, out: &mut Text, words: &[Word]) -> Result<(), Fault> {
@@ -95,7 +98,7 @@ impl Scene {
     }
 
     // Adds the nodes that match.
-    fn answer(&self, alloc: Global, out: &mut Text, pattern: &Pattern) -> Result<(), Fault> {
+    fn find(&self, alloc: Global, out: &mut Text, pattern: &Pattern) -> Result<(), Fault> {
         let document = self.document()?;
         let world = PlainWorld { alloc, document };
         let mut world = Eval { world };
