@@ -136,7 +136,9 @@ impl Operand<bool> for Expr {
         world: &mut W,
     ) -> Result<bool, EvalFault> {
         let value = world.value(alloc, self, focus, context, supplies)?;
-        Ok(to_boolean(&value))
+        let truth = to_boolean(&value);
+        drop(value);
+        Ok(truth)
     }
 }
 

@@ -43,7 +43,10 @@ impl<'a, W: World> World for Noting<'a, W> {
 
     fn see(&mut self, wanted: &Wanted, depth: u64, given: &Given) -> Result<(), Memory> {
         let wanted = wanted.copy(self.alloc)?;
-        let given = given.copy(self.alloc)?;
+        let Ok(given) = given.copy(self.alloc) else {
+            drop(wanted);
+            return Err(Memory);
+        };
         self.reads.push(Read::Saw(wanted, depth, given))?;
         Ok(())
     }

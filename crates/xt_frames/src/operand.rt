@@ -252,5 +252,5 @@ fn came<T: Drop, O: Operand<T>, W: World>(
         world,
         &mut reads,
     );
-    settle(alloc, run, &site.place, reads, found)
+    settle(alloc, &mut run.going, &site.place, reads, found)
 }

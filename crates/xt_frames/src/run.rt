@@ -138,6 +138,8 @@ pub fn go_into(
     ensures { IfOk result (λ next. (ask : question.Question NodeRef → question.Answer NodeRef) → Does ask (inside (place_of place.now) (instrs (map instr_of content.value.items)) (here_of here) (left_in run.old)) (length run.old.frames.items) run.old run.new next) }
 {
     if here.depth >= run.room {
+        drop(content);
+        drop(here);
         let place = copy_place(alloc, place)?;
         return Ok(Next::Halt(Refused {
             code: DynCode::TooDeep,

@@ -9,9 +9,8 @@ ghost use Rattle.xt_ask.specs.View.{read_of, refusal_of};
 ghost use Rattle.xt_run.specs.View.{refused_of, event_of};
 ghost use Rattle.xt_going.specs.View.{going_of};
 ghost use Rattle.xt_frames.specs.Noted.{event_at, read_in, Settled};
-ghost use Rattle.xt_frames.specs.Left.{IsStill};
 
-use crate::{Came, Run};
+use crate::Came;
 use std::alloc::Global;
 use xt_ask::{EvalFault, Read, Refusal, copy_place};
 use xt_base::Place;
@@ -22,17 +21,16 @@ use xt_text::Memory;
 /// What was evaluated at an element, in a run: where it has a value its reads are noted.
 pub(crate) fn settle<T: Drop>(
     alloc: Global,
-    run: &mut Run,
+    going: &mut Going,
     place: &Place,
     reads: Vec<Read>,
     found: Result<T, EvalFault>,
 ) -> Result<Came<T>, Memory>
-    ensures settled { IfOk result (Settled (place_of place.now) (going_of run.old.going) (going_of run.new.going) reads.items found) }
-    ensures still { IsStill run.old run.new }
+    ensures { IfOk result (Settled (place_of place.now) (going_of going.old) (going_of going.new) reads.items found) }
 {
     match found {
         Ok(value) => {
-            note_reads(alloc, &mut run.going, place, reads)?;
+            note_reads(alloc, going, place, reads)?;
             Ok(Came::Is(value))
         }
         Err(fault) => halt(alloc, place, fault),

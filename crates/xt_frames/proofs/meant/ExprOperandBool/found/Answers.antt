@@ -5,4 +5,4 @@ pub returns-in_err-value-clause-runs : goal.returns-in_err-value-clause-runs
 returns-in_err-value-clause-runs g c = exits _ c.from_residual.ensures.1 (runs_stop _ c.in_err-value.ensures.runs)
 
 pub returns-clause-runs : goal.returns-clause-runs
-returns-clause-runs g c = runs_then _ c.in_ok-value.ensures.runs (runs_gives c.to_boolean.ensures)
+returns-clause-runs g c = runs_then _ c.in_ok-value.ensures.runs (runs_gives c.to_boolean-truth.ensures)
