@@ -61,7 +61,9 @@ fn is_unknown(alloc: Global, scope: &Scope, piece: Piece<'_>) -> Result<bool, Me
         Piece::Stray => Ok(false),
         Piece::Enclosed(text) => {
             let found = expression_in(alloc, scope, text)?;
-            Ok(calls_unknown(&found))
+            let unknown = calls_unknown(&found);
+            drop(found);
+            Ok(unknown)
         }
     }
 }

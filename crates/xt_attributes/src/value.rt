@@ -158,11 +158,21 @@ pub fn into_priority(value: Option<Value>) -> Option<i64>
     ensures { result ≡ option_and_then unit.priority_in (option_map value_in value) }
 {
     match value {
-        Some(Value::Priority(millionths)) => Some(millionths),
-        other => {
-            drop(other);
-            None
+        None => None,
+        Some(value) => {
+            let priority = priority_in(&value);
+            drop(value);
+            priority
         }
+    }
+}
+
+fn priority_in(value: &Value) -> Option<i64>
+    ensures { result ≡ unit.priority_in (value_in value.now) }
+{
+    match value {
+        Value::Priority(millionths) => Some(*millionths),
+        _ => None,
     }
 }
 

@@ -1,8 +1,16 @@
 use Rattle.std.proofs.Common.{◌∙◌, ◌+◌, drop, ap, arith}
 use Rattle.spec_compile.specs.Value.{each, name_of}
 use Rattle.xt_attributes.specs.Gathering.{appended, gathered_in}
-use Rattle.xt_attributes.proofs.Parts.{next_part}
+use Rattle.xt_attributes.proofs.Parts.{all_parts, first_part, next_part}
 use Rattle.xt_attributes.proofs.names.names_of.Goals as goal
+
+pub loop-word-init : goal.loop-word-init
+loop-word-init c = first_part (name_of c.args.scope.now) c.args.words.now _ c.new-names.ensures
+
+pub returns : goal.returns
+returns c =
+    c.finish.ensures
+    ∙ all_parts (name_of c.args.scope.now) c.args.words.now c.loop-word.word-index (gathered_in c.loop-word.names) (omega arith) c.loop-word.invariant
 
 pub loop-word-preserved : goal.loop-word-preserved
 loop-word-preserved c =

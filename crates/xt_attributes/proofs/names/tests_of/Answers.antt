@@ -1,9 +1,20 @@
-use Rattle.std.proofs.Common.{◌∙◌, ◌+◌, drop, map, ap, arith}
+use Rattle.std.proofs.Common.{◌∙◌, ◌+◌, drop, map, sym, ap, arith}
 use Rattle.spec_compile.specs.Value.{each, test_of}
 use Rattle.xp_syntax.specs.View as view
 use Rattle.xt_attributes.specs.Gathering.{appended, gathered_in, seen, seen-part}
-use Rattle.xt_attributes.proofs.Parts.{next_part}
+use Rattle.xt_attributes.proofs.Parts.{all_parts, first_part, next_part}
+use Rattle.xt_attributes.proofs.Rest.{seen-seen}
 use Rattle.xt_attributes.proofs.names.tests_of.Goals as goal
+
+pub loop-word-init : goal.loop-word-init
+loop-word-init c = first_part (test_of c.args.scope.now) c.args.words.now _ (ap (seen (λ tests. map view.test_of tests)) c.new-tests.ensures)
+
+pub returns : goal.returns
+returns c =
+    seen-seen (λ list. list.items) (λ tests. map view.test_of tests) c.finish.result
+    ∙ ap (seen (λ tests. map view.test_of tests)) c.finish.ensures
+    ∙ all_parts (test_of c.args.scope.now) c.args.words.now c.loop-word.word-index (seen (λ tests. map view.test_of tests) (gathered_in c.loop-word.tests)) (omega arith)
+    c.loop-word.invariant
 
 pub loop-word-preserved : goal.loop-word-preserved
 loop-word-preserved c =
