@@ -71,7 +71,8 @@ fn names_of(alloc: Global, listed: &[ListedModule]) -> Result<Vec<Text>, Memory>
 {
     let mut names = Vec::new(alloc);
     for module in listed {
-        names.push(module.name.copy(alloc)?)?;
+        let name = module.name.copy(alloc)?;
+        names.push(name)?;
     }
     Ok(names)
 }

@@ -38,8 +38,14 @@ pub(crate) fn sheet_of(alloc: Global, ranked: Vec<Ranked>) -> Result<Sheet, Memo
     ensures { IfOk result (λ sheet. sheet_of sheet ≡ spec.sheet_of (map ranked_in ranked.items)) }
 {
     let declared = declared_by(alloc, ranked)?;
-    let rules = in_rank(alloc, declared.rules)?;
-    let aliases = last_aliases(alloc, declared.aliases)?;
+    let Ok(rules) = in_rank(alloc, declared.rules) else {
+        drop(declared.method);
+        return Err(Memory);
+    };
+    let Ok(aliases) = last_aliases(alloc, declared.aliases) else {
+        drop(declared.method);
+        return Err(Memory);
+    };
     Ok(Sheet {
         units: declared.units,
         rules: Rules { rules },
@@ -60,7 +66,10 @@ fn declared_by(alloc: Global, ranked: Vec<Ranked>) -> Result<Declared, Memory>
 {
     let mut declared = nothing(alloc);
     for ranked in ranked {
-        declare(alloc, &mut declared, ranked)?;
+        let Ok(()) = declare(alloc, &mut declared, ranked) else {
+            drop(declared.method);
+            return Err(Memory);
+        };
     }
     Ok(declared)
 }
@@ -146,13 +155,15 @@ fn add_template(
         mode: template.mode,
         unit: declared.units.len() as u64,
     };
-    add_unit(
-        declared,
-        precedence,
-        site,
-        UnitKind::Template(template.template),
-    )?;
-    add_rules(alloc, &mut declared.rules, &common, template.pattern)
+    let unit = UnitKind::Template(template.template);
+    let Ok(()) = add_unit(declared, precedence, site, unit) else {
+        drop(common.mode);
+        drop(template.pattern);
+        return Err(Memory);
+    };
+    let added = add_rules(alloc, &mut declared.rules, &common, template.pattern);
+    drop(common.mode);
+    added
 }
 
 fn add_unit(

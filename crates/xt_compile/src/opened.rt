@@ -21,7 +21,10 @@ pub(crate) fn by_path(alloc: Global, top_levels: Vec<TopLevel>) -> Result<Opened
 {
     let mut by_path = IndexMap::new(alloc);
     for top_level in top_levels {
-        add(alloc, &mut by_path, top_level)?;
+        let Ok(()) = add(alloc, &mut by_path, top_level) else {
+            drop(by_path);
+            return Err(Memory);
+        };
     }
     Ok(by_path)
 }

@@ -44,15 +44,21 @@ pub(crate) fn ranked_of(
     let mut placing = none_opened(alloc, said)?;
     let mut ranked = Vec::new(alloc);
     for (precedence, stylesheet) in stylesheets.iter().enumerate() {
-        add_stylesheet(
+        let Ok(()) = add_stylesheet(
             alloc,
             modules,
             &mut placing,
             precedence as u64,
             stylesheet,
             &mut ranked,
-        )?;
+        ) else {
+            drop(placing.stock);
+            drop(placing.opened);
+            return Err(Memory);
+        };
     }
+    drop(placing.stock);
+    drop(placing.opened);
     Ok(ranked)
 }
 
@@ -183,8 +189,11 @@ fn part_anew(
     let name = String::from_str(alloc, part.module_name.as_str())?;
     let top_levels = take(alloc, &mut placing.stock, modules, &part.module_name)?;
     let mut opened = by_path(alloc, top_levels)?;
-    let taken = take_at(alloc, &mut opened, &part.path)?;
+    let Ok(taken) = take_at(alloc, &mut opened, &part.path) else {
+        drop(opened);
+        return Err(Memory);
+    };
     let found = or_none(alloc, taken);
-    let _ = placing.opened.insert(name, opened)?;
+    drop(placing.opened.insert(name, opened)?);
     Ok(found)
 }

@@ -50,7 +50,8 @@ fn add_alternatives(
 {
     for alternative in alternatives {
         let order = rules.len() as u64;
-        rules.push(rule_for(alloc, common, order, alternative)?)?;
+        let rule = rule_for(alloc, common, order, alternative)?;
+        rules.push(rule)?;
     }
     Ok(())
 }

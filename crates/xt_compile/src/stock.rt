@@ -26,7 +26,10 @@ pub(crate) fn stock_of(alloc: Global, said: Vec<Said>) -> Result<Stock, Memory>
     let mut left = said;
     let mut stock = IndexMap::new(alloc);
     while let Some(said) = left.pop() {
-        put(alloc, &mut stock, said)?;
+        let Ok(()) = put(alloc, &mut stock, said) else {
+            drop(stock);
+            return Err(Memory);
+        };
     }
     Ok(stock)
 }

@@ -14,5 +14,5 @@ loop-top_level-preserved c =
       i.0 ++ t ∷ [],
       append_assoc i.0 (t ∷ []) left ∙ ap (λ (ts : List TopLevel). i.0 ++ ts) (sym (c.in-Some.ensures {u = tt}).steps.0) ∙ i.1,
       subst (λ (ts : List unit.TopLevel). IsOpened ts c.add.new.opened.entries) (sym (map-append top_level_in i.0 (t ∷ [])))
-          ((c.in_ok-add.ensures {u = tt}) (top_levels_in i.0) i.2),
+          ((c.in-Ok.ensures {u = tt}) (top_levels_in i.0) i.2),
     )

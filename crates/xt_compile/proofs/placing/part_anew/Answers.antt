@@ -14,7 +14,7 @@ pub returns-clause-found : goal.returns-clause-found
 returns-clause-found c said says placing =
     let path = c.args.part.now.path in
     let all = top_levels_in c.in_ok-top_levels.top_levels.items in
-    c.or_none-found.ensures ∙ all_found path all c.in_ok-opened.opened.entries c.in_ok-taken.taken c.in_ok-taken.ensures.taken c.in_ok-opened.ensures
+    c.or_none-found.ensures ∙ all_found path all c.in_ok-opened.opened.entries c.in-Ok.taken c.in-Ok.ensures.taken c.in_ok-opened.ensures
     ∙ ap (filter (is_at path)) (c.in_ok-top_levels.ensures.taken said says placing.stock)
 
 pub returns-clause-stays : goal.returns-clause-stays
@@ -25,7 +25,7 @@ returns-clause-stays c said says placing =
     let new = c.insert.new.self.entries in
     let rest = c.take_at.new.opened in
     let all = top_levels_in c.in_ok-top_levels.top_levels.items in
-    let left = still_left path all c.in_ok-opened.opened.entries rest.entries c.in_ok-taken.ensures.rest (all_left all c.in_ok-opened.opened.entries c.in_ok-opened.ensures) in
+    let left = still_left path all c.in_ok-opened.opened.entries rest.entries c.in-Ok.ensures.rest (all_left all c.in_ok-opened.opened.entries c.in_ok-opened.ensures) in
     let put = put_found es new c.in_ok-name.name name rest (ap chars c.in_ok-name.ensures.ok ∙ c.as_str.ensures.characters) (c.in_ok-insert.ensures {u = tt}).entries in
     record {
       stock = c.in_ok-top_levels.ensures.stays said placing.stock;

@@ -9,7 +9,7 @@ loop-precedence-preserved c says =
     let g = c.loop-precedence.invariant says in
     let n = c.loop-precedence.precedence in
     let s = c.index-stylesheets-precedence.result in
-    let places = c.in_ok-add_stylesheet.ensures {u = tt} in (
+    let places = c.in-Ok.ensures {u = tt} in (
       places.stays said says g.0,
       next_sheet said n s c.args.stylesheets.now c.loop-precedence.ranked.items c.add_stylesheet.new.ranked.items _ (omega arith) c.index-stylesheets-precedence.is
           (places.added said says g.0) g.1,
