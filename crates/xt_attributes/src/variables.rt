@@ -1,5 +1,5 @@
 // The variables that stand in the value of an attribute.
-ghost use Rattle.std.specs.Prelude.{◌≡◌, ◌++◌, ◌∷◌, [], IfOk, OnOk, map};
+ghost use Rattle.std.specs.Prelude.{◌≡◌, ◌++◌, ◌∷◌, [], OnOk, map};
 ghost use Rattle.std.specs.List.{flat_map};
 ghost use Rattle.spec_compile.specs.Content.{variables_by};
 ghost use Rattle.spec_compile.specs.Walk as spec;

@@ -1,8 +1,7 @@
 // Whether an expression, a pattern or a value template has a part of some kind.
-ghost use Rattle.std.specs.Prelude.{◌≡◌, ◌&&◌, ◌||◌, [], bytes_eq, codes, map, not};
+ghost use Rattle.std.specs.Prelude.{◌≡◌, ◌&&◌, ◌||◌, [], bytes_eq, codes, map};
 ghost use Rattle.std.specs.List.{list_any};
 ghost use Rattle.std.specs.Str.{chars};
-ghost use Rattle.spec_compile.specs.Value as value;
 ghost use Rattle.spec_compile.specs.Walk as spec;
 ghost use Rattle.spec_expression.specs.Syntax.{exprs, links, steps};
 ghost use Rattle.xp_syntax.specs.PartView.{avt_of, avt_part_of, pattern_of, pattern_step_of};

@@ -1,4 +1,4 @@
-use Rattle.std.proofs.Common.{◌∙◌, ◌+◌, drop, map, sym, ap, arith}
+use Rattle.std.proofs.Common.{◌∙◌, ◌+◌, drop, map, ap, arith}
 use Rattle.spec_compile.specs.Value.{each, test_of}
 use Rattle.xp_syntax.specs.View as view
 use Rattle.xt_attributes.specs.Gathering.{appended, gathered_in, seen, seen-part}
