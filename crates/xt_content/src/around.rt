@@ -1,5 +1,5 @@
 // What is in force around a node, and from an element to what is inside it.
-ghost use Rattle.std.specs.Prelude.{◌≡◌, ◌++◌, IfOk, false, map};
+ghost use Rattle.std.specs.Prelude.{◌≡◌, IfOk, false, map};
 ghost use Rattle.std.specs.Option.{option_copied};
 ghost use Rattle.spec_compile.specs.Content as spec;
 ghost use Rattle.spec_structure.specs.Inside as scopes;
@@ -36,26 +36,14 @@ pub fn around_of(
 ) -> Result<Around, Memory>
     ensures { IfOk result (λ around. around_in around ≡ spec.around_of (around_in outer.now) name.now (map written_of attributes.now)) }
 {
-    let inside = inside_of(alloc, &outer.inside, name.as_str(), attributes)?;
-    around_inside(alloc, outer, inside, attributes)
-}
-
-fn around_inside(
-    alloc: Global,
-    outer: &Around,
-    inside: Inside,
-    attributes: &[Written],
-) -> Result<Around, Memory>
-    ensures { IfOk result (λ around. around_in around ≡ record { module_name = outer.now.module_name; inside = in_force inside; excluded = outer.now.excluded.items ++ spec.excluded_by (in_force inside) false (map written_of attributes.now) }) }
-{
     let module_name = outer.module_name.copy(alloc)?;
     let mut excluded = copies(alloc, outer.excluded.as_slice())?;
-    push_uris(
-        alloc,
-        &mut excluded,
-        &inside.scope,
-        exclude_list(&inside.scope, false, attributes),
-    )?;
+    let inside = inside_of(alloc, &outer.inside, name.as_str(), attributes)?;
+    let list = exclude_list(&inside.scope, false, attributes);
+    let Ok(_) = push_uris(alloc, &mut excluded, &inside.scope, list) else {
+        drop(inside);
+        return Err(Memory);
+    };
     Ok(Around {
         module_name,
         inside,

@@ -210,8 +210,8 @@ fn visit(
 {
     match node.content() {
         Content::Element { name, attributes } => {
-            let inner = around_of(alloc, around, name, attributes.as_slice())?;
             let here = below(alloc, path, position)?;
+            let inner = around_of(alloc, around, name, attributes.as_slice())?;
             let written = attributes.as_slice();
             visit_element(alloc, &inner, kind, &here, name, written, node.children())
         }

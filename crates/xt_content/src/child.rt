@@ -70,8 +70,12 @@ impl Below {
     pub(crate) fn push(&mut self, one: One) -> Result<(), Memory>
         ensures { OnOk result (below_in self.new ≡ before (below_in self.old) (one_in one)) }
     {
-        push_child(&mut self.children, one.child)?;
-        push_element(&mut self.outline, one.element)
+        let One { child, element } = one;
+        let Ok(_) = push_child(&mut self.children, child) else {
+            drop(element);
+            return Err(Memory);
+        };
+        push_element(&mut self.outline, element)
     }
 
     /// Nothing.

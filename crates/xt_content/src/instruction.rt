@@ -1,5 +1,5 @@
 // Instructions, by their attributes and their children.
-ghost use Rattle.std.specs.Prelude.{◌≡◌, [], IfOk};
+ghost use Rattle.std.specs.Prelude.{◌≡◌, ◌∷◌, [], IfOk};
 ghost use Rattle.spec_compile.specs.Content as spec;
 ghost use Rattle.xp_syntax.specs.InstrView as trees;
 ghost use Rattle.xp_syntax.specs.PartView.{made_name_of, site_of, with_content_of, without_content_of};
@@ -92,8 +92,16 @@ fn container(alloc: Global, kind: Container, entries: &mut Entries) -> Result<Wi
 fn for_each(alloc: Global, entries: &mut Entries, parts: Parts) -> Result<Control, Memory>
     ensures { IfOk result (λ c. trees.control_of c ≡ kinds.director_of kinds.a_for_each (entries_in entries.old) (parts_in parts)) }
 {
-    let keys = Rc::new(alloc, parts.sort_keys)?;
-    let content = Rc::new(alloc, parts.content)?;
+    let Parts {
+        content,
+        parameters,
+        sort_keys,
+        branches,
+    } = parts;
+    drop(parameters);
+    drop(branches);
+    let keys = Rc::new(alloc, sort_keys)?;
+    let content = Rc::new(alloc, content)?;
     let select = expr_at(alloc, entries, "select")?;
     Ok(Control::ForEach(select, keys, content))
 }
@@ -116,8 +124,16 @@ fn choose(alloc: Global, parts: Parts) -> Result<Control, Memory>
 fn apply_templates(alloc: Global, entries: &mut Entries, parts: Parts) -> Result<Control, Memory>
     ensures { IfOk result (λ c. trees.control_of c ≡ kinds.director_of kinds.an_apply_templates (entries_in entries.old) (parts_in parts)) }
 {
-    let keys = Rc::new(alloc, parts.sort_keys)?;
-    let parameters = Rc::new(alloc, parts.parameters)?;
+    let Parts {
+        content,
+        parameters,
+        sort_keys,
+        branches,
+    } = parts;
+    drop(content);
+    drop(branches);
+    let keys = Rc::new(alloc, sort_keys)?;
+    let parameters = Rc::new(alloc, parameters)?;
     let select = or_children(alloc, take_expr(entries, "select"))?;
     let mode = take_name(entries, "mode");
     let selection = Selection { select, mode, keys };
@@ -163,11 +179,14 @@ fn simple_child(
     site: Site,
     entries: &mut Entries,
     nodes: &[Rc<Node>],
-) -> Result<Child, Memory>
-    ensures { IfOk result (λ c. child_in c ≡ kinds.simple_child kind (site_of site) (entries_in entries.old) (spec.text_among (forest_of nodes.now))) }
+) -> Result<Option<Child>, Memory>
+    ensures { IfOk result (λ c. child_if c ≡ kinds.simple_child kind (site_of site) (entries_in entries.old) (spec.text_among (forest_of nodes.now)) ∷ []) }
 {
-    let what = simple(alloc, kind, entries, nodes)?;
-    Ok(instruction(site, Form::WithoutContent(what)))
+    let Ok(what) = simple(alloc, kind, entries, nodes) else {
+        drop(site);
+        return Err(Memory);
+    };
+    Ok(Some(instruction(site, Form::WithoutContent(what))))
 }
 
 fn container_child(
@@ -176,12 +195,18 @@ fn container_child(
     site: Site,
     entries: &mut Entries,
     children: Vec<Child>,
-) -> Result<Child, Memory>
-    ensures { IfOk result (λ c. child_in c ≡ kinds.container_child kind (site_of site) (entries_in entries.old) (children_in children.items)) }
+) -> Result<Option<Child>, Memory>
+    ensures { IfOk result (λ c. child_if c ≡ kinds.container_child kind (site_of site) (entries_in entries.old) (children_in children.items) ∷ []) }
 {
-    let content = content_in(alloc, children)?;
-    let what = container(alloc, kind, entries)?;
-    Ok(instruction(site, Form::WithContent(what, content)))
+    let Ok(content) = content_in(alloc, children) else {
+        drop(site);
+        return Err(Memory);
+    };
+    let Ok(what) = container(alloc, kind, entries) else {
+        drop(site);
+        return Err(Memory);
+    };
+    Ok(Some(instruction(site, Form::WithContent(what, content))))
 }
 
 fn director_child(
@@ -190,12 +215,18 @@ fn director_child(
     site: Site,
     entries: &mut Entries,
     children: Vec<Child>,
-) -> Result<Child, Memory>
-    ensures { IfOk result (λ c. child_in c ≡ kinds.director_child kind (site_of site) (entries_in entries.old) (children_in children.items)) }
+) -> Result<Option<Child>, Memory>
+    ensures { IfOk result (λ c. child_if c ≡ kinds.director_child kind (site_of site) (entries_in entries.old) (children_in children.items) ∷ []) }
 {
-    let parts = parted(alloc, children)?;
-    let control = director(alloc, kind, entries, parts)?;
-    Ok(instruction(site, Form::Control(control)))
+    let Ok(parts) = parted(alloc, children) else {
+        drop(site);
+        return Err(Memory);
+    };
+    let Ok(control) = director(alloc, kind, entries, parts) else {
+        drop(site);
+        return Err(Memory);
+    };
+    Ok(Some(instruction(site, Form::Control(control))))
 }
 
 // What an element of this kind is, around these nodes.
@@ -211,16 +242,26 @@ fn child_by(
 {
     match kind {
         Kind::Parameter => Ok(Some(Child::Parameter(binding_of(alloc, site, entries, children)?))),
-        Kind::SortKey => Ok(Some(Child::SortKey(sort_key_of(alloc, site, entries)?))),
+        Kind::SortKey => {
+            drop(children);
+            sort_key_of(alloc, site, entries)
+        }
         Kind::When => {
             let test = take_expr(entries, "test");
-            Ok(Some(Child::Branch(branch_of(alloc, site, test, children)?)))
+            branch_of(alloc, site, test, children)
         }
-        Kind::Otherwise => Ok(Some(Child::Branch(branch_of(alloc, site, None, children)?))),
-        Kind::Simple(kind) => Ok(Some(simple_child(alloc, kind, site, entries, nodes)?)),
-        Kind::Container(kind) => Ok(Some(container_child(alloc, kind, site, entries, children)?)),
-        Kind::Director(kind) => Ok(Some(director_child(alloc, kind, site, entries, children)?)),
-        Kind::Nothing => Ok(None),
+        Kind::Otherwise => branch_of(alloc, site, None, children),
+        Kind::Simple(kind) => {
+            drop(children);
+            simple_child(alloc, kind, site, entries, nodes)
+        }
+        Kind::Container(kind) => container_child(alloc, kind, site, entries, children),
+        Kind::Director(kind) => director_child(alloc, kind, site, entries, children),
+        Kind::Nothing => {
+            drop(site);
+            drop(children);
+            Ok(None)
+        }
     }
 }
 

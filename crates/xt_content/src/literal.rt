@@ -1,5 +1,5 @@
 // Literal result elements (XSLT 1.0, section 7.1.1).
-ghost use Rattle.std.specs.Prelude.{◌≡◌, ◌&&◌, ◌++◌, ◌∷◌, [], IfOk, Ok, OnOk, Some, bytes_eq, map, not, unwrap_or};
+ghost use Rattle.std.specs.Prelude.{◌≡◌, ◌&&◌, ◌++◌, ◌∷◌, [], IfOk, Ok, OnOk, Some, bytes_eq, map, not};
 ghost use Rattle.std.specs.List.{filter, list_any};
 ghost use Rattle.std.specs.Option.{option_and_then};
 ghost use Rattle.spec_document.specs.Declaration as declaration;
@@ -33,22 +33,16 @@ use xt_tree::Written;
 
 // ---- Names
 
-fn prefix_by(alloc: Global, name: &QName<'_>) -> Result<Text, Memory>
-    ensures { IfOk result (λ prefix. prefix ≡ unwrap_or name.now.prefix []) }
-{
-    match name.prefix() {
-        None => Ok(Text::new(alloc)),
-        Some(prefix) => Text::from_str(alloc, prefix),
-    }
-}
-
 // The prefix that the name is written with, empty without one.
 fn prefix_of(alloc: Global, name: &Text) -> Result<Text, Memory>
     ensures { IfOk result (λ prefix. prefix ≡ spec.prefix_of name.now) }
 {
     match QName::read(name.as_str()) {
         None => Ok(Text::new(alloc)),
-        Some(name) => prefix_by(alloc, &name),
+        Some(name) => match name.prefix() {
+            None => Ok(Text::new(alloc)),
+            Some(prefix) => Text::from_str(alloc, prefix),
+        },
     }
 }
 
@@ -79,23 +73,17 @@ fn is_of_xslt(uri: &Text) -> bool
     uri.is(XSLT_URI)
 }
 
-fn is_one_of(uri: &Text, uris: &[Text]) -> bool
-    ensures { result ≡ list_any (bytes_eq uri.now) uris.now }
-{
-    is_among(uri.as_str(), uris)
-}
-
 fn is_included(excluded: &[Text], uri: &Text) -> bool
     ensures { result ≡ (not (bytes_eq uri.now xslt_uri) && not (list_any (bytes_eq uri.now) excluded.now)) }
 {
-    !is_of_xslt(uri) && !is_one_of(uri, excluded)
+    !is_of_xslt(uri) && !is_among(uri.as_str(), excluded)
 }
 
 fn is_copied(around: &Around, namespace: &Namespace) -> bool
     ensures { result ≡ spec.is_copied (around_in around.now) (entry_of namespace.now) }
 {
     is_included(around.excluded.as_slice(), &namespace.uri)
-        && !is_one_of(&namespace.uri, around.inside.extensions.as_slice())
+        && !is_among(namespace.uri.as_str(), around.inside.extensions.as_slice())
 }
 
 fn copy(alloc: Global, namespace: &Namespace) -> Result<Namespace, Memory>
@@ -298,9 +286,9 @@ fn tag_by(
 ) -> Result<LiteralTag, Memory>
     ensures { IfOk result (λ tag. literal_tag_of tag ≡ spec.tag_by (around_in around.now) name.now (entries_in entries) (map literal_attribute_of attributes.items)) }
 {
+    let namespaces = namespaces_of(alloc, around)?;
     let prefix = prefix_of(alloc, name)?;
     let name = element_name_of(alloc, &around.inside.scope, name)?;
-    let namespaces = namespaces_of(alloc, around)?;
     let sets = names_at(alloc, &mut entries, "use-attribute-sets");
     Ok(LiteralTag {
         prefix,
@@ -311,23 +299,19 @@ fn tag_by(
     })
 }
 
-fn lesser_of(one: StaticCode, other: StaticCode) -> StaticCode
-    ensures { result ≡ lesser one other }
-{
-    if one.number() <= other.number() {
-        one
-    } else {
-        other
-    }
-}
-
 // The lesser of this code and that of the literal attributes, if they have one.
 fn least_with(code: StaticCode, literals: Read<Vec<LiteralAttribute>>) -> StaticCode
     ensures { result ≡ least_with code (seen literals_in literals) }
 {
     match literals {
         Ok(_) => code,
-        Err(other) => lesser_of(code, other),
+        Err(other) => {
+            if code.number() <= other.number() {
+                code
+            } else {
+                other
+            }
+        }
     }
 }
 

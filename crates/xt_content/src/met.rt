@@ -164,7 +164,11 @@ fn outlined_language(
 {
     let uses = uses_of(alloc, element, entries)?;
     let binds = bound_by(alloc, element, entries)?;
-    let site = site_of(alloc, around, path)?;
+    let Ok(site) = site_of(alloc, around, path) else {
+        drop(uses);
+        drop(binds);
+        return Err(Memory);
+    };
     Ok(Outlined {
         site,
         uses,
@@ -184,9 +188,16 @@ fn language(
 ) -> Result<One, Memory>
     ensures { IfOk result (λ one. one_in one ≡ element_by (around_in around.now) path.now (OfLanguage element (entries_in entries)) (spec.text_among (forest_of nodes.now)) (below_in below)) }
 {
+    let Below { children, outline } = below;
     let site = site_of(alloc, around, path)?;
-    let outlined = outlined_language(alloc, around, path, element, &entries, below.outline)?;
-    let child = child_of(alloc, element, site, &mut entries, nodes, below.children)?;
+    let Ok(outlined) = outlined_language(alloc, around, path, element, &entries, outline) else {
+        drop(site);
+        return Err(Memory);
+    };
+    let Ok(child) = child_of(alloc, element, site, &mut entries, nodes, children) else {
+        drop(outlined);
+        return Err(Memory);
+    };
     Ok(One {
         child,
         element: Some(outlined),
@@ -221,9 +232,20 @@ fn literal(
 ) -> Result<One, Memory>
     ensures { IfOk result (λ one. one_in one ≡ element_by (around_in around.now) path.now (ALiteral (literal_tag_of tag)) [] (below_in below)) }
 {
-    let content = content_in(alloc, below.children)?;
-    let site = site_of(alloc, around, path)?;
-    let outlined = outlined_literal(alloc, around, path, &tag, below.outline)?;
+    let Below { children, outline } = below;
+    let Ok(content) = content_in(alloc, children) else {
+        drop(tag);
+        return Err(Memory);
+    };
+    let Ok(outlined) = outlined_literal(alloc, around, path, &tag, outline) else {
+        drop(tag);
+        return Err(Memory);
+    };
+    let Ok(site) = site_of(alloc, around, path) else {
+        drop(tag);
+        drop(outlined);
+        return Err(Memory);
+    };
     let form = Form::WithContent(WithContent::Literal(tag), content);
     Ok(One {
         child: Some(instruction(site, form)),

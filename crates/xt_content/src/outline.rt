@@ -1,19 +1,19 @@
 // What elements name, for the faults between them.
-ghost use Rattle.std.specs.Prelude.{◌≡◌, ◌∷◌, [], IfOk, codes, map, unwrap_or};
+ghost use Rattle.std.specs.Prelude.{◌≡◌, ◌∷◌, [], IfOk, codes, map};
 ghost use Rattle.std.specs.List.{flat_map};
 ghost use Rattle.std.specs.Str.{chars};
 ghost use Rattle.spec_compile.specs.Content as spec;
-ghost use Rattle.spec_compile.specs.Value.{at, name_in, names_in};
+ghost use Rattle.spec_compile.specs.Value.{at, name_in};
 ghost use Rattle.spec_compile.specs.Walk.{variables_in_template};
 ghost use Rattle.xp_syntax.specs.PartView.{literal_attribute_of, literal_tag_of};
-ghost use Rattle.xt_attributes.specs.View.{entries_in, value_in};
+ghost use Rattle.xt_attributes.specs.View.{entries_in};
 ghost use Rattle.xt_content.specs.View.{uses_in};
 
 use crate::value::or_nowhere;
 use spec_structure::XsltElement;
 use std::alloc::Global;
 use xp_syntax::{LiteralAttribute, LiteralTag, Site};
-use xt_attributes::{Entries, Value, add_template_variables};
+use xt_attributes::{Entries, add_template_variables};
 use xt_names::Expanded;
 use xt_text::Memory;
 
@@ -66,31 +66,16 @@ fn copy_names(alloc: Global, names: &[Expanded]) -> Result<Vec<Expanded>, Memory
     Ok(list)
 }
 
-fn name_by(alloc: Global, value: &Value) -> Result<Option<Expanded>, Memory>
-    ensures { IfOk result (λ name. name ≡ name_in (value_in value.now)) }
-{
-    match value.as_name() {
-        None => Ok(None),
-        Some(name) => Ok(Some(copy_name(alloc, name)?)),
-    }
-}
-
 // The name that the attribute of this name is, left where it is.
 fn copied_name(alloc: Global, entries: &Entries, name: &str) -> Result<Option<Expanded>, Memory>
     ensures { IfOk result (λ n. n ≡ at name_in (chars name.now) (entries_in entries.now)) }
 {
     match entries.get(name) {
         None => Ok(None),
-        Some(value) => name_by(alloc, value),
-    }
-}
-
-fn names_by(alloc: Global, value: &Value) -> Result<Vec<Expanded>, Memory>
-    ensures { IfOk result (λ list. list.items ≡ unwrap_or (names_in (value_in value.now)) []) }
-{
-    match value.as_names() {
-        None => Ok(Vec::new(alloc)),
-        Some(names) => copy_names(alloc, names),
+        Some(value) => match value.as_name() {
+            None => Ok(None),
+            Some(name) => Ok(Some(copy_name(alloc, name)?)),
+        },
     }
 }
 
@@ -100,7 +85,10 @@ fn copied_names(alloc: Global, entries: &Entries, name: &str) -> Result<Vec<Expa
 {
     match entries.get(name) {
         None => Ok(Vec::new(alloc)),
-        Some(value) => names_by(alloc, value),
+        Some(value) => match value.as_names() {
+            None => Ok(Vec::new(alloc)),
+            Some(names) => copy_names(alloc, names),
+        },
     }
 }
 

@@ -1,20 +1,20 @@
 // What attributes say, with the values that stand for those that are missing.
-ghost use Rattle.std.specs.Prelude.{◌≡◌, ◌∷◌, [], IfOk, codes, unwrap_or};
+ghost use Rattle.std.specs.Prelude.{◌≡◌, ◌∷◌, [], IfOk, unwrap_or};
 ghost use Rattle.std.specs.Option.{option_map};
 ghost use Rattle.std.specs.Str.{chars};
 ghost use Rattle.spec_expression.specs.Syntax as tree;
 ghost use Rattle.spec_compile.specs.Content as spec;
-ghost use Rattle.spec_compile.specs.Value.{at, avt_in, expr_in, name_in, names_in, pattern_in};
+ghost use Rattle.spec_compile.specs.Value.{at, avt_in, expr_in, name_in, pattern_in};
 ghost use Rattle.xp_syntax.specs.PartView.{avt_of, pattern_of};
 ghost use Rattle.xp_syntax.specs.View.{expr_of};
-ghost use Rattle.xt_attributes.specs.View.{entries_in, value_in};
+ghost use Rattle.xt_attributes.specs.View.{entries_in};
 ghost use Rattle.xt_content.specs.View.{Keeps};
 
 use spec_document::Axis;
 use spec_expression::NodeType;
 use std::alloc::Global;
 use xp_syntax::{Avt, AvtPart, Expr, Pattern, Step, Test};
-use xt_attributes::{Entries, Value, into_avt, into_expr, into_name, into_names, into_pattern};
+use xt_attributes::{Entries, into_avt, into_expr, into_name, into_names, into_pattern};
 use xt_names::Expanded;
 use xt_text::{Memory, Text};
 
@@ -54,21 +54,17 @@ pub(crate) fn or_children(alloc: Global, expr: Option<Expr>) -> Result<Expr, Mem
     }
 }
 
-// A value template of this text.
-fn fixed(alloc: Global, text: &str) -> Result<Avt, Memory>
-    ensures { IfOk result (λ a. avt_of a ≡ spec.fixed (chars text.now)) }
-{
-    let text = Text::from_str(alloc, text)?;
-    let mut parts = Vec::new(alloc);
-    parts.push(AvtPart::Text(text))?;
-    Ok(Avt { parts })
-}
-
+// The value template, or one of this text where there is none.
 fn or_fixed(alloc: Global, template: Option<Avt>, default: &str) -> Result<Avt, Memory>
     ensures { IfOk result (λ a. avt_of a ≡ unwrap_or (option_map avt_of template) (spec.fixed (chars default.now))) }
 {
     match template {
-        None => fixed(alloc, default),
+        None => {
+            let text = Text::from_str(alloc, default)?;
+            let mut parts = Vec::new(alloc);
+            parts.push(AvtPart::Text(text))?;
+            Ok(Avt { parts })
+        }
         Some(template) => Ok(template),
     }
 }
@@ -125,14 +121,6 @@ pub fn take_name(entries: &mut Entries, name: &str) -> Option<Expanded>
     into_name(entries.take(name))
 }
 
-// The names that the attribute of this name is. They are taken out of the entries.
-fn take_names(entries: &mut Entries, name: &str) -> Option<Vec<Expanded>>
-    ensures taken { option_map (λ list. list.items) result ≡ at names_in (chars name.now) (entries_in entries.old) }
-    ensures others { Keeps (chars name.now) (entries_in entries.old) (entries_in entries.new) }
-{
-    into_names(entries.take(name))
-}
-
 /// The expression that the attribute of this name is, or `.` without one. Want of memory alone is an error.
 pub fn expr_at(alloc: Global, entries: &mut Entries, name: &str) -> Result<Expr, Memory>
     ensures taken { IfOk result (λ e. expr_of e ≡ spec.expr_at (chars name.now) (entries_in entries.old)) }
@@ -167,7 +155,7 @@ pub fn names_at(alloc: Global, entries: &mut Entries, name: &str) -> Vec<Expande
     ensures taken { result.items ≡ spec.sets_at (chars name.now) (entries_in entries.old) }
     ensures others { Keeps (chars name.now) (entries_in entries.old) (entries_in entries.new) }
 {
-    or_none(alloc, take_names(entries, name))
+    or_none(alloc, into_names(entries.take(name)))
 }
 
 /// Whether the attribute of this name is this text.
@@ -176,15 +164,9 @@ pub(crate) fn is_text_at(entries: &Entries, name: &str, text: &str) -> bool
 {
     match entries.get(name) {
         None => false,
-        Some(value) => is_text(value, text),
-    }
-}
-
-fn is_text(value: &Value, text: &str) -> bool
-    ensures { result ≡ spec.is_text_at [] (chars text.now) (record { name = []; value = value_in value.now } ∷ []) }
-{
-    match value.as_text() {
-        None => false,
-        Some(value) => value.is(text),
+        Some(value) => match value.as_text() {
+            None => false,
+            Some(value) => value.is(text),
+        },
     }
 }

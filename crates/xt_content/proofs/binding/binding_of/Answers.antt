@@ -17,4 +17,4 @@ returns c =
     let name : c.name_at-name.result ≡ name_at (codes "name") old = c.name_at-name.ensures.taken in
     let select : option_map expr_of c.take_expr-select.result ≡ at expr_in (codes "select") old
     = c.take_expr-select.ensures.taken ∙ kept_at expr_in (codes "name") (codes "select") _ _ c.name_at-name.ensures.others refl in
-    view-Binding _ _ _ _ ∙ (λ i. record { site = site_of c.args.site; name = name i; select = select i; content = c.in_ok-content.ensures i })
+    view-Binding _ _ _ _ ∙ (λ i. record { site = site_of c.args.site; name = name i; select = select i; content = c.in-Ok.ensures i })

@@ -47,8 +47,8 @@ children_among-returns t c =
     ends around c.loop-i.kind path (c.loop-i.i + 1) (below_in c.loop-i.found) refl
     (last_turn (λ rest. before_rest (children_among around c.loop-i.kind path (c.loop-i.i + 1) (forest_of rest)) (below_in c.loop-i.found)) c.args.siblings.now c.loop-i.i (omega arith) c.loop-i.invariant)
 
-pub visit-returns-in_ok-here-in-Element : goal.visit-returns-in_ok-here-in-Element
-visit-returns-in_ok-here-in-Element t c =
+pub visit-returns-in_ok-inner-in-Element : goal.visit-returns-in_ok-inner-in-Element
+visit-returns-in_ok-inner-in-Element t c =
     at_element (around_in c.args.around.now) c.args.kind c.args.path.now c.args.position (forest_of c.args.later.now) (tree_of c.args.node.now).content (tree_of c.args.node.now).children (forest_of c.children.result.now)
     (around_in c.in_ok-inner-in-Element.inner) c.in_ok-here-in-Element.here c.in-Element.name (map written_of c.in-Element.attributes.items)
     (ap nodes.content_of (sym c.in-Element.is) ∙ c.content.ensures)
