@@ -1,5 +1,6 @@
 // Aliases of namespaces (XSLT 1.0, section 7.1.1).
-ghost use Rattle.std.specs.Prelude.{◌≡◌, [], IfOk, bytes_eq, codes, unwrap_or};
+ghost use Rattle.std.specs.Prelude.{◌≡◌, [], IfOk, Some, bytes_eq, codes, unwrap_or};
+ghost use Rattle.std.specs.Option.{option_map};
 ghost use Rattle.std.specs.Str.{chars};
 ghost use Rattle.spec_compile.specs.Unit as spec;
 ghost use Rattle.xp_syntax.specs.SheetView.{alias_of};
@@ -16,14 +17,18 @@ use xt_names::Scope;
 use xt_text::{Memory, Text};
 
 /// What an xsl:namespace-alias with these attributes declares, where this scope is in force inside it.
-pub(crate) fn alias(alloc: Global, scope: &Scope, entries: Entries) -> Result<Declaration, Memory>
-    ensures { IfOk result (λ d. declaration_in d ≡ declared_alias scope.now (entries_in entries)) }
+pub(crate) fn alias(
+    alloc: Global,
+    scope: &Scope,
+    entries: Entries,
+) -> Result<Option<Declaration>, Memory>
+    ensures { IfOk result (λ d. option_map declaration_in d ≡ Some (declared_alias scope.now (entries_in entries))) }
 {
     let mut entries = entries;
     let stylesheet = prefix_at(alloc, &mut entries, "stylesheet-prefix");
     let prefix = prefix_at(alloc, &mut entries, "result-prefix");
     let alias = alias_by(alloc, scope, &stylesheet, prefix)?;
-    Ok(Declaration::Alias(alias))
+    Ok(Some(Declaration::Alias(alias)))
 }
 
 // The prefix that the attribute of this name is, which `#default` leaves empty.

@@ -1,5 +1,5 @@
 // What elements at the top declare, by their attributes and their children.
-ghost use Rattle.std.specs.Prelude.{◌≡◌, IfOk, [], map, unwrap_or};
+ghost use Rattle.std.specs.Prelude.{◌≡◌, IfOk, Some, [], map, unwrap_or};
 ghost use Rattle.std.specs.Option.{option_map};
 ghost use Rattle.spec_compile.specs.Content as content;
 ghost use Rattle.spec_compile.specs.Unit as spec;
@@ -37,35 +37,39 @@ pub(crate) fn declaration_of(
     ensures { IfOk result (λ d. option_map declaration_in d ≡ spec.declaration_of element (content.site_of (around_in around.now) path.now) (entries_in entries) (children_in children.items)) }
 {
     match element {
-        XsltElement::Template => Ok(Some(template(alloc, entries, children)?)),
-        XsltElement::Param => Ok(Some(global(alloc, around, path, true, entries, children)?)),
-        XsltElement::Variable => Ok(Some(global(alloc, around, path, false, entries, children)?)),
-        XsltElement::AttributeSet => Ok(Some(attribute_set(alloc, entries, children)?)),
-        XsltElement::Key => Ok(Some(key(alloc, entries)?)),
+        XsltElement::Template => template(alloc, entries, children),
+        XsltElement::Param => global(alloc, around, path, true, entries, children),
+        XsltElement::Variable => global(alloc, around, path, false, entries, children),
+        XsltElement::AttributeSet => attribute_set(alloc, entries, children),
+        XsltElement::Key => key(alloc, entries),
         XsltElement::StripSpace => Ok(Some(space_rule(alloc, true, entries))),
         XsltElement::PreserveSpace => Ok(Some(space_rule(alloc, false, entries))),
         XsltElement::Output => Ok(Some(output(entries))),
-        XsltElement::NamespaceAlias => Ok(Some(alias(alloc, &around.inside.scope, entries)?)),
+        XsltElement::NamespaceAlias => alias(alloc, &around.inside.scope, entries),
         _ => Ok(None),
     }
 }
 
-fn template(alloc: Global, entries: Entries, children: Vec<Child>) -> Result<Declaration, Memory>
-    ensures { IfOk result (λ d. declaration_in d ≡ template_by (entries_in entries) (children_in children.items)) }
+fn template(
+    alloc: Global,
+    entries: Entries,
+    children: Vec<Child>,
+) -> Result<Option<Declaration>, Memory>
+    ensures { IfOk result (λ d. option_map declaration_in d ≡ Some (template_by (entries_in entries) (children_in children.items))) }
 {
     let mut entries = entries;
+    let parts = parted(alloc, children)?;
     let name = take_name(&mut entries, "name");
+    let template = template_with(alloc, name, parts)?;
     let pattern = take_pattern(&mut entries, "match");
     let mode = take_name(&mut entries, "mode");
     let priority = into_priority(entries.take("priority"));
-    let parts = parted(alloc, children)?;
-    let template = template_with(alloc, name, parts)?;
-    Ok(Declaration::Template(RuleTemplate {
+    Ok(Some(Declaration::Template(RuleTemplate {
         template,
         pattern,
         priority,
         mode,
-    }))
+    })))
 }
 
 fn template_with(alloc: Global, name: Option<Expanded>, parts: Parts) -> Result<Template, Memory>
@@ -87,48 +91,48 @@ fn global(
     is_parameter: bool,
     entries: Entries,
     children: Vec<Child>,
-) -> Result<Declaration, Memory>
-    ensures { IfOk result (λ d. declaration_in d ≡ global_by is_parameter (content.site_of (around_in around.now) path.now) (entries_in entries) (children_in children.items)) }
+) -> Result<Option<Declaration>, Memory>
+    ensures { IfOk result (λ d. option_map declaration_in d ≡ Some (global_by is_parameter (content.site_of (around_in around.now) path.now) (entries_in entries) (children_in children.items))) }
 {
     let mut entries = entries;
     let site = site_of(alloc, around, path)?;
     let binding = binding_of(alloc, site, &mut entries, children)?;
-    Ok(Declaration::Global(GlobalBinding {
+    Ok(Some(Declaration::Global(GlobalBinding {
         is_parameter,
         binding,
-    }))
+    })))
 }
 
 fn attribute_set(
     alloc: Global,
     entries: Entries,
     children: Vec<Child>,
-) -> Result<Declaration, Memory>
-    ensures { IfOk result (λ d. declaration_in d ≡ attribute_set_by (entries_in entries) (children_in children.items)) }
+) -> Result<Option<Declaration>, Memory>
+    ensures { IfOk result (λ d. option_map declaration_in d ≡ Some (attribute_set_by (entries_in entries) (children_in children.items))) }
 {
     let mut entries = entries;
+    let attributes = content_in(alloc, children)?;
     let name = name_at(alloc, &mut entries, "name");
     let sets = names_at(alloc, &mut entries, "use-attribute-sets");
-    let attributes = content_in(alloc, children)?;
-    Ok(Declaration::Set(AttributeSet {
+    Ok(Some(Declaration::Set(AttributeSet {
         name,
         sets,
         attributes,
-    }))
+    })))
 }
 
-fn key(alloc: Global, entries: Entries) -> Result<Declaration, Memory>
-    ensures { IfOk result (λ d. declaration_in d ≡ spec.AKey (spec.key_of (entries_in entries))) }
+fn key(alloc: Global, entries: Entries) -> Result<Option<Declaration>, Memory>
+    ensures { IfOk result (λ d. option_map declaration_in d ≡ Some (spec.AKey (spec.key_of (entries_in entries)))) }
 {
     let mut entries = entries;
+    let value = expr_at(alloc, &mut entries, "use")?;
     let name = name_at(alloc, &mut entries, "name");
     let pattern = or_no_pattern(alloc, take_pattern(&mut entries, "match"));
-    let value = expr_at(alloc, &mut entries, "use")?;
-    Ok(Declaration::Key(Key {
+    Ok(Some(Declaration::Key(Key {
         name,
         pattern,
         value,
-    }))
+    })))
 }
 
 fn or_no_pattern(alloc: Global, pattern: Option<Pattern>) -> Pattern

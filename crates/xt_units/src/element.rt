@@ -118,10 +118,16 @@ fn top_level_of(
 ) -> Result<Option<TopLevel>, Memory>
     ensures { IfOk result (λ t. said t ≡ spec.top_level_by (content.site_of (around_in around.now) path.now) (content.uses_of element (entries_in entries)) (outline_in below.outline) (spec.declaration_of element (content.site_of (around_in around.now) path.now) (entries_in entries) (children_in below.children.items))) }
 {
-    let site = site_of(alloc, around, path)?;
+    let Below { children, outline } = below;
     let uses = uses_of(alloc, element, &entries)?;
-    let declaration = declaration_of(alloc, around, path, element, entries, below.children)?;
-    Ok(top_level_by(site, uses, below.outline, declaration))
+    let site = site_of(alloc, around, path)?;
+    let Ok(declaration) = declaration_of(alloc, around, path, element, entries, children) else {
+        drop(site);
+        drop(uses);
+        drop(outline);
+        return Err(Memory);
+    };
+    Ok(top_level_by(site, uses, outline, declaration))
 }
 
 fn top_level_by(
@@ -133,7 +139,12 @@ fn top_level_by(
     ensures { said result ≡ spec.top_level_by (places.site_of site) (uses_in uses) (outline_in outline) (option_map declaration_in declaration) }
 {
     match declaration {
-        None => None,
+        None => {
+            drop(site);
+            drop(uses);
+            drop(outline);
+            None
+        }
         Some(declaration) => Some(TopLevel {
             site,
             declaration,

@@ -85,7 +85,10 @@ fn document_element_at(
         } => {
             let inside = inside_top(alloc, element, attributes.as_slice())?;
             match kind_of(&inside, element) {
-                Kind::Nothing => Ok(Vec::new(alloc)),
+                Kind::Nothing => {
+                    drop(inside);
+                    Ok(Vec::new(alloc))
+                }
                 Kind::Stylesheet(element) => stylesheet_at(
                     alloc,
                     name,
@@ -95,7 +98,10 @@ fn document_element_at(
                     attributes.as_slice(),
                     node.children(),
                 ),
-                Kind::Simplified => simplified_at(alloc, name, position, node),
+                Kind::Simplified => {
+                    drop(inside);
+                    simplified_at(alloc, name, position, node)
+                }
             }
         }
         Content::Text { .. } => Ok(Vec::new(alloc)),

@@ -58,8 +58,13 @@ fn simplified(
 {
     let path = top(alloc, position)?;
     let site = site_of(alloc, around, &path)?;
-    let declaration = template_for_the_root(alloc, below.children)?;
-    alone(alloc, site, declaration, below.outline)
+    let Below { children, outline } = below;
+    let Ok(declaration) = template_for_the_root(alloc, children) else {
+        drop(site);
+        drop(outline);
+        return Err(Memory);
+    };
+    alone(alloc, site, declaration, outline)
 }
 
 // An element at the top that names nothing itself, and is the only one.
@@ -95,8 +100,9 @@ fn no_uses(alloc: Global) -> Uses
 fn template_for_the_root(alloc: Global, children: Vec<Child>) -> Result<Declaration, Memory>
     ensures { IfOk result (λ d. declaration_in d ≡ spec.simplified_template (children_in children.items)) }
 {
-    let content = content_in(alloc, children)?;
+    let pattern = for_the_root(alloc)?;
     let parameters = Rc::new(alloc, Vec::new(alloc))?;
+    let content = content_in(alloc, children)?;
     let template = Template {
         name: None,
         parameters,
@@ -104,7 +110,7 @@ fn template_for_the_root(alloc: Global, children: Vec<Child>) -> Result<Declarat
     };
     Ok(Declaration::Template(RuleTemplate {
         template,
-        pattern: Some(for_the_root(alloc)?),
+        pattern: Some(pattern),
         priority: None,
         mode: None,
     }))

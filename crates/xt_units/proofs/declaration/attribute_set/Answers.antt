@@ -1,4 +1,4 @@
-use Rattle.std.proofs.Common.{◌∙◌, [], ap, codes, refl, unwrap_or}
+use Rattle.std.proofs.Common.{◌∙◌, [], Some, ap, codes, refl, unwrap_or}
 use Rattle.std.specs.Option.{option_and_then}
 use Rattle.std.specs.Str.{chars}
 use Rattle.spec_compile.specs.Unit.{ASet}
@@ -11,4 +11,4 @@ returns c =
     let name = c.name_at-name.ensures.taken in
     let sets = c.names_at-sets.ensures.taken
     ∙ ap (λ o. unwrap_or (option_and_then names_in o) []) (c.name_at-name.ensures.others (codes "use-attribute-sets") refl) in
-    λ i. ASet (record { name = name i; sets = sets i; attributes = c.in_ok-attributes.ensures i })
+    λ i. Some (ASet (record { name = name i; sets = sets i; attributes = c.in_ok-attributes.ensures i }))

@@ -1,4 +1,4 @@
-use Rattle.std.proofs.Common.{◌∙◌, ap, codes, refl}
+use Rattle.std.proofs.Common.{◌∙◌, Some, ap, codes, refl}
 use Rattle.std.specs.Option.{option_and_then}
 use Rattle.std.specs.Str.{chars}
 use Rattle.spec_compile.specs.Unit.{ATemplate, priority_in}
@@ -18,4 +18,4 @@ returns c =
     let priority = c.into_priority-priority.ensures
     ∙ ap (option_and_then priority_in) (c.take.ensures.taken ∙ past_mode (codes "priority") refl ∙ past_match (codes "priority") refl ∙ past_name (codes "priority") refl) in
     let template = c.in_ok-template.ensures ∙ (λ i. made_template (name i) (c.in_ok-parts.ensures i)) in
-    λ i. ATemplate (template i) (pattern i) (priority i) (mode i)
+    λ i. Some (ATemplate (template i) (pattern i) (priority i) (mode i))
