@@ -88,6 +88,9 @@ fn found_by(found: Result<KeyIndex, EvalFault>) -> Result<Found, Memory>
         Ok(index) => Ok(Found::Index(index)),
         Err(EvalFault::Memory) => Err(Memory),
         Err(EvalFault::Refused(refusal)) => Ok(Found::Refused(refusal)),
-        Err(EvalFault::Wants(_)) => Ok(Found::Nothing),
+        Err(EvalFault::Wants(wanted)) => {
+            drop(wanted);
+            Ok(Found::Nothing)
+        }
     }
 }

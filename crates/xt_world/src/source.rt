@@ -1,5 +1,5 @@
 // A source with the keys of a stylesheet.
-ghost use Rattle.std.specs.Prelude.{◌≡◌, IfOk};
+ghost use Rattle.std.specs.Prelude.{◌≡◌, ◌++◌, ◌∷◌, [], IfOk, OnErr, OnOk};
 ghost use Rattle.xp_syntax.specs.View.{expr_of};
 ghost use Rattle.xt_ask.specs.View.{answer_of, question_of};
 ghost use Rattle.xt_match.specs.Context.{units_in};
@@ -8,7 +8,7 @@ ghost use Rattle.xt_world.specs.KeyView.{keyed_in};
 ghost use Rattle.xt_world.specs.SourceView.{keyed_by, source_in};
 
 use crate::Stylesheet;
-use crate::found::{FoundKeys, answer_found, find, found_for};
+use crate::found::{Found, FoundKeys, answer_found, find, found_for};
 use std::alloc::Global;
 use xp_eval::eval;
 use xp_syntax::Expr;
@@ -109,9 +109,31 @@ fn keyed_first(
     ensures answer { IfOk result (λ a. answer_of a ≡ keyed_in (units_in stylesheet.now.units.items) document.now name.now text.now) }
     ensures same { source_in stylesheet.now document.now keys.new.items ≡ source_in stylesheet.now document.now keys.old.items }
 {
-    let kept = copy_name(alloc, name)?;
     let found = find(alloc, document, stylesheet.units.as_slice(), name)?;
     let answer = answer_found(alloc, &found, text);
-    keys.push(FoundKeys { name: kept, found })?;
-    answer
+    match keep(alloc, keys, name, found) {
+        Ok(()) => answer,
+        Err(_) => {
+            drop(answer);
+            Err(Memory)
+        }
+    }
+}
+
+// Keeps what was found for the keys of this name.
+fn keep(
+    alloc: Global,
+    keys: &mut Vec<FoundKeys>,
+    name: &Expanded,
+    found: Found,
+) -> Result<(), Memory>
+    ensures ok { OnOk result (keys.new.items ≡ keys.old.items ++ (record { name = name.now; found = found }) ∷ []) }
+    ensures err { OnErr result (keys.new.items ≡ keys.old.items) }
+{
+    let Ok(name) = copy_name(alloc, name) else {
+        drop(found);
+        return Err(Memory);
+    };
+    keys.push(FoundKeys { name, found })?;
+    Ok(())
 }

@@ -1,4 +1,4 @@
-use Rattle.std.proofs.Common.{◌≡◌, ℕ, List, ap, sym, ◌∙◌}
+use Rattle.std.proofs.Common.{◌≡◌, List, ap, ◌∙◌}
 use Rattle.std.proofs.lemmas.Result.{IfOk-weaker}
 use Rattle.xt_ask.specs.View.{answer_of}
 use Rattle.xt_ask.specs.declared.answer.Answer.{Answer}
@@ -9,17 +9,16 @@ use Rattle.xt_world.specs.declared.found.FoundKeys.{FoundKeys}
 use Rattle.xt_world.proofs.Holding.{more_held}
 use Rattle.xt_world.proofs.source.keyed_first.Goals as goal
 
-pub returns-clause-same : goal.returns-clause-same
-returns-clause-same c =
+pub returns-in-Ok-clause-same : goal.returns-in-Ok-clause-same
+returns-in-Ok-clause-same c =
     let s = c.args.stylesheet.now in
     let document = c.args.document.now in
-    let right : (text : List ℕ) → answer_found c.in_ok-found.found text ≡ keyed_in (units_in s.units.items) document c.in_ok-kept.kept text
-    = λ text. c.in_ok-found.ensures text ∙ (λ i. keyed_in (units_in (c.as_slice.ensures.value i)) document (sym c.in_ok-kept.ensures i) text) in
-    ap (λ (keys : List FoundKeys). source_in s document keys) (c.in_ok-push.ensures {u = tt}).items
-    ∙ more_held s document c.args.keys.now.items (record { name = c.in_ok-kept.kept; found = c.in_ok-found.found }) right
+    ap (λ (keys : List FoundKeys). source_in s document keys) c.in-Ok.ensures.ok
+    ∙ more_held s document c.args.keys.now.items (record { name = c.args.name.now; found = c.in_ok-found.found })
+    (λ text. c.in_ok-found.ensures text ∙ (λ i. keyed_in (units_in (c.as_slice.ensures.value i)) document c.args.name.now text))
 
-pub returns-clause-answer : goal.returns-clause-answer
-returns-clause-answer c =
+pub returns-in-Ok-clause-answer : goal.returns-in-Ok-clause-answer
+returns-in-Ok-clause-answer c =
     let units = units_in c.args.stylesheet.now.units.items in
     let document = c.args.document.now in
     let name = c.args.name.now in
@@ -29,3 +28,6 @@ returns-clause-answer c =
     (λ (a : Answer). answer_of a ≡ keyed_in units document name text)
     (λ a is. is ∙ c.in_ok-found.ensures text ∙ (λ i. keyed_in (units_in (c.as_slice.ensures.value i)) document name text))
     c.answer_found-answer.ensures
+
+pub returns-in-Err-clause-same : goal.returns-in-Err-clause-same
+returns-in-Err-clause-same c = ap (λ (keys : List FoundKeys). source_in c.args.stylesheet.now c.args.document.now keys) c.in-Err.ensures.err
