@@ -9,14 +9,13 @@
 //! ```
 #![tactic(auto)]
 
-mod called;
 mod found;
 mod laws;
+mod naming;
 mod parameters;
 mod resolve;
 mod source;
 mod stylesheet;
-mod used;
 mod world;
 
 pub use laws::same_run;

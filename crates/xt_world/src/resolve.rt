@@ -9,8 +9,7 @@ ghost use Rattle.xt_ask.specs.View.{template_of, sets_of, resolved_of};
 ghost use Rattle.xt_world.specs.Numbered.{element_called, index_from};
 ghost use Rattle.xt_world.specs.Units.{elements_named, place_in, plain_aliases, plain_units, resolved_by};
 
-use crate::called::add_called;
-use crate::used::add_used;
+use crate::naming::{Names, names_in};
 use std::alloc::Global;
 use std::rc::Rc;
 use xp_syntax::{Alias, Declared, GlobalBinding, Unit};
@@ -141,18 +140,16 @@ fn add_template(
     }
 }
 
-/// The templates that a unit calls, where such are there.
+/// The templates of these names, where such are there.
 fn templates_called(
     alloc: Global,
     units: &[Rc<Unit>],
-    declared: &Declared,
+    names: &[Expanded],
 ) -> Result<Vec<NamedTemplate>, Memory>
-    ensures { IfOk result (λ list. map template_of list.items ≡ definition.templates_called (element_called (plain_units units.now)) (plain_units units.now) (definition.called_in_unit (declared_of declared.now))) }
+    ensures { IfOk result (λ list. map template_of list.items ≡ definition.templates_called (element_called (plain_units units.now)) (plain_units units.now) names.now) }
 {
-    let mut names = Vec::new(alloc);
-    add_called(alloc, declared, &mut names)?;
     let mut templates = Vec::new(alloc);
-    for name in names.as_slice() {
+    for name in names {
         add_template(alloc, units, name, &mut templates)?;
     }
     Ok(templates)
@@ -179,16 +176,14 @@ fn named_sets(alloc: Global, units: &[Rc<Unit>], name: Expanded) -> Result<Named
     Ok(NamedSets { name, elements })
 }
 
-/// The attribute sets that a unit uses.
+/// The attribute sets of these names.
 fn sets_used(
     alloc: Global,
     units: &[Rc<Unit>],
-    declared: &Declared,
+    names: Vec<Expanded>,
 ) -> Result<Vec<NamedSets>, Memory>
-    ensures { IfOk result (λ list. map sets_of list.items ≡ definition.sets_used (element_called (plain_units units.now)) (plain_units units.now) (definition.used_in_unit (declared_of declared.now))) }
+    ensures { IfOk result (λ list. map sets_of list.items ≡ definition.sets_used (element_called (plain_units units.now)) (plain_units units.now) names.items) }
 {
-    let mut names = Vec::new(alloc);
-    add_used(alloc, declared, &mut names)?;
     let mut sets = Vec::new(alloc);
     for name in names {
         let named = named_sets(alloc, units, name)?;
@@ -238,8 +233,9 @@ pub fn resolve(
 ) -> Result<Rc<ResolvedUnit>, Memory>
     ensures { IfOk result (λ r. resolved_of r.value ≡ resolved_by (plain_aliases aliases.now) (plain_units units.now) (unit_of unit.now.value)) }
 {
-    let templates = templates_called(alloc, units, &unit.declared)?;
-    let sets = sets_used(alloc, units, &unit.declared)?;
+    let Names { called, used } = names_in(alloc, &unit.declared)?;
+    let templates = templates_called(alloc, units, called.as_slice())?;
+    let sets = sets_used(alloc, units, used)?;
     let counts = counts(units, unit);
     let resolved = ResolvedUnit {
         unit: unit.clone()?,

@@ -1,6 +1,5 @@
 use Rattle.std.proofs.Common.{◌≡◌, ◌++◌, map}
 use Rattle.spec_run.specs.World as definition
-use Rattle.xp_syntax.specs.SheetView.{declared_of}
 use Rattle.xt_ask.specs.View.{sets_of}
 use Rattle.xt_world.specs.Numbered.{element_called}
 use Rattle.xt_world.specs.Units.{plain_units}
@@ -9,4 +8,4 @@ use Rattle.xt_world.proofs.resolve.sets_used.Given as goal
 abbrev pub invariant-loop-name : goal.invariant-loop-name
 invariant-loop-name l =
     map sets_of l.sets.items ++ definition.sets_used (element_called (plain_units l.units)) (plain_units l.units) l.name-iterator.rest.items
-    ≡ definition.sets_used (element_called (plain_units l.units)) (plain_units l.units) (definition.used_in_unit (declared_of l.declared))
+    ≡ definition.sets_used (element_called (plain_units l.units)) (plain_units l.units) l.fn.names.items

@@ -10,7 +10,7 @@ use Rattle.xt_world.proofs.resolve.templates_called.Goals as goal
 pub loop-name-preserved : goal.loop-name-preserved
 loop-name-preserved c =
     let us = plain_units c.args.units.now in
-    let names = c.as_slice-name-items.result.now in
+    let names = c.args.names.now in
     let name = c.name-item.result in
     let done = map template_of c.loop-name.templates.items in
     let one = definition.template_by (element_called us) name (definition.last_element (definition.is_template name) None us) in

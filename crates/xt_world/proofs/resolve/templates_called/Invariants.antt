@@ -8,5 +8,5 @@ use Rattle.xt_world.proofs.resolve.templates_called.Given as goal
 abbrev pub invariant-loop-name : goal.invariant-loop-name
 invariant-loop-name l =
     map template_of l.templates.items
-    ++ definition.templates_called (element_called (plain_units l.units)) (plain_units l.units) (drop l.name-index l.name-items)
-    ≡ definition.templates_called (element_called (plain_units l.units)) (plain_units l.units) l.name-items
+    ++ definition.templates_called (element_called (plain_units l.units)) (plain_units l.units) (drop l.name-index l.names)
+    ≡ definition.templates_called (element_called (plain_units l.units)) (plain_units l.units) l.names
