@@ -26,6 +26,7 @@ use crate::unread::unread_line;
 use indexmap::IndexMap;
 use spec_expression::StaticCode;
 use std::alloc::Global;
+use std::mem;
 use xt_base::EditCode;
 use xt_build::{BuildFault, Built, build};
 use xt_edit::{Edit, EditFault, Edited, apply};
@@ -168,7 +169,7 @@ impl Held {
         } = ready;
         self.put(change);
         self.next = next;
-        self.outcome = outcome;
+        drop(mem::replace(&mut self.outcome, outcome));
     }
 
     /// What the transformation of the documents comes to. Takes no memory.
@@ -255,7 +256,10 @@ impl Held {
         ensures { IfOk result (λ ready. IsReady (with_source (plain_of document)) next.number self.now ready) }
     {
         let compiled = self.compiled.as_ref();
-        let outcome = outcome_of(alloc, compiled, &self.parameters, Some(&document))?;
+        let Ok(outcome) = outcome_of(alloc, compiled, &self.parameters, Some(&document)) else {
+            drop(document);
+            return Err(Memory);
+        };
         Ok(Ready {
             change: Change::Source(document),
             next,
@@ -277,11 +281,23 @@ impl Held {
         ensures ok { IfOk result (λ ready. IsReady (with_module name.now (plain_of document)) next.number self.new ready) }
         ensures kept { IsKept self.old self.new }
     {
-        let Tried { compiled, document } = compiled_with(alloc, &mut self.modules, name, document)?;
+        let Ok(key) = String::from_str(alloc, name.as_str()) else {
+            drop(document);
+            return Err(Memory);
+        };
+        let tried = compiled_with(alloc, &mut self.modules, name, document)?;
         let source = self.source.as_ref();
-        let outcome = outcome_of(alloc, compiled.as_ref(), &self.parameters, source)?;
-        let key = String::from_str(alloc, name.as_str())?;
-        self.modules.reserve(1)?;
+        let compiled = tried.compiled.as_ref();
+        let Ok(outcome) = outcome_of(alloc, compiled, &self.parameters, source) else {
+            drop(tried);
+            return Err(Memory);
+        };
+        let Ok(()) = self.modules.reserve(1) else {
+            drop(outcome);
+            drop(tried);
+            return Err(Memory);
+        };
+        let Tried { compiled, document } = tried;
         Ok(Ready {
             change: Change::Module(key, document, compiled),
             next,
@@ -298,7 +314,10 @@ impl Held {
         let dropped = name.copy(alloc)?;
         let compiled = compiled_without(alloc, &mut self.modules, name)?;
         let source = self.source.as_ref();
-        let outcome = outcome_of(alloc, compiled.as_ref(), &self.parameters, source)?;
+        let Ok(outcome) = outcome_of(alloc, compiled.as_ref(), &self.parameters, source) else {
+            drop(compiled);
+            return Err(Memory);
+        };
         Ok(Ready {
             change: Change::Dropped(dropped, compiled),
             next: self.next,
@@ -346,7 +365,7 @@ impl Held {
         ensures compiled { self.new.compiled ≡ self.old.compiled }
         ensures below { (first : ℕ) → HasBelow first self.old → AreBelow first document → HasBelow first self.new }
     {
-        self.source = Some(document);
+        drop(mem::replace(&mut self.source, Some(document)));
     }
 
     // There is room, so the insertion does not fail.
@@ -356,8 +375,8 @@ impl Held {
         ensures compiled { self.new.compiled ≡ compiled }
         ensures below { (first : ℕ) → HasBelow first self.old → AreBelow first document → HasBelow first self.new }
     {
-        let _ = self.modules.insert(name, document);
-        self.compiled = compiled;
+        drop(self.modules.insert(name, document));
+        drop(mem::replace(&mut self.compiled, compiled));
     }
 
     fn take_module(&mut self, name: &Text, compiled: Option<Compiled>)
@@ -365,8 +384,8 @@ impl Held {
         ensures compiled { self.new.compiled ≡ compiled }
         ensures below { (first : ℕ) → HasBelow first self.old → HasBelow first self.new }
     {
-        let _ = self.modules.shift_remove(name.as_str());
-        self.compiled = compiled;
+        drop(self.modules.shift_remove(name.as_str()));
+        drop(mem::replace(&mut self.compiled, compiled));
     }
 
     // There is room, so that no memory is taken.

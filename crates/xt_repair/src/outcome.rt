@@ -105,7 +105,10 @@ fn transformed(
     match compiled {
         Compiled::Stylesheet(stylesheet, space_rules, method) => {
             let whole = whole_of_seen(alloc, stylesheet, space_rules, parameters, source)?;
-            let method = copy_method(alloc, method)?;
+            let Ok(method) = copy_method(alloc, method) else {
+                drop(whole);
+                return Err(Memory);
+            };
             ended(method, whole)
         }
         Compiled::Refused(refusal) => refused(alloc, refusal),
@@ -174,15 +177,24 @@ fn ended(method: Option<Method>, whole: Whole) -> Result<Outcome, Memory>
         refusal,
     } = whole;
     match refusal {
-        None => Ok(Outcome::Done {
-            result: shape(&content)?,
-            method,
-            messages,
-        }),
-        Some(why) => Ok(Outcome::Refused {
-            code: Code::Dynamic(why.code),
-            place: why.place,
-            messages,
-        }),
+        None => match shape(&content) {
+            Ok(result) => Ok(Outcome::Done {
+                result,
+                method,
+                messages,
+            }),
+            Err(_) => {
+                drop(method);
+                Err(Memory)
+            }
+        },
+        Some(why) => {
+            drop(method);
+            Ok(Outcome::Refused {
+                code: Code::Dynamic(why.code),
+                place: why.place,
+                messages,
+            })
+        }
     }
 }

@@ -74,7 +74,10 @@ pub(crate) fn outcome_with(
     let outcome = outcome_of(alloc, compiled, parameters, source);
     parameters.take_back(before);
     let outcome = outcome?;
-    parameters.reserve()?;
+    let Ok(()) = parameters.reserve() else {
+        drop(outcome);
+        return Err(Memory);
+    };
     Ok(TriedParameter {
         name: key,
         value: kept,

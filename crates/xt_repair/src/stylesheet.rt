@@ -81,7 +81,11 @@ fn runnable(alloc: Global, sheet: Sheet) -> Result<Compiled, Memory>
         method: None,
         aliases,
     };
-    let stylesheet = Stylesheet::new(alloc, asked)?;
+    let Ok(stylesheet) = Stylesheet::new(alloc, asked) else {
+        drop(space_rules);
+        drop(method);
+        return Err(Memory);
+    };
     Ok(Compiled::Stylesheet(stylesheet, space_rules, method))
 }
 

@@ -16,8 +16,8 @@ pub returns-in_err-compiled-clause-kept : goal.returns-in_err-compiled-clause-ke
 returns-in_err-compiled-clause-kept c =
     kept_so c.args.self.now _ (record { modules = c.compiled_without.ensures.kept; source = refl; compiled = refl; parameters = refl; made = refl; outcome = refl })
 
-pub returns-in_err-outcome-clause-kept : goal.returns-in_err-outcome-clause-kept
-returns-in_err-outcome-clause-kept c =
+pub returns-in_default-clause-kept : goal.returns-in_default-clause-kept
+returns-in_default-clause-kept c =
     kept_so c.args.self.now _ (record { modules = c.in_ok-compiled.ensures.kept; source = refl; compiled = refl; parameters = refl; made = refl; outcome = refl })
 
 pub returns-clause-kept : goal.returns-clause-kept
@@ -29,11 +29,11 @@ returns-clause-ok c =
     let held = c.args.self.now in
     let name = c.args.name.now in
     let compiled = c.in_ok-compiled.compiled in
-    let outcome = c.in_ok-outcome.outcome in
+    let outcome = c.in-Ok.outcome in
     let modules = without_one name (modules_in held.modules.entries) in
     let are = subst (λ (o : Option Compiled). AreCompiled modules o) (sym c.as_ref.ensures.value) c.in_ok-compiled.ensures.compiled in
     let source = map-copied plain_of c.as_ref-source.result ∙ ap (option_map plain_of) c.as_ref-source.ensures.value in
     let comes = subst (λ (s : Option Plain). Comes modules (parameters_of held.parameters) (modules main_name) s (outcome_of outcome)) source
-    (c.in_ok-outcome.ensures modules are) in
+    (c.in-Ok.ensures modules are) in
     ready_so held _ (record { modules = c.in_ok-compiled.ensures.kept; source = refl; compiled = refl; parameters = refl; made = refl; outcome = refl })
     name c.in_ok-dropped.dropped c.in_ok-dropped.ensures compiled outcome held.next refl c.in_ok-compiled.ensures.compiled comes c.requires

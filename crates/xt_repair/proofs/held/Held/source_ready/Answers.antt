@@ -12,7 +12,7 @@ returns c =
       documents = refl;
       made = refl;
       from = record {
-        outcome = c.in_ok-outcome.ensures modules
+        outcome = c.in-Ok.ensures modules
             (subst (λ (compiled : Option Compiled). AreCompiled modules compiled) (sym c.as_ref-compiled.ensures.value) c.requires.current.compiled);
         compiled = c.requires.current.compiled;
         room = tt;
