@@ -235,6 +235,7 @@ pub fn resolve(
 {
     let Names { called, used } = names_in(alloc, &unit.declared)?;
     let templates = templates_called(alloc, units, called.as_slice())?;
+    drop(called);
     let sets = sets_used(alloc, units, used)?;
     let counts = counts(units, unit);
     let resolved = ResolvedUnit {
