@@ -163,7 +163,8 @@ pub fn with_name(alloc: Global, name: Expanded, names: &[Expanded]) -> Result<Ve
     let mut all = Vec::new(alloc);
     all.push(name)?;
     for other in names {
-        all.push(copy_name(alloc, other)?)?;
+        let copied = copy_name(alloc, other)?;
+        all.push(copied)?;
     }
     Ok(all)
 }

@@ -206,8 +206,8 @@ pub fn remember(
 pub fn remember_none(alloc: Global, memo: &mut Memo, name: &Expanded) -> Result<(), Memory>
     ensures { OnOk result (entries_of memo.new ≡ entries_of memo.old ++ no_global name.now ∷ []) }
 {
-    let name = copy_name(alloc, name)?;
     let content = Rc::new(alloc, Items::new(alloc))?;
+    let name = copy_name(alloc, name)?;
     let entry = Remembered {
         name,
         element: None,

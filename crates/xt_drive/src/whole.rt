@@ -21,7 +21,6 @@ use crate::outcome::{Ending, Held, Outcome, as_held, content_of};
 use std::alloc::Global;
 use std::rc::Rc;
 use xt_ask::{World, copy_name};
-use xt_names::Expanded;
 use xt_result::messages;
 use xt_run::{Engine, NamedGlobal, Refused};
 use xt_text::{Memory, Text};
@@ -50,9 +49,8 @@ const fn levels_of_a_run() -> u64
 fn add_messages(alloc: Global, told: &mut Vec<Text>, content: &Items) -> Result<(), Memory>
     ensures { OnOk result (told.new.items ≡ told.old.items ++ messages_of (stream_of content.now)) }
 {
-    for text in messages(alloc, content)? {
-        told.push(text)?;
-    }
+    let mut texts = messages(alloc, content)?;
+    told.append(&mut texts)?;
     Ok(())
 }
 
@@ -158,7 +156,10 @@ fn finished(
 fn halted(alloc: Global, told: Vec<Text>, why: Refused) -> Result<Whole, Memory>
     ensures { IfOk result (λ w. whole_of w ≡ record { content = stream.Ended; messages = told.items; refusal = Some (refused_of why) }) }
 {
-    let content = Rc::new(alloc, Items::new(alloc))?;
+    let Ok(content) = Rc::new(alloc, Items::new(alloc)) else {
+        drop(why);
+        return Err(Memory);
+    };
     Ok(Whole {
         content,
         messages: told,
@@ -170,10 +171,11 @@ fn halted(alloc: Global, told: Vec<Text>, why: Refused) -> Result<Whole, Memory>
 fn held_global(alloc: Global, global: &NamedGlobal, value: Value) -> Result<HeldGlobal, Memory>
     ensures { IfOk result (λ h. held_of h ≡ record { name = global.now.name; value = value_of value }) }
 {
-    Ok(HeldGlobal {
-        name: copy_name(alloc, &global.name)?,
-        value,
-    })
+    let Ok(name) = copy_name(alloc, &global.name) else {
+        drop(value);
+        return Err(Memory);
+    };
+    Ok(HeldGlobal { name, value })
 }
 
 // Holds the value of a global. Where it has none, why.
@@ -207,9 +209,11 @@ fn take_turn(
     ensures held { IfOk result (λ why. IsHeldAs why turned.held global.now.name (map held_of values.old.items) (map held_of values.new.items)) }
 {
     let Turned { held, content } = turned;
-    let refusal = hold(alloc, values, global, held)?;
-    add_messages(alloc, told, &content)?;
-    Ok(refusal)
+    let Ok(()) = add_messages(alloc, told, &content) else {
+        drop(held);
+        return Err(Memory);
+    };
+    hold(alloc, values, global, held)
 }
 
 // The whole run, with so many levels.
@@ -225,7 +229,6 @@ fn run_in<E: Engine, W: World>(
     ensures truth { (W.state world.new).truth ≡ (W.state world.old).truth }
     ensures name { W.name world.new ≡ W.name world.old }
 {
-    let none: Vec<Expanded> = Vec::new(alloc);
     let mut values: Vec<HeldGlobal> = Vec::new(alloc);
     let mut told: Vec<Text> = Vec::new(alloc);
     let mut memo = nothing_remembered(alloc);
@@ -234,7 +237,7 @@ fn run_in<E: Engine, W: World>(
             root,
             named,
             held: values.as_slice(),
-            under_way: none.as_slice(),
+            under_way: &[],
         };
         let turned = turn(alloc, engine, world, &globals, &mut memo, global, levels)?;
         let refusal = take_turn(alloc, turned, global, &mut values, &mut told)?;
@@ -248,7 +251,7 @@ fn run_in<E: Engine, W: World>(
         root,
         named,
         held: values.as_slice(),
-        under_way: none.as_slice(),
+        under_way: &[],
     };
     let came = means(alloc, engine, world, &globals, &mut memo, &call, levels);
     drop(call);

@@ -24,7 +24,7 @@ loop-global-init g c =
 pub turn-requires : goal.turn-requires
 turn-requires g c =
     let inv = c.loop-global.invariant in
-    remembers_here c.args.root c.args.named.now (entries_of c.loop-global.memo) inv.truth c.as_slice.ensures.value (c.as_slice-in-loop-global.ensures.value ∙ c.new-none.ensures.items) inv.remembers
+    remembers_here c.args.root c.args.named.now (entries_of c.loop-global.memo) inv.truth c.as_slice.ensures.value refl inv.remembers
 
 pub loop-global-preserved : goal.loop-global-preserved
 loop-global-preserved g c =
@@ -42,7 +42,7 @@ loop-global-preserved g c =
     let next = next_turn s levels named i n values told call (omega arith) c.global-item.is in
     let t = c.in_ok-turned.turned in
     let memo = entries_of c.turn.new.memo in
-    let turns = turns_here root named t (named_of n) levels memo inv.truth c.as_slice.ensures.value (c.as_slice-in-loop-global.ensures.value ∙ c.new-none.ensures.items) c.in_ok-turned.ensures.turns in
+    let turns = turns_here root named t (named_of n) levels memo inv.truth c.as_slice.ensures.value refl c.in_ok-turned.ensures.turns in
     let more = c.take_turn.new.told.items in
     let all = map held_of c.take_turn.new.values.items in
     let made = turn_made turns.turned.held turns.turned.content c.in_ok-refusal.ensures.told in
@@ -70,7 +70,7 @@ returns-in-Some-clause-run g c =
     let n = c.global-item.result in
     let next = next_turn s levels named i n values told call (omega arith) c.global-item.is in
     let t = c.in_ok-turned.turned in
-    let turns = turns_here root named t (named_of n) levels (entries_of c.turn.new.memo) inv.truth c.as_slice.ensures.value (c.as_slice-in-loop-global.ensures.value ∙ c.new-none.ensures.items) c.in_ok-turned.ensures.turns in
+    let turns = turns_here root named t (named_of n) levels (entries_of c.turn.new.memo) inv.truth c.as_slice.ensures.value refl c.in_ok-turned.ensures.turns in
     let more = c.take_turn.new.told.items in
     let all = map held_of c.take_turn.new.values.items in
     let made = turn_made turns.turned.held turns.turned.content c.in_ok-refusal.ensures.told in
@@ -82,7 +82,7 @@ returns-in-Some-clause-run g c =
 pub means-came-requires : goal.means-came-requires
 means-came-requires g c =
     let inv = c.loop-global.invariant in
-    remembers_here c.args.root c.args.named.now (entries_of c.loop-global.memo) (c.root_call.ensures.truth ∙ inv.truth) c.as_slice-2.ensures.value (c.as_slice-3.ensures.value ∙ c.new-none.ensures.items) inv.remembers
+    remembers_here c.args.root c.args.named.now (entries_of c.loop-global.memo) (c.root_call.ensures.truth ∙ inv.truth) c.as_slice-2.ensures.value refl inv.remembers
 
 pub returns-clause-run : goal.returns-clause-run
 returns-clause-run g c =
@@ -97,6 +97,6 @@ returns-clause-run g c =
     let told = c.loop-global.told.items in
     let call = root_call s in
     let same = c.in_ok-call.ensures.call ∙ ap (λ a. rule_call nowhere None [] 1 root 1 (a (Choice root None AllRules))) inv.truth in
-    let here = root_here root named levels (c.root_call.ensures.truth ∙ inv.truth) c.as_slice-2.ensures.value (c.as_slice-3.ensures.value ∙ c.new-none.ensures.items) same in
+    let here = root_here root named levels (c.root_call.ensures.truth ∙ inv.truth) c.as_slice-2.ensures.value refl same in
     let came = if_ok c.means-came.result c.means-came.ensures.meaning (λ x h. h ∙ here) in
     if_ok c.finished.result c.finished.ensures (λ w f. last_turn s levels named i values told call c.means-came.result w (omega arith) came f ∙ inv.same)
