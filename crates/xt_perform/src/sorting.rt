@@ -22,7 +22,7 @@ use xt_frames::{
     lack, push,
 };
 use xt_names::Expanded;
-use xt_sort::{Row, nodes_in_order};
+use xt_sort::{Criterion, Row, nodes_in_order};
 use xt_text::Memory;
 use xt_tree::NodeRef;
 
@@ -59,9 +59,16 @@ pub fn go_on_sorting<W: World>(
     ensures name { W.name world.new ≡ W.name world.old }
 {
     let mut sorting = left;
-    match ask_criteria(alloc, run, &mut sorting, world)? {
+    let Ok(asked) = ask_criteria(alloc, run, &mut sorting, world) else {
+        drop(sorting);
+        return Err(Memory);
+    };
+    match asked {
         Came::Is(()) => go_on_rows(alloc, run, sorting, world),
-        Came::Halts(why) => Ok(Next::Halt(why)),
+        Came::Halts(why) => {
+            drop(sorting);
+            Ok(Next::Halt(why))
+        }
         Came::Lacks(name) => {
             let number = sorting.criteria.len();
             lack_at(alloc, run, sorting, number, name)
@@ -82,9 +89,16 @@ fn go_on_rows<W: World>(
     ensures name { W.name world.new ≡ W.name world.old }
 {
     let mut sorting = left;
-    match ask_rows(alloc, run, &mut sorting, world)? {
+    let Ok(asked) = ask_rows(alloc, run, &mut sorting, world) else {
+        drop(sorting);
+        return Err(Memory);
+    };
+    match asked {
         Came::Is(()) => put_in_order(alloc, run, sorting),
-        Came::Halts(why) => Ok(Next::Halt(why)),
+        Came::Halts(why) => {
+            drop(sorting);
+            Ok(Next::Halt(why))
+        }
         Came::Lacks(name) => {
             let number = sorting.values.len();
             lack_at(alloc, run, sorting, number, name)
@@ -104,7 +118,10 @@ fn lack_at(
     ensures needs { IfOk result (HasNeeds name sorting.here.depth (place_at sorting number)) }
     ensures pushed { OnOk result (Pushed (Frame.Sorting sorting) run.old run.new) }
 {
-    let place = copy_place(alloc, &sorting.keys[number].site.place)?;
+    let Ok(place) = copy_place(alloc, &sorting.keys[number].site.place) else {
+        drop(sorting);
+        return Err(Memory);
+    };
     let depth = sorting.here.depth;
     lack(alloc, run, Frame::Sorting(sorting), name, depth, &place)
 }
@@ -290,15 +307,28 @@ fn put_in_order(alloc: Global, run: &mut Run, sorting: Sorting) -> Result<Next, 
     requires rows { length sorting.nodes.items ≤ length sorting.rows.items }
     ensures { IfOk result (λ next. (ask : question.Question NodeRef → question.Answer NodeRef) → StepsFrom ask (Frame.Sorting sorting) run.old run.new next) }
 {
+    let (criteria, rows, to) = parts(sorting);
+    let Ok(nodes) = nodes_in_order(alloc, criteria.as_slice(), rows) else {
+        drop(to);
+        return Err(Memory);
+    };
+    push(run, ordered(to, nodes))?;
+    Ok(Next::Went)
+}
+
+/// How the keys compare, the nodes with their keys, and what they are sorted for. The rest goes away.
+fn parts(sorting: Sorting) -> (Vec<Criterion>, Vec<Row>, Ordered)
+    ensures criteria { result.0 ≡ sorting.criteria }
+    ensures rows { result.1 ≡ sorting.rows }
+    ensures to { result.2 ≡ sorting.to }
+{
     let Sorting {
         criteria,
         rows,
         to,
         ..
     } = sorting;
-    let nodes = nodes_in_order(alloc, criteria.as_slice(), rows)?;
-    push(run, ordered(to, nodes))?;
-    Ok(Next::Went)
+    (criteria, rows, to)
 }
 
 /// What is left of what nodes were sorted for, with these in their order. Takes no memory.
