@@ -9,13 +9,13 @@ ghost use Rattle.spec_run.specs.Plan.{Put};
 ghost use Rattle.spec_run.specs.Going.{put};
 ghost use Rattle.spec_run.specs.Content.{asked, attribute_aliased, attributes_put};
 ghost use Rattle.xp_syntax.specs.SheetView.{alias_of};
-ghost use Rattle.xp_syntax.specs.PartView.{site_of, avt_of, literal_attribute_of, literal_tag_of, with_content_of};
+ghost use Rattle.xp_syntax.specs.PartView.{site_of, avt_of, literal_attribute_of, literal_tag_of};
 ghost use Rattle.xp_syntax.specs.InstrView.{instr_of};
 ghost use Rattle.xt_tree.specs.StreamView.{single_of, stream_of};
 ghost use Rattle.xt_going.specs.View.{going_of};
 ghost use Rattle.xt_frames.specs.declared.frame.Frame.TheVariants as Frame;
 ghost use Rattle.xt_frames.specs.View.{here_of, inside, attributes_left, left_frame};
-ghost use Rattle.xt_frames.specs.Left.{left_in, Performs, StepsFrom, IsStill};
+ghost use Rattle.xt_frames.specs.Left.{left_in, Performs, StepsFrom};
 
 use crate::aliases::{aliased_prefix, aliased_uri, for_attribute};
 use crate::literal::written_name;
@@ -26,6 +26,7 @@ use xt_ask::World;
 use xt_frames::{
     Attributes, Came, Frame, Next, Run, expansion, go_into, lack, push, share_content,
 };
+use xt_going::Going;
 use xt_text::{Memory, Text};
 use xt_tree::{Item, Items};
 
@@ -40,15 +41,19 @@ pub fn go_on_attributes<W: World>(
     ensures truth { (W.state world.new).truth ≡ (W.state world.old).truth }
     ensures name { W.name world.new ≡ W.name world.old }
 {
-    let content = share_content(&attributes.content)?;
+    let Ok(content) = share_content(&attributes.content) else {
+        drop(attributes);
+        return Err(Memory);
+    };
     let instrs = content.as_slice();
     if attributes.number >= instrs.len() {
+        drop(attributes);
         return Ok(Next::Went);
     }
     go_on_with(alloc, run, &instrs[attributes.number], attributes, world)
 }
 
-/// Goes on with this instruction.
+/// Goes on with this instruction, where it is a literal result element.
 fn go_on_with<W: World>(
     alloc: Global,
     run: &mut Run,
@@ -62,34 +67,14 @@ fn go_on_with<W: World>(
     ensures name { W.name world.new ≡ W.name world.old }
 {
     match &instr.form {
-        Form::WithContent(what, content) => {
-            go_on_tag(alloc, run, &instr.site, what, content, attributes, world)
-        }
+        Form::WithContent(what, content) => match what {
+            WithContent::Literal(tag) => {
+                next_attribute(alloc, run, &instr.site, tag, content, attributes, world)
+            }
+            _ => Ok(Next::Went),
+        },
         Form::WithoutContent(_) => Ok(Next::Went),
         Form::Control(_) => Ok(Next::Went),
-    }
-}
-
-/// Goes on with an instruction that has a content, where it is a literal result element.
-fn go_on_tag<W: World>(
-    alloc: Global,
-    run: &mut Run,
-    site: &Site,
-    what: &WithContent,
-    content: &Rc<Vec<Instr>>,
-    attributes: Attributes,
-    world: &mut W,
-) -> Result<Next, Memory>
-    requires { slice_get (map instr_of attributes.content.value.items) attributes.number ≡ Some (record { site = site_of site.now; form = made.with_content (with_content_of what.now) (instrs (map instr_of content.now.value.items)) }) }
-    ensures does { IfOk result (Performs (W.state world.old).truth (Frame.Attributes attributes) (attributes_left (here_of attributes.here) attributes.next (site_of site.now) (made.with_content (with_content_of what.now) (instrs (map instr_of content.now.value.items))) (left_in run.old)) run.old run.new) }
-    ensures truth { (W.state world.new).truth ≡ (W.state world.old).truth }
-    ensures name { W.name world.new ≡ W.name world.old }
-{
-    match what {
-        WithContent::Literal(tag) => {
-            next_attribute(alloc, run, site, tag, content, attributes, world)
-        }
-        _ => Ok(Next::Went),
     }
 }
 
@@ -110,7 +95,10 @@ fn next_attribute<W: World>(
 {
     let list = tag.attributes.as_slice();
     if attributes.next >= list.len() {
-        let inner = share_content(content)?;
+        let Ok(inner) = share_content(content) else {
+            drop(attributes);
+            return Err(Memory);
+        };
         return go_into(alloc, run, &site.place, inner, attributes.here);
     }
     put_attribute(alloc, run, site, &list[attributes.next], attributes, world)
@@ -130,14 +118,21 @@ fn put_attribute<W: World>(
     ensures truth { (W.state world.new).truth ≡ (W.state world.old).truth }
     ensures name { W.name world.new ≡ W.name world.old }
 {
-    match expansion(alloc, run, &attribute.value, site, &attributes.here, world)? {
+    let Ok(came) = expansion(alloc, run, &attribute.value, site, &attributes.here, world) else {
+        drop(attributes);
+        return Err(Memory);
+    };
+    match came {
         Came::Is(text) => {
             let aliases = attributes.here.unit.aliases.as_slice();
-            put_item(alloc, run, attribute, aliases, text)?;
+            put_item(alloc, &mut run.going, attribute, aliases, text)?;
             push(run, Frame::Attributes(advanced(attributes)))?;
             Ok(Next::Went)
         }
-        Came::Halts(why) => Ok(Next::Halt(why)),
+        Came::Halts(why) => {
+            drop(attributes);
+            Ok(Next::Halt(why))
+        }
         Came::Lacks(name) => {
             let depth = attributes.here.depth;
             lack(
@@ -168,16 +163,15 @@ fn advanced(attributes: Attributes) -> Attributes
 /// Puts an attribute with this value.
 fn put_item(
     alloc: Global,
-    run: &mut Run,
+    going: &mut Going,
     attribute: &LiteralAttribute,
     aliases: &[Alias],
     text: Text,
 ) -> Result<(), Memory>
-    ensures going { OnOk result (going_of run.new.going ≡ put (attribute_aliased (map alias_of aliases.now) (literal_attribute_of attribute.now) text) (going_of run.old.going)) }
-    ensures still { IsStill run.old run.new }
+    ensures { OnOk result (going_of going.new ≡ put (attribute_aliased (map alias_of aliases.now) (literal_attribute_of attribute.now) text) (going_of going.old)) }
 {
     let item = item_of(alloc, attribute, aliases, text)?;
-    run.going.put(item)
+    going.put(item)
 }
 
 /// The attribute with this value in the result.

@@ -1,25 +1,21 @@
 // xsl:choose (XSLT 1.0, section 9.2).
-ghost use Rattle.std.specs.Prelude.{◌≡◌, map, drop, length, IfOk, OnOk, if◌then◌else◌};
+ghost use Rattle.std.specs.Prelude.{◌≡◌, map, drop, length, IfOk, if◌then◌else◌};
 ghost use Rattle.spec_stylesheet.specs.Instruction as made;
 ghost use Rattle.spec_meaning.specs.Question as question;
 ghost use Rattle.spec_run.specs.Plan.{Plan};
 ghost use Rattle.spec_run.specs.Content.{planned_branches};
-ghost use Rattle.xp_syntax.specs.PartView.{place_of};
 ghost use Rattle.xp_syntax.specs.InstrView.{branch_of};
 ghost use Rattle.xt_tree.specs.declared.node_ref.NodeRef.{NodeRef};
 ghost use Rattle.xt_ask.specs.Runs.{itself};
 ghost use Rattle.xt_going.specs.View.{going_of};
-ghost use Rattle.xt_frames.specs.declared.frame.Frame.TheVariants as Frame;
 ghost use Rattle.xt_frames.specs.View.{here_of, inside};
-ghost use Rattle.xt_frames.specs.Left.{left_in, Does, Steps, Found, IsStill, Pushed, HasNeeds, hand};
+ghost use Rattle.xt_frames.specs.Left.{left_in, Does, Steps, Found, IsStill, hand};
 
 use std::alloc::Global;
 use std::rc::Rc;
 use xp_syntax::Branch;
-use xt_ask::{World, copy_place};
-use xt_base::Place;
+use xt_ask::World;
 use xt_frames::{Branches, Came, Frame, Next, Run, Standing, go_into, lack, share_content, truth};
-use xt_names::Expanded;
 use xt_text::Memory;
 
 /// Goes into the first branch from this one on whose test is true or that has none, and writes nothing where
@@ -43,24 +39,37 @@ pub fn choose_from<W: World>(
     let mut next = first;
     while next < list.len() {
         let branch = &list[next];
-        match is_taken(alloc, run, branch, &here, world)? {
+        let Ok(came) = is_taken(alloc, run, branch, &here, world) else {
+            drop(here);
+            return Err(Memory);
+        };
+        match came {
             Came::Is(yes) => {
                 if yes {
                     return go_into_branch(alloc, run, branch, here);
                 }
                 next += 1;
             }
-            Came::Halts(why) => return Ok(Next::Halt(why)),
+            Came::Halts(why) => {
+                drop(here);
+                return Ok(Next::Halt(why));
+            }
             Came::Lacks(name) => {
-                let left = Branches {
-                    branches: share_branches(&shared)?,
+                let Ok(branches) = share_branches(&shared) else {
+                    drop(here);
+                    return Err(Memory);
+                };
+                let depth = here.depth;
+                let left = Frame::Branches(Branches {
+                    branches,
                     next,
                     here,
-                };
-                return leave(alloc, run, left, &branch.site.place, name);
+                });
+                return lack(alloc, run, left, name, depth, &branch.site.place);
             }
         }
     }
+    drop(here);
     Ok(Next::Went)
 }
 
@@ -99,21 +108,9 @@ fn go_into_branch(
 ) -> Result<Next, Memory>
     ensures { IfOk result (λ next. (ask : question.Question NodeRef → question.Answer NodeRef) → let b = branch_of branch.now in Does ask (inside b.site.place b.content (here_of here) (left_in run.old)) (length run.old.frames.items) run.old run.new next) }
 {
-    let inner = share_content(&branch.content)?;
+    let Ok(inner) = share_content(&branch.content) else {
+        drop(here);
+        return Err(Memory);
+    };
     go_into(alloc, run, &branch.site.place, inner, here)
-}
-
-/// Leaves these branches, where the test of the first of them lacks a global.
-fn leave(
-    alloc: Global,
-    run: &mut Run,
-    left: Branches,
-    place: &Place,
-    name: Expanded,
-) -> Result<Next, Memory>
-    ensures needs { IfOk result (HasNeeds name left.here.depth (place_of place.now)) }
-    ensures pushed { OnOk result (Pushed (Frame.Branches left) run.old run.new) }
-{
-    let depth = left.here.depth;
-    lack(alloc, run, Frame::Branches(left), name, depth, place)
 }

@@ -77,9 +77,21 @@ pub fn call_of_choice(
 ) -> Result<Call, Memory>
     ensures { IfOk result (λ c. call_of c ≡ record { target = contents.target_by mode.now (option_map chosen_of chosen.now); node = focus.node; parameters = bindings_of parameters; position = focus.position; size = focus.size; ruling = contents.ruling_by mode.now (option_map chosen_of chosen.now); by = place_of by.now }) }
 {
-    let by = copy_place(alloc, by)?;
-    let target = target_of_rule(alloc, mode, chosen)?;
-    let ruling = ruling_of_rule(alloc, mode, chosen)?;
+    let Ok(by) = copy_place(alloc, by) else {
+        drop(parameters);
+        return Err(Memory);
+    };
+    let Ok(target) = target_of_rule(alloc, mode, chosen) else {
+        drop(by);
+        drop(parameters);
+        return Err(Memory);
+    };
+    let Ok(ruling) = ruling_of_rule(alloc, mode, chosen) else {
+        drop(target);
+        drop(by);
+        drop(parameters);
+        return Err(Memory);
+    };
     Ok(Call {
         target,
         node: focus.node,
@@ -105,8 +117,15 @@ pub(crate) fn apply_imports<W: World>(
     ensures truth { (W.state world.new).truth ≡ (W.state world.old).truth }
     ensures name { W.name world.new ≡ W.name world.old }
 {
-    match current_rule(alloc, run, site, &body.here)? {
-        None => refuse(alloc, site),
+    let Ok(current) = current_rule(alloc, run, site, &body.here) else {
+        drop(body);
+        return Err(Memory);
+    };
+    match current {
+        None => {
+            drop(body);
+            refuse(alloc, site)
+        }
         Some(rule) => apply_imported(alloc, run, site, rule, body, world),
     }
 }
@@ -158,7 +177,10 @@ fn apply_imported<W: World>(
 {
     let focus = body.here.focus;
     let depth = body.here.depth;
-    let call = imported(alloc, &mut run.going, site, rule, focus, world)?;
+    let Ok(call) = imported(alloc, &mut run.going, site, rule, focus, world) else {
+        drop(body);
+        return Err(Memory);
+    };
     want(run, Frame::Body(advanced(body)), call, depth)
 }
 

@@ -42,9 +42,19 @@ pub(crate) fn variable<W: World>(
     ensures truth { (W.state world.new).truth ≡ (W.state world.old).truth }
     ensures name { W.name world.new ≡ W.name world.old }
 {
-    let name = copy_name(alloc, name)?;
-    let shared = share_body(&body)?;
-    let here = body.here.share()?;
+    let Ok(name) = copy_name(alloc, name) else {
+        drop(body);
+        return Err(Memory);
+    };
+    let Ok(shared) = share_body(&body) else {
+        drop(body);
+        return Err(Memory);
+    };
+    let Ok(here) = body.here.share() else {
+        drop(shared);
+        drop(body);
+        return Err(Memory);
+    };
     let holder = Holder::Variable(name, advanced(shared));
     let back = Frame::Body(body);
     hold(

@@ -28,7 +28,7 @@ returns-then-attributes-list-clause-does g c =
     let e = ap length c.as_slice-list.ensures.value in
     let P : Plan NodeRef → Type 0 = λ p. IfOk c.go_into.result (λ next. Performs truth (frames.Attributes a) p old c.go_into.new.run next) in
     subst P (sym (attribute_none c.args.tag.now.attributes.items a.next s (here_of a.here) after (omega (arith, e))))
-    (if_ok c.go_into.result c.go_into.ensures (λ next h. does_more truth _ (frames.Attributes a) old c.go_into.new.run next (rw c.in_ok-inner.ensures at h truth)))
+    (if_ok c.go_into.result c.go_into.ensures (λ next h. does_more truth _ (frames.Attributes a) old c.go_into.new.run next (rw c.in-Ok.ensures at h truth)))
 
 pub returns-clause-does : goal.returns-clause-does
 returns-clause-does g c =

@@ -29,7 +29,7 @@ loop-next-preserved g c =
     let n = ap length list in
     let lt : i < length bs = omega arith in
     let is_x : x ≡ get_or bs i x = rw list at c.index-list-next.is in
-    let found = found_for truth x (branches (map branch_of (drop (i + 1) bs))) first now new h h _ inv.truth refl c.in_ok-yes.ensures.found in
+    let found = found_for truth x (branches (map branch_of (drop (i + 1) bs))) first now new h h _ inv.truth refl c.in-Ok.ensures.found in
     let still = c.is_taken.ensures.still in
     record {
       looked = looked_more truth bs b.next i h first now new x inv.looked lt is_x (rw (c.in-Is.is, c.if-yes.false) at found) still;
@@ -53,7 +53,7 @@ returns-then-yes-clause-does g c =
     let n = ap length list in
     let lt : i < length bs = omega arith in
     let is_x : x ≡ get_or bs i x = rw list at c.index-list-next.is in
-    let found = found_for truth x (branches (map branch_of (drop (i + 1) bs))) first now new h h _ inv.truth refl c.in_ok-yes.ensures.found in
+    let found = found_for truth x (branches (map branch_of (drop (i + 1) bs))) first now new h h _ inv.truth refl c.in-Ok.ensures.found in
     let still = c.is_taken.ensures.still in
     if_ok c.go_into_branch.result c.go_into_branch.ensures (λ next d.
     looked_into truth bs b.next i h first now new c.go_into_branch.new.run x next inv.looked lt is_x (rw (c.in-Is.is, c.if-yes.true) at found) still (d truth))
@@ -74,7 +74,7 @@ returns-in-Halts-clause-does g c =
     let n = ap length list in
     let lt : i < length bs = omega arith in
     let is_x : x ≡ get_or bs i x = rw list at c.index-list-next.is in
-    let found = found_for truth x (branches (map branch_of (drop (i + 1) bs))) first now new h h _ inv.truth refl c.in_ok-yes.ensures.found in
+    let found = found_for truth x (branches (map branch_of (drop (i + 1) bs))) first now new h h _ inv.truth refl c.in-Ok.ensures.found in
     let still = c.is_taken.ensures.still in
     looked_halts truth bs b.next i h first now new x c.in-Halts.why inv.looked lt is_x (rw c.in-Halts.is at found) still
 
@@ -94,12 +94,12 @@ returns-in-Lacks-clause-does g c =
     let n = ap length list in
     let lt : i < length bs = omega arith in
     let is_x : x ≡ get_or bs i x = rw list at c.index-list-next.is in
-    let found = found_for truth x (branches (map branch_of (drop (i + 1) bs))) first now new h h _ inv.truth refl c.in_ok-yes.ensures.found in
+    let found = found_for truth x (branches (map branch_of (drop (i + 1) bs))) first now new h h _ inv.truth refl c.in-Ok.ensures.found in
     let still = c.is_taken.ensures.still in
-    let shared = c.in_ok-share_branches-in-Lacks.field-0 in
-    let same : branches_from shared.value.items i h (left_in new) ≡ branches_from bs i h (left_in new) = ap (λ (v : Vec Branch Global). branches_from v.items i h (left_in new)) c.in_ok-share_branches-in-Lacks.ensures in
-    if_both c.leave.result c.leave.ensures.needs c.leave.ensures.pushed (λ next e back.
-    looked_lacks truth bs b.next i h first now new c.leave.new.run x (frames.Branches (record { branches = shared; next = i; here = b.here })) c.in-Lacks.name next inv.looked lt is_x (rw c.in-Lacks.is at found) still (needs_at (place_in x) e) back same)
+    let shared = c.in-Ok-share_branches.branches in
+    let same : branches_from shared.value.items i h (left_in new) ≡ branches_from bs i h (left_in new) = ap (λ (v : Vec Branch Global). branches_from v.items i h (left_in new)) c.in-Ok-share_branches.ensures in
+    if_both c.lack.result c.lack.ensures.needs c.lack.ensures.pushed (λ next e back.
+    looked_lacks truth bs b.next i h first now new c.lack.new.run x (frames.Branches (record { branches = shared; next = i; here = b.here })) c.in-Lacks.name next inv.looked lt is_x (rw c.in-Lacks.is at found) still (needs_at (place_in x) e) back same)
 
 pub returns-clause-does : goal.returns-clause-does
 returns-clause-does g c =

@@ -11,4 +11,4 @@ returns c =
     let r = c.args.run.now in
     if_ok c.go_into.result c.go_into.ensures (λ next h ask.
     let P : tree.Branch → Type 0 = λ x. Does ask (inside x.site.place x.content (here_of c.args.here) (left_in r)) (length r.frames.items) r c.go_into.new.run next in
-    subst P (sym (view-Branch c.args.branch.now)) (rw c.in_ok-inner.ensures at h ask))
+    subst P (sym (view-Branch c.args.branch.now)) (rw c.in-Ok.ensures at h ask))

@@ -20,5 +20,5 @@ returns-clause-does g c =
     let mid : Run = record { room = r.room; supplies = r.supplies; waiting = r.waiting; frames = r.frames; going = c.imported.new.going } in
     let entered : Answer NodeRef → Plan NodeRef = λ a. Enter (imported_call (site_of c.args.site.now) (here_of b.here) rule.mode a) b.here.depth (after_body b (left_in r)) in
     if_ok c.want.result c.want.ensures (λ next h.
-    inquired truth (Choice b.here.focus.node rule.mode (Imported rule.first rule.last)) entered _ r mid c.want.new.run next c.in_ok-call.ensures.going refl refl
-    (rw (c.in_ok-call.ensures.call, c.advanced.ensures) at h truth))
+    inquired truth (Choice b.here.focus.node rule.mode (Imported rule.first rule.last)) entered _ r mid c.want.new.run next c.in-Ok.ensures.going refl refl
+    (rw (c.in-Ok.ensures.call, c.advanced.ensures) at h truth))

@@ -17,7 +17,7 @@ returns-in-None-clause-does g c =
     let b = c.args.body in
     let s = site_of c.args.site.now in
     let h = here_of b.here in
-    let passes = rw c.in-None.is at c.in_ok-current_rule.ensures.passes truth (after_body b (left_in old)) in
+    let passes = rw c.in-None.is at c.in-Ok.ensures.passes truth (after_body b (left_in old)) in
     if_ok c.refuse.result c.refuse.ensures (λ next does.
     once_known truth (λ after. planned_without s h ApplyImports after) (λ after. imports_applied s h None after) b old mid mid next passes c.current_rule.ensures.still (does truth h (after_body b (left_in mid)) _ mid))
 
@@ -29,6 +29,6 @@ returns-in-Some-clause-does g c =
     let b = c.args.body in
     let s = site_of c.args.site.now in
     let h = here_of b.here in
-    let passes = rw c.in-Some.is at c.in_ok-current_rule.ensures.passes truth (after_body b (left_in old)) in
+    let passes = rw c.in-Some.is at c.in-Ok.ensures.passes truth (after_body b (left_in old)) in
     if_ok c.apply_imported.result c.apply_imported.ensures.does (λ next does.
     once_known truth (λ after. planned_without s h ApplyImports after) (λ after. imports_applied s h (Some (current_of c.in-Some.rule)) after) b old mid c.apply_imported.new.run next passes c.current_rule.ensures.still does)

@@ -3,11 +3,11 @@ use Rattle.xt_perform.proofs.imports.call_of_choice.Goals as goal
 
 pub returns : goal.returns
 returns c = λ i. record {
-  target = c.in_ok-target.ensures i;
+  target = c.in-Ok-target_of_rule.ensures i;
   node = c.args.focus.node;
   parameters = bindings_of c.args.parameters;
   position = c.args.focus.position;
   size = c.args.focus.size;
-  ruling = c.in_ok-ruling.ensures i;
-  by = c.in_ok-by.ensures i;
+  ruling = c.in-Ok-ruling_of_rule.ensures i;
+  by = c.in-Ok.ensures i;
 }

@@ -12,13 +12,13 @@ pub returns-clause-does : goal.returns-clause-does
 returns-clause-does g c =
     let truth = (g.W.World.state c.args.world.now).truth in
     let is = instrs (map instr_of c.args.content.now.value.items) in
-    let shared = c.in_ok-shared.shared in
-    let e : IsRest c.args.body c.advanced.result shared c.in_ok-name.name c.args.name.now = record {
+    let shared = c.in-Ok-share_body.shared in
+    let e : IsRest c.args.body c.advanced.result shared c.in-Ok.name c.args.name.now = record {
       is_rest = c.advanced.ensures;
-      same_content = c.in_ok-shared.ensures.content;
-      same_next = c.in_ok-shared.ensures.next;
-      same_here = c.in_ok-shared.ensures.here;
-      same_name = c.in_ok-name.ensures;
+      same_content = c.in-Ok-share_body.ensures.content;
+      same_next = c.in-Ok-share_body.ensures.next;
+      same_here = c.in-Ok-share_body.ensures.here;
+      same_name = c.in-Ok.ensures;
     } in
     if_ok c.hold.result c.hold.ensures.does (λ next h.
-    rest_sees truth (site_of c.args.site.now) (option_map expr_of c.args.select.now) is c.args.body c.advanced.result shared c.in_ok-here.here c.in_ok-name.name c.args.name.now c.args.run.now c.hold.new.run next c.in_ok-here.ensures.here e h)
+    rest_sees truth (site_of c.args.site.now) (option_map expr_of c.args.select.now) is c.args.body c.advanced.result shared c.in-Ok-share.here c.in-Ok.name c.args.name.now c.args.run.now c.hold.new.run next c.in-Ok-share.ensures.here e h)
