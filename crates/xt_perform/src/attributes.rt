@@ -184,14 +184,14 @@ fn item_of(
     ensures item { IfOk result (λ i. single_of i ≡ attribute_aliased (map alias_of aliases.now) (literal_attribute_of attribute.now) text) }
     ensures whole { IfOk result (λ i. holes (single_of i) ≡ 0) }
 {
+    let mut content = Items::new(alloc);
+    content.push(Item::Text(text))?;
+    let shared = Rc::new(alloc, content)?;
     let own = attribute.name.uri();
     let aliases = for_attribute(aliases, own);
     let prefix = aliased_prefix(aliases, &attribute.prefix, own);
     let name = written_name(alloc, prefix, attribute.name.local())?;
     let uri = aliased_uri(aliases, own).copy(alloc)?;
-    let mut content = Items::new(alloc);
-    content.push(Item::Text(text))?;
-    let shared = Rc::new(alloc, content)?;
     Ok(attribute_with(name, uri, shared))
 }
 

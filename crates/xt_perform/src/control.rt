@@ -19,7 +19,7 @@ ghost use Rattle.xt_frames.specs.View.{here_of, inside, inside_at, after_body, p
 ghost use Rattle.xt_frames.specs.Left.{left_in, Does, Performs};
 
 use crate::choose::{choose_from, share_branches};
-use crate::simple::{advanced, into_content, nothing};
+use crate::simple::{into_content, nothing, put_rest};
 use crate::sorting::unsorted;
 use crate::variables::pass;
 use std::alloc::Global;
@@ -78,9 +78,16 @@ fn for_each<W: World>(
     ensures truth { (W.state world.new).truth ≡ (W.state world.old).truth }
     ensures name { W.name world.new ≡ W.name world.old }
 {
-    match nodes(alloc, run, select, site, &body.here, world)? {
+    let Ok(came) = nodes(alloc, run, select, site, &body.here, world) else {
+        drop(body);
+        return Err(Memory);
+    };
+    match came {
         Came::Is(nodes) => for_nodes(alloc, run, site, keys, content, nodes, body),
-        Came::Halts(why) => Ok(Next::Halt(why)),
+        Came::Halts(why) => {
+            drop(body);
+            Ok(Next::Halt(why))
+        }
         Came::Lacks(name) => {
             let depth = body.here.depth;
             lack(alloc, run, Frame::Body(body), name, depth, &site.place)
@@ -101,8 +108,7 @@ fn for_nodes(
     requires { body.next < usize.MAX }
     ensures { IfOk result (λ next. (ask : question.Question NodeRef → question.Answer NodeRef) → Does ask (Put Ended (contents.sorted (map sort_key_of keys.now.value.items) (here_of body.here) nodes.items (λ ns. each (inside_at (site_of site.now).place (instrs (map instr_of content.now.value.items)) (length ns) (here_of body.here)) 1 ns (after_body body (left_in run.old))))) (suc (length run.old.frames.items)) run.old run.new next) }
 {
-    let here = body.here.share()?;
-    push(run, Frame::Body(advanced(body)))?;
+    let here = put_rest(run, body)?;
     loop_over(alloc, run, site, keys, content, nodes, here)
 }
 
@@ -123,9 +129,18 @@ fn loop_over(
         push(run, Frame::Loop(left))?;
         return Ok(Next::Went);
     }
-    let keys = share_keys(keys)?;
-    let inner = here.share()?;
-    let left = loop_of(alloc, site, content, Vec::new(alloc), inner)?;
+    let Ok(keys) = share_keys(keys) else {
+        drop(here);
+        return Err(Memory);
+    };
+    let Ok(inner) = here.share() else {
+        drop(here);
+        return Err(Memory);
+    };
+    let Ok(left) = loop_of(alloc, site, content, Vec::new(alloc), inner) else {
+        drop(here);
+        return Err(Memory);
+    };
     let sorting = unsorted(alloc, keys, here, nodes, Ordered::Loop(left));
     push(run, Frame::Sorting(sorting))?;
     Ok(Next::Went)
@@ -145,8 +160,14 @@ fn loop_of(
     ensures next { IfOk result (λ l. l.next ≡ 0) }
     ensures here { IfOk result (λ l. l.here ≡ here) }
 {
-    let content = share_content(content)?;
-    let place = copy_place(alloc, &site.place)?;
+    let Ok(content) = share_content(content) else {
+        drop(here);
+        return Err(Memory);
+    };
+    let Ok(place) = copy_place(alloc, &site.place) else {
+        drop(here);
+        return Err(Memory);
+    };
     Ok(Loop {
         place,
         content,
@@ -171,32 +192,26 @@ fn when<W: World>(
     ensures truth { (W.state world.new).truth ≡ (W.state world.old).truth }
     ensures name { W.name world.new ≡ W.name world.old }
 {
-    match truth(alloc, run, test, site, &body.here, world)? {
-        Came::Is(is_true) => go_into_if(alloc, run, site, is_true, content, body),
-        Came::Halts(why) => Ok(Next::Halt(why)),
+    let Ok(came) = truth(alloc, run, test, site, &body.here, world) else {
+        drop(body);
+        return Err(Memory);
+    };
+    match came {
+        Came::Is(is_true) => {
+            if is_true {
+                into_content(alloc, run, site, content, body)
+            } else {
+                nothing(run, body)
+            }
+        }
+        Came::Halts(why) => {
+            drop(body);
+            Ok(Next::Halt(why))
+        }
         Came::Lacks(name) => {
             let depth = body.here.depth;
             lack(alloc, run, Frame::Body(body), name, depth, &site.place)
         }
-    }
-}
-
-/// Goes into the content where this is so.
-fn go_into_if(
-    alloc: Global,
-    run: &mut Run,
-    site: &Site,
-    is_so: bool,
-    content: &Rc<Vec<Instr>>,
-    body: Body,
-) -> Result<Next, Memory>
-    requires { body.next < usize.MAX }
-    ensures { IfOk result (λ next. (ask : question.Question NodeRef → question.Answer NodeRef) → Does ask (if is_so then inside (site_of site.now).place (instrs (map instr_of content.now.value.items)) (here_of body.here) (after_body body (left_in run.old)) else Put Ended (after_body body (left_in run.old))) (suc (length run.old.frames.items)) run.old run.new next) }
-{
-    if is_so {
-        into_content(alloc, run, site, content, body)
-    } else {
-        nothing(run, body)
     }
 }
 
@@ -213,12 +228,12 @@ fn choose<W: World>(
     ensures truth { (W.state world.new).truth ≡ (W.state world.old).truth }
     ensures name { W.name world.new ≡ W.name world.old }
 {
+    let here = put_rest(run, body)?;
     let left = Branches {
         branches: share_branches(branches)?,
         next: 0,
-        here: body.here.share()?,
+        here,
     };
-    push(run, Frame::Body(advanced(body)))?;
     choose_from(alloc, run, left, world)
 }
 
@@ -237,9 +252,16 @@ fn apply<W: World>(
     ensures truth { (W.state world.new).truth ≡ (W.state world.old).truth }
     ensures name { W.name world.new ≡ W.name world.old }
 {
-    match nodes(alloc, run, &selection.select, site, &body.here, world)? {
+    let Ok(came) = nodes(alloc, run, &selection.select, site, &body.here, world) else {
+        drop(body);
+        return Err(Memory);
+    };
+    match came {
         Came::Is(nodes) => { apply_to(alloc, run, site, selection, bindings, nodes, body) }
-        Came::Halts(why) => Ok(Next::Halt(why)),
+        Came::Halts(why) => {
+            drop(body);
+            Ok(Next::Halt(why))
+        }
         Came::Lacks(name) => {
             let depth = body.here.depth;
             lack(alloc, run, Frame::Body(body), name, depth, &site.place)
@@ -260,9 +282,8 @@ fn apply_to(
     requires { body.next < usize.MAX }
     ensures { IfOk result (λ next. (ask : question.Question NodeRef → question.Answer NodeRef) → let h = here_of body.here in Does ask (Put Ended (contents.passed (made.bindings (map binding_of bindings.now.value.items)) h [] (λ parameters. contents.sorted (map sort_key_of selection.now.keys.value.items) h nodes.items (λ ns. contents.applied_to (site_of site.now).place selection.now.mode parameters h.depth ns (after_body body (left_in run.old)))))) (suc (length run.old.frames.items)) run.old run.new next) }
 {
+    let here = put_rest(run, body)?;
     let bindings = share_bindings(bindings)?;
-    let here = body.here.share()?;
-    push(run, Frame::Body(advanced(body)))?;
     let to = to_rules(alloc, site, selection, nodes, &here)?;
     pass(run, bindings, here, to)
 }
@@ -283,7 +304,10 @@ fn to_rules(
     }
     let keys = share_keys(&selection.keys)?;
     let standing = here.share()?;
-    let to = application(alloc, site, selection, nodes, here.depth)?;
+    let Ok(to) = application(alloc, site, selection, nodes, here.depth) else {
+        drop(standing);
+        return Err(Memory);
+    };
     Ok(Passing::Sorted(keys, standing, to))
 }
 
@@ -355,9 +379,8 @@ fn call_element(
     requires { body.next < usize.MAX }
     ensures { IfOk result (λ next. (ask : question.Question NodeRef → question.Answer NodeRef) → Does ask (contents.called (site_of site.now) (here_of body.here) (λ k. contents.passed (made.bindings (map binding_of bindings.now.value.items)) (here_of body.here) [] k) (Some element) (after_body body (left_in run.old))) (suc (length run.old.frames.items)) run.old run.new next) }
 {
+    let here = put_rest(run, body)?;
     let bindings = share_bindings(bindings)?;
-    let here = body.here.share()?;
-    push(run, Frame::Body(advanced(body)))?;
     let by = copy_place(alloc, &site.place)?;
     let focus = here.focus;
     let depth = here.depth;

@@ -145,9 +145,8 @@ fn current_rule(
     }
     let place = copy_place(alloc, &site.place)?;
     let seen = copy_rule_if(alloc, &run.supplies.rule)?;
-    let rule = copy_rule_if(alloc, &run.supplies.rule)?;
     run.going.note(Event::Saw(Wanted::Rule, here.depth, place, Given::Ruled(seen)))?;
-    Ok(rule)
+    copy_rule_if(alloc, &run.supplies.rule)
 }
 
 /// The refusal of the element at this site, where no rule is the current one.

@@ -216,7 +216,12 @@ fn ask_row<W: World>(
     let node = sorting.nodes[number];
     let size = sorting.nodes.len() as u64;
     let here = sorting.here.at(node, number as u64 + 1, size)?;
-    match ask_keys(alloc, run, sorting, &here, world)? {
+    let Ok(came) = ask_keys(alloc, run, sorting, &here, world) else {
+        drop(here);
+        return Err(Memory);
+    };
+    drop(here);
+    match came {
         Came::Is(()) => {
             add_row(alloc, sorting)?;
             Ok(Came::Is(()))

@@ -23,7 +23,7 @@ returns-in-Is-clause-does g c =
     let bs = bindings (map binding_of c.args.bindings.now.value.items) in
     let keys = map sort_key_of c.args.selection.now.keys.value.items in
     let k : List NodeRef → Plan NodeRef = λ ns. Put Ended (passed bs (here_of b.here) [] (λ parameters. sorted keys (here_of b.here) ns (λ ms. applied_to s.place c.args.selection.now.mode parameters b.here.depth ms (after_body b (left_in old))))) in
-    let found = rw c.in-Is.is at c.in_ok-nodes.ensures.found k in
+    let found = rw c.in-Is.is at c.in-Ok.ensures.found k in
     if_ok c.apply_to.result c.apply_to.ensures (λ next h.
     perform_is truth _ (λ l. Put Ended (passed bs (here_of b.here) [] (λ parameters. sorted keys (here_of b.here) c.in-Is.nodes.items (λ ms. applied_to s.place c.args.selection.now.mode parameters b.here.depth ms (after_body b l))))) (frames.Body b) old c.nodes.new.run c.apply_to.new.run next found.so c.nodes.ensures.still (h truth))
 
@@ -36,7 +36,7 @@ returns-in-Halts-clause-does g c =
     let bs = bindings (map binding_of c.args.bindings.now.value.items) in
     let keys = map sort_key_of c.args.selection.now.keys.value.items in
     let k : List NodeRef → Plan NodeRef = λ ns. Put Ended (passed bs (here_of b.here) [] (λ parameters. sorted keys (here_of b.here) ns (λ ms. applied_to s.place c.args.selection.now.mode parameters b.here.depth ms (after_body b (left_in old))))) in
-    let found = rw c.in-Halts.is at c.in_ok-nodes.ensures.found k in
+    let found = rw c.in-Halts.is at c.in-Ok.ensures.found k in
     perform_halts truth _ _ old c.nodes.new.run c.in-Halts.why found.so c.nodes.ensures.still
 
 pub returns-in-Lacks-clause-does : goal.returns-in-Lacks-clause-does
@@ -48,6 +48,6 @@ returns-in-Lacks-clause-does g c =
     let bs = bindings (map binding_of c.args.bindings.now.value.items) in
     let keys = map sort_key_of c.args.selection.now.keys.value.items in
     let k : List NodeRef → Plan NodeRef = λ ns. Put Ended (passed bs (here_of b.here) [] (λ parameters. sorted keys (here_of b.here) ns (λ ms. applied_to s.place c.args.selection.now.mode parameters b.here.depth ms (after_body b (left_in old))))) in
-    let found = rw c.in-Lacks.is at c.in_ok-nodes.ensures.found k in
+    let found = rw c.in-Lacks.is at c.in-Ok.ensures.found k in
     if_both c.lack.result c.lack.ensures.needs c.lack.ensures.pushed (λ next e back.
     perform_lacks truth _ (frames.Body b) old c.nodes.new.run c.lack.new.run c.in-Lacks.name b.here.depth (place_of c.args.site.now.place) next found.so c.nodes.ensures.still e back)

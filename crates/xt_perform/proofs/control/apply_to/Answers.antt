@@ -1,4 +1,4 @@
-use Rattle.std.proofs.Common.{◌≡◌, ℕ, List, [], Vec, Global, subst, length, suc, map}
+use Rattle.std.proofs.Common.{◌≡◌, ℕ, List, [], Vec, Global, subst, length, suc, map, refl}
 use Rattle.spec_stylesheet.specs.Instruction.{bindings}
 use Rattle.spec_meaning.specs.Context.{Bound}
 use Rattle.spec_meaning.specs.Stream.{Ended}
@@ -29,6 +29,6 @@ returns c =
     let f : F c.args.bindings.now.value (here_of b.here) (λ ps. sorted keys (here_of here) c.args.nodes.items (applied ps here.depth)) ≡ F c.args.bindings.now.value (here_of b.here) (λ ps. sorted keys (here_of b.here) c.args.nodes.items (applied ps b.here.depth)) =
     λ i. F c.args.bindings.now.value (here_of b.here) (λ ps. sorted keys (c.in_ok-here.ensures.here i) c.args.nodes.items (applied ps (c.in_ok-here.ensures.depth i))) in
     if_ok c.pass.result c.pass.ensures (λ next h ask.
-    let does = behind_body ask (λ q. F c.in_ok-bindings.bindings.value (here_of here) (λ ps. passed_to to ps q)) r c.push.new.run c.pass.new.run b c.advanced.result next c.advanced.ensures c.in_ok-push.ensures (h ask) in
+    let does = behind_body ask (λ q. F c.in_ok-bindings.bindings.value (here_of here) (λ ps. passed_to to ps q)) r c.put_rest.new.run c.pass.new.run b _ next refl c.in_ok-here.ensures.pushed (h ask) in
     let P : Plan NodeRef → Type 0 = λ p. Does ask p (suc (length r.frames.items)) r c.pass.new.run next in
     subst P f (subst P e does))

@@ -1,4 +1,4 @@
-use Rattle.std.proofs.Common.{◌≡◌, ℕ, [], None, Vec, Global, subst, suc, length, map, if◌then◌else◌}
+use Rattle.std.proofs.Common.{◌≡◌, ℕ, [], None, Vec, Global, subst, suc, length, map, if◌then◌else◌, refl}
 use Rattle.spec_stylesheet.specs.Place.{Place}
 use Rattle.spec_stylesheet.specs.Instruction.{bindings}
 use Rattle.spec_meaning.specs.Stream.{Ended}
@@ -25,7 +25,7 @@ returns c =
     let after = after_body b (left_in r) in
     let same = c.in_ok-here.ensures.here in
     let rules : Here NodeRef → Ruling = λ x. if x.ruled then SameRule else RuleIs None in
-    let whole = behind_body ask (F c.in_ok-bindings.bindings.value (here_of h) (rules (here_of h)) (place_of c.in_ok-by.by) h.depth) r c.push.new.run c.pass.new.run b c.advanced.result next c.advanced.ensures c.in_ok-push.ensures (rw c.ruling_at.ensures at does ask) in
+    let whole = behind_body ask (F c.in_ok-bindings.bindings.value (here_of h) (rules (here_of h)) (place_of c.in_ok-by.by) h.depth) r c.put_rest.new.run c.pass.new.run b _ next refl c.in_ok-here.ensures.pushed (rw c.ruling_at.ensures at does ask) in
     let e : F c.in_ok-bindings.bindings.value (here_of h) (rules (here_of h)) (place_of c.in_ok-by.by) h.depth after ≡ F c.args.bindings.now.value (here_of b.here) (rules (here_of b.here)) (place_of c.args.site.now.place) b.here.depth after =
     λ i. F (c.in_ok-bindings.ensures i) (same i) (rules (same i)) (c.in_ok-by.ensures i) (c.in_ok-here.ensures.depth i) after in
     let P : Plan NodeRef → Type 0 = λ p. Does ask p (suc (length r.frames.items)) r c.pass.new.run next in

@@ -1,4 +1,4 @@
-use Rattle.std.proofs.Common.{map, subst, suc, length}
+use Rattle.std.proofs.Common.{◌+◌, map, subst, suc, length}
 use Rattle.spec_stylesheet.specs.Instruction.{branches}
 use Rattle.spec_run.specs.Content.{Here, planned_branches}
 use Rattle.xp_syntax.specs.InstrView.{branch_of}
@@ -17,8 +17,8 @@ returns-clause-does g c =
     let old = c.args.run.now in
     let b = c.args.body in
     let bs = branches (map branch_of c.args.branches.now.value.items) in
+    let rest : Body = record { content = b.content; next = b.next + 1; here = b.here } in
     if_ok c.choose_from.result c.choose_from.ensures.does (λ next h.
-    let all = steps_after truth (planned_branches bs (here_of c.in_ok-share.field-0)) (frames.Body c.advanced.result) old c.push.new.run c.choose_from.new.run next c.in_ok-push.ensures (rw c.in_ok-share_branches.ensures at h) in
-    let P : Here NodeRef → Type 0 = λ x. Steps truth (planned_branches bs x (left_frame (frames.Body c.advanced.result) (left_in old))) (suc (length old.frames.items)) old c.choose_from.new.run next in
-    let Q : Body → Type 0 = λ r. Steps truth (planned_branches bs (here_of b.here) (left_frame (frames.Body r) (left_in old))) (suc (length old.frames.items)) old c.choose_from.new.run next in
-    steps_performs truth (frames.Body b) _ old c.choose_from.new.run next (subst Q c.advanced.ensures (subst P c.in_ok-share.ensures.here all)))
+    let all = steps_after truth (planned_branches bs (here_of c.in_ok-here.here)) (frames.Body rest) old c.put_rest.new.run c.choose_from.new.run next c.in_ok-here.ensures.pushed (rw c.in_ok-share_branches.ensures at h) in
+    let P : Here NodeRef → Type 0 = λ x. Steps truth (planned_branches bs x (left_frame (frames.Body rest) (left_in old))) (suc (length old.frames.items)) old c.choose_from.new.run next in
+    steps_performs truth (frames.Body b) _ old c.choose_from.new.run next (subst P c.in_ok-here.ensures.here all))

@@ -24,7 +24,7 @@ returns-in-Is-clause-does g c =
     let is = instrs (map instr_of c.args.content.now.value.items) in
     let keys = map sort_key_of c.args.keys.now.value.items in
     let k : List NodeRef → Plan NodeRef = λ ns. Put Ended (sorted keys (here_of b.here) ns (λ ms. each (inside_at s.place is (length ms) (here_of b.here)) 1 ms (after_body b (left_in old)))) in
-    let found = rw c.in-Is.is at c.in_ok-nodes.ensures.found k in
+    let found = rw c.in-Is.is at c.in-Ok.ensures.found k in
     let ns = c.in-Is.nodes.items in
     if_ok c.for_nodes.result c.for_nodes.ensures (λ next h.
     perform_is truth _ (λ l. Put Ended (sorted keys (here_of b.here) ns (λ ms. each (inside_at s.place is (length ms) (here_of b.here)) 1 ms (after_body b l)))) (frames.Body b) old c.nodes.new.run c.for_nodes.new.run next found.so c.nodes.ensures.still (h truth))
@@ -38,7 +38,7 @@ returns-in-Halts-clause-does g c =
     let is = instrs (map instr_of c.args.content.now.value.items) in
     let keys = map sort_key_of c.args.keys.now.value.items in
     let k : List NodeRef → Plan NodeRef = λ ns. Put Ended (sorted keys (here_of b.here) ns (λ ms. each (inside_at s.place is (length ms) (here_of b.here)) 1 ms (after_body b (left_in old)))) in
-    let found = rw c.in-Halts.is at c.in_ok-nodes.ensures.found k in
+    let found = rw c.in-Halts.is at c.in-Ok.ensures.found k in
     perform_halts truth _ _ old c.nodes.new.run c.in-Halts.why found.so c.nodes.ensures.still
 
 pub returns-in-Lacks-clause-does : goal.returns-in-Lacks-clause-does
@@ -50,6 +50,6 @@ returns-in-Lacks-clause-does g c =
     let is = instrs (map instr_of c.args.content.now.value.items) in
     let keys = map sort_key_of c.args.keys.now.value.items in
     let k : List NodeRef → Plan NodeRef = λ ns. Put Ended (sorted keys (here_of b.here) ns (λ ms. each (inside_at s.place is (length ms) (here_of b.here)) 1 ms (after_body b (left_in old)))) in
-    let found = rw c.in-Lacks.is at c.in_ok-nodes.ensures.found k in
+    let found = rw c.in-Lacks.is at c.in-Ok.ensures.found k in
     if_both c.lack.result c.lack.ensures.needs c.lack.ensures.pushed (λ next e back.
     perform_lacks truth _ (frames.Body b) old c.nodes.new.run c.lack.new.run c.in-Lacks.name b.here.depth (place_of c.args.site.now.place) next found.so c.nodes.ensures.still e back)

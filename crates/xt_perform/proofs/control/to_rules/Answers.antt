@@ -25,7 +25,7 @@ returns-then-is_empty c ps after =
 
 pub returns : goal.returns
 returns c ps after =
-    let is_to = c.in_ok-to-2.ensures in
+    let is_to = c.in-Ok.ensures in
     let F : Vec SortKey Global → Here NodeRef → Place → Option Expanded → Vec NodeRef Global → ℕ → Plan NodeRef =
     λ keys h p m ns d. sorted (map sort_key_of keys.items) h ns.items (λ ms. applied_to p m ps d ms after) in
     λ i. F (c.in_ok-keys.ensures i) (c.in_ok-standing.ensures.here i) (is_to.place i) (is_to.mode i) (is_to.nodes i) (is_to.depth i)

@@ -17,7 +17,7 @@ returns-in-Is-clause-does g c =
     let old = c.args.run.now in
     let b = c.args.body in
     let k : Value NodeRef → Plan NodeRef = λ v. value_copied v (after_body b (left_in old)) in
-    let found = rw c.in-Is.is at c.in_ok-value.ensures.found k in
+    let found = rw c.in-Is.is at c.in-Ok.ensures.found k in
     if_ok c.write_value.result c.write_value.ensures (λ next h.
     perform_is truth _ (λ l. value_copied (value_of c.in-Is.value) (after_body b l)) (frames.Body b) old c.value.new.run c.write_value.new.run next found.so c.value.ensures.still (h truth))
 
@@ -27,7 +27,7 @@ returns-in-Halts-clause-does g c =
     let old = c.args.run.now in
     let b = c.args.body in
     let k : Value NodeRef → Plan NodeRef = λ v. value_copied v (after_body b (left_in old)) in
-    let found = rw c.in-Halts.is at c.in_ok-value.ensures.found k in
+    let found = rw c.in-Halts.is at c.in-Ok.ensures.found k in
     perform_halts truth _ _ old c.value.new.run c.in-Halts.why found.so c.value.ensures.still
 
 pub returns-in-Lacks-clause-does : goal.returns-in-Lacks-clause-does
@@ -36,6 +36,6 @@ returns-in-Lacks-clause-does g c =
     let old = c.args.run.now in
     let b = c.args.body in
     let k : Value NodeRef → Plan NodeRef = λ v. value_copied v (after_body b (left_in old)) in
-    let found = rw c.in-Lacks.is at c.in_ok-value.ensures.found k in
+    let found = rw c.in-Lacks.is at c.in-Ok.ensures.found k in
     if_both c.lack.result c.lack.ensures.needs c.lack.ensures.pushed (λ next e back.
     perform_lacks truth _ (frames.Body b) old c.value.new.run c.lack.new.run c.in-Lacks.name b.here.depth (place_of c.args.site.now.place) next found.so c.value.ensures.still e back)
