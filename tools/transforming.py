@@ -1,14 +1,26 @@
-"""What the benches share: shapes of documents, PYX lines as XML, and the time of a session and of xsltproc."""
+"""What the benches and the test of the examples share: whether the program is built, shapes of documents, PYX lines as
+XML, and the time of a session and of xsltproc."""
 import os
 import random
 import resource
 import subprocess
 import sys
 import tempfile
+from pathlib import Path
 
 TOP = os.path.dirname(os.path.dirname(os.path.abspath(__file__)))
 PROGRAM = os.path.join(TOP, 'crates', 'xt_cli', 'out', 'xt_cli')
 SHEET = ['(xsl:stylesheet', 'Aversion 1.0', 'Axmlns:xsl http://www.w3.org/1999/XSL/Transform']
+
+
+def is_current(program):
+    """Whether the program is newer than all that it is made of."""
+    if not program.exists():
+        return False
+    built = program.stat().st_mtime
+    top = Path(TOP)
+    parts = [path for kind in ('src', 'specs', 'proofs') for path in top.glob(f'crates/*/{kind}/**/*')]
+    return all(path.stat().st_mtime <= built for path in parts + [top / 'crates.txt'])
 
 
 def want_program():
