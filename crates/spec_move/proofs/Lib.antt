@@ -1,0 +1,12 @@
+pub mod Plainly
+pub mod Shapes
+pub mod Numbers
+pub mod Depths
+pub mod Around
+pub mod Moving
+pub mod Normal
+pub mod Tops
+pub mod Faultless
+pub mod Keeping
+pub mod Least
+pub mod Judging

@@ -1,0 +1,3 @@
+pub mod Move
+pub mod Kept
+pub mod Judged
