@@ -11,6 +11,7 @@ use Rattle.spec_document.specs.Forest.{Written}
 use Rattle.spec_result.specs.Recovery.{Given, Standing, Nothing, AnElement, AText, AComment, AnInstruction}
 use Rattle.spec_result.specs.Shape.{Opening, begun, settle, needing, with_nodes, with_attributes, uri_in, prefix_for, with_prefix, all_of, tree_of}
 use Rattle.spec_result.specs.Named.{Meaning, meaning_of, meaning_before, meanings_in, element_meaning, IsNamed, IsPrefix, IsGood}
+use Rattle.spec_result.proofs.Readable.{HasReadable}
 use Rattle.spec_result.proofs.Qualified.{qname_plain, qname_prefixed}
 use Rattle.spec_result.proofs.Kept.{kept_then, itself, needed}
 use Rattle.spec_result.proofs.Holding.{Means, bare, prefixed, AllMean, AllDeclare, begun_holds, needing_holds, settle_holds, nodes_hold, nodes_keep}
@@ -101,9 +102,9 @@ or_left false b e = absurd (cc)
 
 -- ---- The tree
 
-pub named : (s : Standing) (scope : Scope) → IsGood scope s → IsNamed scope s (tree_of scope s)
-named Nothing scope good = tt
-named (AnElement prefix local uri namespaces attributes children siblings) scope good =
+pub named : (s : Standing) (scope : Scope) → HasReadable s → IsGood scope s → IsNamed scope s (tree_of scope s)
+named Nothing scope readable good = tt
+named (AnElement prefix local uri namespaces attributes children siblings) scope readable good =
     let own = prefix_for prefix uri in
     let there = own_there prefix uri in
     let fit = own_prefix prefix uri good.0 in
@@ -115,7 +116,7 @@ named (AnElement prefix local uri namespaces attributes children siblings) scope
     let first = needing_holds scope own uri (begun scope) [] fit there (λ e. refl) (begun_holds scope) in
     let second = settle_holds scope own bound_here [] (λ t. ap is_there is ∙ there t) first in
     let third = nodes_hold scope namespaces own_settled [] good.2 second in
-    let last = attributes_go scope attributes with_copies [] good.3 good.4 third in
+    let last = attributes_go scope attributes with_copies [] readable.0 good.3 third in
     let kept = kept_then (nodes_keep namespaces own_settled) last.keeps in
     let own_uri : uri_in o.scope own ≡ uri = kept.uri own (or_left (bytes_eq own own) (bound_here.settled own) (itself own)) ∙ is in
     let inside : declared_all (all_of o) scope ≡ o.scope =
@@ -124,9 +125,9 @@ named (AnElement prefix local uri namespaces attributes children siblings) scope
       ap (λ s. element_meaning s (with_prefix own local)) inside ∙ element_means own local uri o.scope fit good.1 own_uri there,
       ap (λ s. meanings_in s (all_of o)) inside ∙ skipped o.declarations o.attributes o.scope last.holds.declares
           ∙ all_mean o o.attributes attributes last.holds.means,
-      subst (λ s. IsNamed s children (tree_of o.scope children)) (sym inside) (named children o.scope good.5),
-      named siblings scope good.6,
+      subst (λ s. IsNamed s children (tree_of o.scope children)) (sym inside) (named children o.scope readable.1 good.4),
+      named siblings scope readable.2 good.5,
     )
-named (AText text siblings) scope good = named siblings scope good
-named (AComment text siblings) scope good = named siblings scope good
-named (AnInstruction target text siblings) scope good = named siblings scope good
+named (AText text siblings) scope readable good = named siblings scope readable good
+named (AComment text siblings) scope readable good = named siblings scope readable good
+named (AnInstruction target text siblings) scope readable good = named siblings scope readable good

@@ -4,5 +4,6 @@ pub mod Holding
 pub mod Kept
 pub mod Normal
 pub mod Qualified
+pub mod Readable
 pub mod Taking
 pub mod Texts

@@ -9,8 +9,9 @@ use Rattle.spec_document.specs.Declaration.{is_there, is_xml, is_xmlns, use_of}
 use Rattle.spec_result.specs.Recovery.{Given}
 use Rattle.spec_result.specs.Shape.{Opening, settle, needing, uri_in, is_bound_to, write, prefix_for, with_prefix}
 use Rattle.spec_result.specs.Shape.{made_prefix, first_free, new_prefix, is_free, wanted_prefix, can_take, taken_prefix, with_prefixed, with_attribute, with_attributes}
-use Rattle.spec_result.specs.Named.{IsPrefix, AreAttributes, HasRoom}
+use Rattle.spec_result.specs.Named.{IsPrefix, HasRoom}
 use Rattle.spec_result.proofs.Qualified.{use_plain, use_prefixed}
+use Rattle.spec_result.proofs.Readable.{IsReadable, AreReadable}
 use Rattle.spec_result.proofs.Free.{made_is_name, made_free}
 use Rattle.spec_result.proofs.Kept.{Keeps, all_kept, kept_then, itself, settle_keeps, needing_keeps, needed, write_keeps}
 use Rattle.spec_result.proofs.Holding.{Holds, Means, bare, prefixed, mean_kept, mean_more, needing_holds, settle_holds}
@@ -149,21 +150,20 @@ no_uri : (uri : List ℕ) → is_there uri ≡ false → uri ≡ []
 no_uri [] e = refl
 no_uri (c ∷ cs) e = absurd (cc)
 
-attribute_goes : (outer : Scope) (a : Given) (o : Opening) (done : List Given) → IsPrefix a.prefix → is_ncname a.local ≡ true
-    → (is_there a.uri ≡ false → is_xmlns a.local ≡ false) → Holds outer o done
+attribute_goes : (outer : Scope) (a : Given) (o : Opening) (done : List Given) → IsReadable a → Holds outer o done
     → (is_there a.uri ≡ true → can_take (wanted_prefix a) a.uri o ≡ false
     → (is_ncname (new_prefix o.scope a.uri) ≡ true) × (is_free o.scope (new_prefix o.scope a.uri) a.uri ≡ true))
     → Goes outer o (with_attribute a o) (done ++ a ∷ [])
-attribute_goes outer a o done good local bare_name h finds =
+attribute_goes outer a o done good h finds =
     picked (λ n. Goes outer o n (done ++ a ∷ [])) (is_there a.uri) (with_prefixed (taken_prefix (wanted_prefix a) a.uri o) a o) (write a.local a.value o)
-    (λ there. with_prefix_taken outer (taken_prefix (wanted_prefix a) a.uri o) a o done local there h (taken outer a o done good there h (finds there)))
-    (λ none. written_more outer o done a.local a h (bare (use_plain a.local local (bare_name none)) (no_uri a.uri none) refl))
+    (λ there. with_prefix_taken outer (taken_prefix (wanted_prefix a) a.uri o) a o done good.local there h (taken outer a o done good.prefix there h (finds there)))
+    (λ none. written_more outer o done a.local a h (bare (use_plain a.local good.local (good.other none)) (no_uri a.uri none) refl))
 
-pub attributes_go : (outer : Scope) (all : List Given) (o : Opening) (done : List Given) → AreAttributes all → HasRoom all o → Holds outer o done
+pub attributes_go : (outer : Scope) (all : List Given) (o : Opening) (done : List Given) → AreReadable all → HasRoom all o → Holds outer o done
     → Goes outer o (with_attributes all o) (done ++ all)
 attributes_go outer [] o done good finds h = subst (λ d. Goes outer o o d) (sym (append-nil done)) (record { holds = h; keeps = all_kept o })
 attributes_go outer (a ∷ more) o done good finds h =
-    let one = attribute_goes outer a o done good.0 good.1 good.2 h (λ t e. (made_is_name o.scope a.uri finds.0, made_free o.scope a.uri finds.0)) in
-    let rest = attributes_go outer more (with_attribute a o) (done ++ a ∷ []) good.3 finds.1 one.holds in
+    let one = attribute_goes outer a o done good.0 h (λ t e. (made_is_name o.scope a.uri finds.0, made_free o.scope a.uri finds.0)) in
+    let rest = attributes_go outer more (with_attribute a o) (done ++ a ∷ []) good.1 finds.1 one.holds in
     subst (λ d. Goes outer o (with_attributes more (with_attribute a o)) d) (append_assoc done (a ∷ []) more)
     (record { holds = rest.holds; keeps = kept_then one.keeps rest.keeps })

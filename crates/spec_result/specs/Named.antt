@@ -1,11 +1,11 @@
 -- Whether the names of a tree are those of what stands: read with the declarations in force there, each element and each attribute has its
 -- expanded name (Namespaces in XML 1.0, sections 5 and 6).
-use Rattle.std.specs.Prelude.{◌≡◌, ◌<◌, ◌^◌, ℕ, true, false, length, List, [], ◌∷◌, map, Option, None, Some}
+use Rattle.std.specs.Prelude.{◌≡◌, ◌<◌, ◌^◌, ℕ, true, length, List, [], ◌∷◌, map, Option, None, Some}
 use Rattle.std.specs.Option.{option_map, option_and_then}
 use Rattle.spec_document.specs.declared.usage.AttributeUse.TheVariants.{Declares, Names, NoName}
 use Rattle.spec_document.specs.Name.{Expanded, is_ncname, qname_of}
 use Rattle.spec_document.specs.Scope.{Scope}
-use Rattle.spec_document.specs.Declaration.{is_there, is_xmlns, use_of, declared_all, element_name, attribute_name, namespaces_in}
+use Rattle.spec_document.specs.Declaration.{is_there, use_of, declared_all, element_name, attribute_name, namespaces_in}
 use Rattle.spec_document.specs.Forest as forest
 use Rattle.spec_document.specs.Forest.{Plain, Written, Empty, Node}
 use Rattle.spec_result.specs.Recovery.{Given, NamespaceNode, Standing, Nothing, AnElement, AText, AComment, AnInstruction}
@@ -50,22 +50,17 @@ IsNamed scope (AnInstruction target text siblings) (Node label (forest.Instructi
 IsNamed scope Nothing Empty = Unit {0}
 IsNamed _ _ _ = ⊥
 
--- ---- Of which trees that is said
+-- ---- Of which streams that is said, by what stands of them. Of attributes nothing is asked: those that stand have good names
 
--- names are QNames: their parts are NCNames, and the prefix may be none
+-- the names of elements are QNames: their parts are NCNames, and the prefix may be none
 abbrev pub IsPrefix : List ℕ → Type 0
 IsPrefix [] = Unit {0}
 IsPrefix (c ∷ cs) = is_ncname (c ∷ cs) ≡ true
 
--- a copied namespace node undeclares no prefix
+-- a copied namespace node has an NCName as its prefix or none, and undeclares no prefix
 abbrev pub AreNodes : List NamespaceNode → Type 0
 AreNodes [] = Unit {0}
 AreNodes (node ∷ nodes) = IsPrefix node.0 × (is_there node.0 ≡ true → is_there node.1 ≡ true) × AreNodes nodes
-
--- an attribute of no namespace is not called `xmlns`
-abbrev pub AreAttributes : List Given → Type 0
-AreAttributes [] = Unit {0}
-AreAttributes (a ∷ more) = IsPrefix a.prefix × (is_ncname a.local ≡ true) × (is_there a.uri ≡ false → is_xmlns a.local ≡ false) × AreAttributes more
 
 -- where a prefix is to be made for an attribute, fewer than 2^63 namespaces are in scope
 abbrev pub HasRoom : List Given → Opening → Type 0
@@ -76,7 +71,7 @@ abbrev pub IsGood : Scope → Standing → Type 0
 IsGood scope Nothing = Unit {0}
 IsGood scope (AnElement prefix local uri namespaces attributes children siblings) =
     let own = prefix_for prefix uri in
-    IsPrefix prefix × (is_ncname local ≡ true) × AreNodes namespaces × AreAttributes attributes
+    IsPrefix prefix × (is_ncname local ≡ true) × AreNodes namespaces
     × HasRoom attributes (with_nodes namespaces (settle own (needing own uri (begun scope))))
     × IsGood (opened scope own uri namespaces attributes).scope children × IsGood scope siblings
 IsGood scope (AText text siblings) = IsGood scope siblings

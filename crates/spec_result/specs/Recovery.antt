@@ -59,13 +59,13 @@ value_of (Instruction target content rest) = value_of rest
 value_of (Message content rest) = value_of rest
 value_of (Hole rest) = value_of rest
 
--- an attribute whose name is no QName, or is `xmlns`, gives nothing
-abbrev pub is_attribute_name : List ℕ → Bool
-is_attribute_name name = is_some (qname_of name) && not (is_xmlns name)
+-- an attribute gives nothing where its name is no QName, or is `xmlns`, or has the local part `xmlns` and no namespace: it would declare one
+abbrev pub is_attribute_name : (name uri : List ℕ) → Bool
+is_attribute_name name uri = is_some (qname_of name) && not (is_xmlns name) && (is_there uri || not (is_xmlns (local_of name)))
 
 abbrev pub given_by : (name uri value : List ℕ) → List Given
 given_by name uri value =
-    if is_attribute_name name then record { prefix = prefix_of name; local = local_of name; uri = uri; value = value } ∷ [] else []
+    if is_attribute_name name uri then record { prefix = prefix_of name; local = local_of name; uri = uri; value = value } ∷ [] else []
 
 -- the attributes that come before the first child, in their order: those of an element without a good name are ignored
 abbrev pub attributes_of : Stream → List Given

@@ -45,12 +45,13 @@ abbrev pub stream_in : {N : Type 0} → Answer N → Stream
 stream_in (Copied s) = s
 stream_in _ = stream.Ended
 
--- ---- A fragment: the attributes and namespace nodes on its root are left out
+-- ---- A fragment: the attributes and namespace nodes on its root are left out. What stands in an element without a good name on the root
+-- stands on the root in its place
 
 abbrev pub without_attributes : Stream → Stream
 without_attributes stream.Ended = stream.Ended
 without_attributes (stream.Element name uri namespaces content rest) = stream.Element name uri namespaces content (without_attributes rest)
-without_attributes (stream.Nameless content rest) = stream.Nameless content (without_attributes rest)
+without_attributes (stream.Nameless content rest) = stream.Nameless (without_attributes content) (without_attributes rest)
 without_attributes (stream.Attribute name uri content rest) = without_attributes rest
 without_attributes (stream.Namespace prefix uri rest) = without_attributes rest
 without_attributes (stream.Text text rest) = stream.Text text (without_attributes rest)

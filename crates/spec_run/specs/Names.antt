@@ -41,7 +41,8 @@ element_meant made c =
     expanded made.name c >>= λ name. namespace_meant made.namespace c >>= λ uri.
     if is_barred uri then bad_name else element_called c.scope name (qname_of name) uri
 
--- ---- Attributes: one whose name is no QName, or is `xmlns`, is dropped with the shape of the result. The prefix `xmlns` is taken as none
+-- ---- Attributes: one whose name is no QName, or that would be written `xmlns`, is dropped with the shape of the result. The prefix `xmlns` is
+-- taken as none
 
 abbrev pub attribute_in : {N : Type 0} → List ℕ → Option Expanded → Program N Wrapping
 attribute_in name None = bad_name

@@ -43,7 +43,7 @@ impl Attributes {
     fn add(&mut self, alloc: Global, name: &Text, uri: &Text, content: &Items) -> Result<(), Memory>
         ensures { OnOk result (self.new ≡ all_added self.old (given_by name.now uri.now (value_of (stream_of content.now)))) }
     {
-        if !is_attribute_name(name) {
+        if !is_attribute_name(name, uri) {
             return Ok(());
         }
         let prefix = Text::from_str(alloc, prefix_of(name.as_str()))?;

@@ -1,6 +1,8 @@
 // Names as they are written, in their parts (Namespaces in XML 1.0, productions 7 to 11).
-ghost use Rattle.std.specs.Prelude.{◌≡◌, IfOk};
+ghost use Rattle.std.specs.Prelude.{◌≡◌, ◌&&◌, ◌||◌, not, is_some, IfOk};
 ghost use Rattle.std.specs.Str.{chars};
+ghost use Rattle.spec_document.specs.Declaration.{is_there, is_xmlns};
+ghost use Rattle.spec_document.specs.Name.{qname_of};
 ghost use Rattle.spec_result.specs.Recovery.{is_attribute_name, local_of, prefix_of};
 ghost use Rattle.spec_result.specs.Shape.{prefix_for, with_prefix};
 
@@ -31,11 +33,32 @@ pub(crate) fn local_of(name: &str) -> &str
     }
 }
 
-/// Whether an attribute may have the name: a QName other than `xmlns`.
-pub(crate) fn is_attribute_name(name: &Text) -> bool
-    ensures { result ≡ is_attribute_name name.now }
+/// Whether an attribute of this namespace may have the name: a QName other than `xmlns`, and without its prefix not
+/// read as a declaration.
+pub(crate) fn is_attribute_name(name: &Text, uri: &Text) -> bool
+    ensures { result ≡ is_attribute_name name.now uri.now }
+{
+    is_qualified(name) && declares_nothing(local_of(name.as_str()), uri)
+}
+
+// Whether a name is a QName other than `xmlns`.
+fn is_qualified(name: &Text) -> bool
+    ensures { result ≡ (is_some (qname_of name.now) && not (is_xmlns name.now)) }
 {
     QName::read(name.as_str()).is_some() && !name.is("xmlns")
+}
+
+// Whether an attribute that is written as its local part declares nothing, as it has a namespace or is not `xmlns`.
+fn declares_nothing(local: &str, uri: &Text) -> bool
+    ensures { result ≡ (is_there uri.now || not (is_xmlns (chars local.now))) }
+{
+    !uri.is_empty() || !is_xmlns(local)
+}
+
+fn is_xmlns(text: &str) -> bool
+    ensures { result ≡ is_xmlns (chars text.now) }
+{
+    text == "xmlns"
 }
 
 /// The prefix that a name of this namespace has, where it was written with that one.

@@ -78,7 +78,7 @@ quiet_none (Hole r) h = ap Hole (quiet_none r h)
 pub nodes_followed : (s t : Stream) → without_attributes (followed s t) ≡ followed (without_attributes s) (without_attributes t)
 nodes_followed Ended t = refl
 nodes_followed (Element n u ns k r) o = ap (Element n u ns k) (nodes_followed r o)
-nodes_followed (Nameless k r) o = ap (Nameless k) (nodes_followed r o)
+nodes_followed (Nameless k r) o = ap (Nameless (without_attributes k)) (nodes_followed r o)
 nodes_followed (Attribute n u k r) o = nodes_followed r o
 nodes_followed (Comment k r) o = ap (Comment k) (nodes_followed r o)
 nodes_followed (Instruction t k r) o = ap (Instruction t k) (nodes_followed r o)
@@ -90,7 +90,7 @@ nodes_followed (Hole r) o = ap Hole (nodes_followed r o)
 pub attribute_followed : (s t : Stream) → has_attribute (followed s t) ≡ (has_attribute s || has_attribute t)
 attribute_followed Ended t = refl
 attribute_followed (Element n u ns k r) o = attribute_followed r o
-attribute_followed (Nameless k r) o = attribute_followed r o
+attribute_followed (Nameless k r) o = or_more (has_attribute k) (has_attribute (followed r o)) (has_attribute r) (has_attribute o) (attribute_followed r o)
 attribute_followed (Attribute n u k r) o = refl
 attribute_followed (Comment k r) o = attribute_followed r o
 attribute_followed (Instruction t k r) o = attribute_followed r o
@@ -103,7 +103,9 @@ attribute_followed (Hole r) o = attribute_followed r o
 pub nodes_none : (s : Stream) → has_attribute s ≡ false → without_attributes s ≡ s
 nodes_none Ended h = refl
 nodes_none (Element n u ns k r) h = ap (Element n u ns k) (nodes_none r h)
-nodes_none (Nameless k r) h = ap (Nameless k) (nodes_none r h)
+nodes_none (Nameless k r) h =
+    let none = or_parts (has_attribute k) (has_attribute r) h in
+    λ i. Nameless (nodes_none k none.0 i) (nodes_none r none.1 i)
 nodes_none (Attribute n u k r) h = absurd (cc)
 nodes_none (Comment k r) h = ap (Comment k) (nodes_none r h)
 nodes_none (Instruction t k r) h = ap (Instruction t k) (nodes_none r h)
@@ -116,7 +118,7 @@ nodes_none (Hole r) h = ap Hole (nodes_none r h)
 pub nodes_holes : (s : Stream) → holes (without_attributes s) ≤ holes s
 nodes_holes Ended = omega arith
 nodes_holes (Element n u ns k r) = let less = nodes_holes r in omega (arith, less)
-nodes_holes (Nameless k r) = let less = nodes_holes r in omega (arith, less)
+nodes_holes (Nameless k r) = let inner = nodes_holes k in let less = nodes_holes r in omega (arith, inner, less)
 nodes_holes (Attribute n u k r) = let less = nodes_holes r in omega (arith, less)
 nodes_holes (Comment k r) = let less = nodes_holes r in omega (arith, less)
 nodes_holes (Instruction t k r) = let less = nodes_holes r in omega (arith, less)

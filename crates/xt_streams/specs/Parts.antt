@@ -20,11 +20,11 @@ has_message (Instruction target content rest) = has_message content || has_messa
 has_message (Message content rest) = true
 has_message (Hole rest) = has_message rest
 
--- an attribute or a namespace node that is in nothing else
+-- an attribute or a namespace node that is in nothing else, or in an element without a good name that is so
 abbrev pub has_attribute : Stream → Bool
 has_attribute Ended = false
 has_attribute (Element name uri namespaces content rest) = has_attribute rest
-has_attribute (Nameless content rest) = has_attribute rest
+has_attribute (Nameless content rest) = has_attribute content || has_attribute rest
 has_attribute (Attribute name uri content rest) = true
 has_attribute (Namespace prefix uri rest) = true
 has_attribute (Text text rest) = has_attribute rest

@@ -11,8 +11,8 @@ use std::rc::Rc;
 use xt_text::Memory;
 use xt_tree::{Fragment, Item, Items};
 
-/// The fragment without the attributes and namespace nodes on its root (XSLT 1.0, section 11.3). Where it has
-/// none it is shared.
+/// The fragment without the attributes and namespace nodes on its root (XSLT 1.0, section 11.3), where what stands
+/// in an element without a good name stands too. Where it has none it is shared.
 ///
 /// # Errors
 /// Want of memory.
@@ -45,6 +45,10 @@ fn add_node(alloc: Global, item: &Item, list: &mut Items) -> Result<(), Memory>
     match item {
         Item::Attribute { .. } => Ok(()),
         Item::Namespace(_) => Ok(()),
+        Item::Nameless { content } => {
+            let content = nodes(alloc, content)?;
+            list.push(Item::Nameless { content })
+        }
         Item::Part(items) => {
             let items = nodes(alloc, items)?;
             list.push(Item::Part(items))
@@ -72,6 +76,7 @@ fn is_attribute(item: &Item) -> bool
     match item {
         Item::Attribute { .. } => true,
         Item::Namespace(_) => true,
+        Item::Nameless { content } => has_attribute(content),
         Item::Part(items) => has_attribute(items),
         _ => false,
     }

@@ -3,7 +3,7 @@ use Rattle.std.specs.Prelude.{is_some}
 use Rattle.spec_document.specs.Name.{qname_of}
 use Rattle.xt_names.proofs.Words.{xmlns_chars}
 use Rattle.xt_result.proofs.Names.{named}
-use Rattle.xt_result.proofs.name.is_attribute_name.Goals as goal
+use Rattle.xt_result.proofs.name.is_qualified.Goals as goal
 
 pub returns-then-is_some : goal.returns-then-is_some
 returns-then-is_some c =
