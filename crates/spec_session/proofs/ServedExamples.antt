@@ -1,6 +1,6 @@
 -- Worked examples of what a call that serves a session has done. The check computes both sides of each fact.
 use Rattle.std.specs.Prelude.{ℕ, ◌≡◌, refl, true, List, [], ◌∷◌, Some, codes}
-use Rattle.std.proofs.Common.{sym, ◌∙◌, ap, arith, append-nil, inl}
+use Rattle.std.proofs.Common.{length, sym, ◌∙◌, ap, arith, append-nil, inl}
 use Rattle.std.specs.Str.{chars, is_utf8}
 use Rattle.std.specs.Fmt.{digits}
 use lib.Utf8.{encode}
@@ -58,11 +58,18 @@ pub at_the_limit : IsServed 5 (codes "quit\n") 0 []
 at_the_limit = record { answered = nothing_is_answered; ends = refl }
 
 -- a fault of the source in the line after `show`
-pub cut_in_a_line : IsCutShort (codes "show\nqui") (codes "i") shown_at_start
-cut_in_a_line = record { taken = codes "show\nqu"; all = refl; answered = show_is_answered; goes_on = λ quit. cc }
+pub cut_in_a_line : IsCutShort 7 (codes "show\nqui") (codes "i") shown_at_start
+cut_in_a_line = record { taken = codes "show\nqu"; all = refl; few = omega arith; answered = show_is_answered; goes_on = λ quit. cc }
+
+-- none comes after the byte past the limit: no command that it would end is answered
+pub not_cut_past_the_limit : (text : List ℕ) → IsCutShort 4 (codes "show\n") [] text → ⊥
+not_cut_past_the_limit text cut =
+    let few = cut.few in
+    let all = ap length cut.all ∙ ap length (append-nil cut.taken) in
+    absurd (omega (arith, few, all))
 
 -- none comes after `quit`: nothing is read then
-pub not_cut_after_quit : (text : List ℕ) → IsCutShort (codes "quit\n") [] text → ⊥
+pub not_cut_after_quit : (text : List ℕ) → IsCutShort 100 (codes "quit\n") [] text → ⊥
 not_cut_after_quit text cut =
     cut.goes_on (ap (λ (bytes : List ℕ). (session_of (ended_lines bytes)).ending) (sym (append-nil cut.taken) ∙ sym cut.all))
 

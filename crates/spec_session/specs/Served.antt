@@ -26,11 +26,12 @@ pub record IsServed (limit : ℕ) (bytes : List ℕ) (status : ℕ) (text : List
   pub answered : AreReplies (session_within limit bytes).commands text
   pub ends : status ≡ status_of (nat_lt limit (length bytes)) (session_within limit bytes).ending
 
--- a call that a fault of the source ended: the whole commands among the bytes taken are answered, and `quit` has not ended them, since
--- nothing is read after it
-pub record IsCutShort (bytes left : List ℕ) (text : List ℕ) : Type 0 where
+-- a call that a fault of the source ended: the whole commands among the bytes taken are answered, which are no more than the limit, and `quit`
+-- has not ended them, since nothing is read after it
+pub record IsCutShort (limit : ℕ) (bytes left : List ℕ) (text : List ℕ) : Type 0 where
   pub taken : List ℕ
   pub all : bytes ≡ taken ++ left
+  pub few : length taken ≤ limit
   pub answered : AreReplies (session_of (ended_lines taken)).commands text
   pub goes_on : (session_of (ended_lines taken)).ending ≢ Quit
 
@@ -54,7 +55,7 @@ pub record Serves (limit : ℕ) (before left : Option (List ℕ)) (written now :
   pub served : (status ≡ 0) ⊎ ((status ≡ 4) ⊎ (status ≡ 5))
       → IfSome before (λ bytes. (text : List ℕ) × IsServed limit bytes status text × Appends written now text)
   pub cut_short : status ≡ 1
-      → IfSome before (λ bytes. IsSomeAnd left (λ rest. (text : List ℕ) × IsCutShort bytes rest text × Appends written now text))
+      → IfSome before (λ bytes. IsSomeAnd left (λ rest. (text : List ℕ) × IsCutShort limit bytes rest text × Appends written now text))
   pub prefix : status ≡ 2 → IfSome before (λ bytes. (text : List ℕ) × IsPrefixOfReplies limit bytes text × Appends written now text)
   pub nothing : status ≡ 3 → (left ≡ before) × (now ≡ written)
   pub takes : IfSome before (λ bytes. IsSomeAnd left (λ rest. TakesAtMost limit bytes rest))

@@ -1,7 +1,7 @@
 -- How a session goes on, and what has been done when it ends.
 use Rattle.std.proofs.Common.{◌≡◌, ℕ, ◌+◌, ◌≤◌, Bool, false, List, [], ◌∷◌, ◌++◌, length, take, drop, Option, None, Some, refl}
 use Rattle.std.proofs.Common.{sym, ◌∙◌, ap, subst, arith}
-use Rattle.std.proofs.Common.{append_assoc, append-nil}
+use Rattle.std.proofs.Common.{append_assoc, append-nil, length-append}
 use Rattle.std.specs.Prelude.{nat_lt, IfSome, IsSomeAnd}
 use Rattle.std.specs.List.{flat_map}
 use Rattle.std.specs.Option.{option_map}
@@ -142,10 +142,10 @@ ahead-asking b q e = rw e refl
 
 -- the source failed: the whole commands among the bytes taken are answered, and `quit` has not ended them
 pub come_cut : {limit : ℕ} {bytes : List ℕ} {a c : Reader} {p r : Option (List ℕ)} {state : State} {text : List ℕ}
-    → HasCome limit bytes a p state text → IsCut session_of a p c r → IsSomeAnd r (λ rest. IsCutShort bytes rest text)
-come_cut {limit = limit} {bytes = bytes} {r = r} {text = text} come cut =
+    → HasCome limit bytes a p state text → IsCut session_of a p c r → IsSomeAnd r (λ rest. IsCutShort limit bytes rest text)
+come_cut {limit = limit} {bytes = bytes} {c = c} {r = r} {text = text} come cut =
     go cut.between r (subst (λ (o : Option (List ℕ)). IsSomeAnd o (BeginsWithLines bytes lines)) (ahead-asking cut.reader cut.between cut.asked) begins)
-    cut.open_line
+    cut.open_line (takes_then come.takes cut.takes).bytes
   where
     lines : List (List ℕ)
     lines = come.lines ++ cut.lines
@@ -164,27 +164,41 @@ come_cut {limit = limit} {bytes = bytes} {r = r} {text = text} come cut =
     begins : IsSomeAnd (ahead cut.reader cut.between) (BeginsWithLines bytes lines)
     begins = only (ahead cut.reader cut.between) given.told
 
+    -- what was taken from the source at most, with this rest left
+    Few : List ℕ → Type 0
+    Few rest = (taken : List ℕ) × (bytes ≡ taken ++ rest) × (length taken + c.room ≤ limit + 0)
+
+    no_more : (rest all_taken : List ℕ) → bytes ≡ all_taken ++ rest → Few rest → length all_taken ≤ limit
+    no_more rest all_taken all few =
+        let same = sym (length-append all_taken rest) ∙ ap length (sym all ∙ few.1) ∙ length-append few.0 rest in
+        let count = few.2 in
+        omega (arith, same, count)
+
     short : (rest taken : List ℕ) → BeginsWithLines bytes lines (cut.reader.kept ++ (taken ++ rest)) → HasNoNewline (cut.reader.kept ++ taken)
-        → IsCutShort bytes rest text
-    short rest taken h open_line =
+        → Few rest → IsCutShort limit bytes rest text
+    short rest taken h open_line few =
         let opened : List ℕ = cut.reader.kept ++ taken in
         let all_taken : List ℕ = h.front ++ opened in
         let lines_are : ended_lines all_taken ≡ lines =
         h.lines_are opened ∙ ap (λ (l : List (List ℕ)). lines ++ l) (ended_lines-none opened open_line) ∙ append-nil lines in
         let all : session_of (ended_lines all_taken) ≡ in_front come.commands (session_of cut.lines) = ap session_of lines_are ∙ come.are cut.lines in
+        let all_is : bytes ≡ all_taken ++ rest =
+        h.cut ∙ ap (λ (l : List ℕ). h.front ++ l) (sym (append_assoc cut.reader.kept taken rest)) ∙ sym (append_assoc h.front opened rest) in
         record {
           taken = all_taken;
-          all = h.cut ∙ ap (λ (l : List ℕ). h.front ++ l) (sym (append_assoc cut.reader.kept taken rest)) ∙ sym (append_assoc h.front opened rest);
+          all = all_is;
+          few = no_more rest all_taken all_is few;
           answered = all_replies come (session_of (ended_lines all_taken)) (session_of cut.lines) all cut.none;
           goes_on = λ quit. cut.goes_on (sym (ap (λ (s : Session). s.ending) all) ∙ quit);
         }
 
     go : (o q : Option (List ℕ)) → IsSomeAnd (option_map (λ (l : List ℕ). cut.reader.kept ++ l) o) (BeginsWithLines bytes lines)
         → IfSome o (λ bytes. IsSomeAnd q (λ rest. (taken : List ℕ) × (bytes ≡ taken ++ rest) × HasNoNewline (cut.reader.kept ++ taken)))
-        → IsSomeAnd q (λ rest. IsCutShort bytes rest text)
-    go None q h e = absurd h
-    go (Some x) None h e = absurd e
-    go (Some x) (Some rest) h e = short rest e.0 (subst (λ (l : List ℕ). BeginsWithLines bytes lines (cut.reader.kept ++ l)) e.1 h) e.2
+        → IsSomeAnd q Few → IsSomeAnd q (λ rest. IsCutShort limit bytes rest text)
+    go None q h e few = absurd h
+    go (Some x) None h e few = absurd e
+    go (Some x) (Some rest) h e few =
+        short rest e.0 (subst (λ (l : List ℕ). BeginsWithLines bytes lines (cut.reader.kept ++ l)) e.1 h) e.2 few
 
 -- the sink failed in the reply to the next command: what is written is a prefix of the replies
 pub come_prefix : {limit : ℕ} {bytes : List ℕ} {a b : Reader} {p q : Option (List ℕ)} {state next : State} {text more : List ℕ} (count : ℕ)

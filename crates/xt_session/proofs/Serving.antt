@@ -79,7 +79,7 @@ serves_stopped {limit = limit} {before = before} {written = written} {then = the
 
 pub serves_cut : {limit : ℕ} {before p r written now then : Option (List ℕ)} {a c : Reader} {state : State}
     → IsServing limit before a p state written now → IsCut session_of a p c r → then ≡ now → Serves limit before r written then 1
-serves_cut {before = before} {r = r} {written = written} {then = then} serving cut same = record {
+serves_cut {limit = limit} {before = before} {r = r} {written = written} {then = then} serving cut same = record {
   served = λ is. absurd (omega arith);
   cut_short = λ is. if_some before (λ bytes e. told bytes r (come_cut (serving.come bytes e) cut));
   prefix = λ is. absurd (omega arith);
@@ -91,8 +91,8 @@ serves_cut {before = before} {r = r} {written = written} {then = then} serving c
     all : Appends written then serving.text
     all = subst (λ (o : Option (List ℕ)). Appends written o serving.text) (sym same) serving.appends
 
-    told : (bytes : List ℕ) (o : Option (List ℕ)) → IsSomeAnd o (λ rest. IsCutShort bytes rest serving.text)
-        → IsSomeAnd o (λ rest. (text : List ℕ) × IsCutShort bytes rest text × Appends written then text)
+    told : (bytes : List ℕ) (o : Option (List ℕ)) → IsSomeAnd o (λ rest. IsCutShort limit bytes rest serving.text)
+        → IsSomeAnd o (λ rest. (text : List ℕ) × IsCutShort limit bytes rest text × Appends written then text)
     told bytes None e = absurd e
     told bytes (Some rest) e = (serving.text, e, all)
 

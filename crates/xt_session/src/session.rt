@@ -23,7 +23,7 @@ pub(crate) const NO_MEMORY: &[u8] = b"no 1\n";
 /// | Status | Comes |
 /// |---|---|
 /// | 0 | at the end of the input outside a body, or at `quit` |
-/// | 1 | only where the source has failed: the whole commands among the bytes taken are answered, and `quit` is not among them |
+/// | 1 | only where the source has failed: the whole commands among the bytes taken, at most `limit`, are answered, and `quit` is not among them |
 /// | 2 | only where the sink has failed: what is written is a prefix of the replies |
 /// | 3 | for want of memory at the start: nothing is read and nothing written |
 /// | 4 | where the input ends inside a body |
