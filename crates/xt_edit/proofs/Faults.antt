@@ -186,7 +186,7 @@ too-many (suc left) (n ∷ lines) h =
 
 -- ---- Trees
 
-without_plain : (f : Forest ℕ) → without_lines (plain f) ≡ without_lines f
+pub without_plain : (f : Forest ℕ) → without_lines (plain f) ≡ without_lines f
 without_plain Empty = refl
 without_plain (Node label content children siblings) = λ i. Node (alone 0) content (without_plain children i) (without_plain siblings i)
 
@@ -202,25 +202,33 @@ answers scope depth first content children =
     let tree = Node (alone 0) content children Empty in
     least (node_faults scope depth tree ++ number_faults first (lines_in tree))
 
--- the answer for a tree: what was found in it, and that there are too many nodes, where so many were counted
-pub tree_told : (scope inside : Scope) (depth below first : ℕ) (over : Bool) (content : Content) (children : Forest ℕ) (one two : Option Found)
-    (answer : Option Fault)
+-- what was found with a node and what is below it
+pub tree_found : (scope inside : Scope) (depth below : ℕ) (content : Content) (children : Forest ℕ) (found first now : Option Fault)
     → inside ≡ within content scope → (depth ≤ 256 → below ≡ depth + 1) → (256 < depth → 256 < below)
-    → found_of one ≡ least (content_faults inside depth (alone 0) content)
-    → found_of two ≡ merged (found_of one) (least (node_faults inside below (without_lines children)))
+    → first ≡ merged found (least (content_faults inside depth (alone 0) content))
+    → now ≡ merged first (least (node_faults inside below (without_lines children)))
+    → now ≡ merged found (least (node_faults scope depth (without_lines (Node 0 content children Empty))))
+tree_found scope inside depth below content children found first now i e h own all =
+    sym (merged-none now) ∙ visited scope inside depth below content (without_lines children) Empty found first now i e h own all
+
+-- the code of what was found at fault in nodes says all
+pub nodes_told : (scope : Scope) (depth : ℕ) (f : Forest ℕ) (found : Option Found) → found_of found ≡ least (node_faults scope depth (without_lines f))
+    → at_no_line (option_map (λ f. f.code) found) ≡ least (node_faults scope depth (without_lines f))
+nodes_told scope depth f found e = told found (least (node_faults scope depth (without_lines f))) e (none-least _ (none-nodes scope depth f))
+
+-- the answer for a tree: what was found in it, and that there are too many nodes, where so many were counted
+pub tree_told : (scope : Scope) (depth first : ℕ) (over : Bool) (content : Content) (children : Forest ℕ) (found : Option Found) (answer : Option Fault)
+    → found_of found ≡ least (node_faults scope depth (without_lines (Node 0 content children Empty)))
     → (over ≡ true → number_limit - first ≤ size children) → (number_limit - first ≤ size children → over ≡ true)
-    → answer ≡ merged (at_no_line (option_map (λ f. f.code) two)) (least (fault_if over 12 0))
+    → answer ≡ merged (at_no_line (option_map (λ f. f.code) found)) (least (fault_if over 12 0))
     → answer ≡ answers scope depth first content (without_lines (plain children))
-tree_told scope inside depth below first over content children one two answer i e h own all up down is =
+tree_told scope depth first over content children found answer e up down is =
     let tree = Node 0 content children Empty in
     let left = number_limit - first in
     let faults = node_faults scope depth (without_lines tree) in
-    let found : found_of two ≡ least faults =
-    sym (merged-none (found_of two))
-    ∙ visited scope inside depth below content (without_lines children) Empty None (found_of one) (found_of two) i e h own all in
     let many : over ≡ nat_lt left (size tree) =
     same_test over left (size tree) (λ k. let least : left ≤ size children = up k in omega arith) (λ k. down (omega arith)) in
-    is ∙ ap (λ o. merged o (least (fault_if over 12 0))) (told two (least faults) found (none-least faults (none-nodes scope depth tree)))
+    is ∙ ap (λ o. merged o (least (fault_if over 12 0))) (nodes_told scope depth tree found e)
     ∙ ap (merged (least faults)) (numbers_told first over tree many)
     ∙ sym (least-append faults (number_faults first (lines_in (without_lines tree))))
     ∙ ap (answers scope depth first content) (sym (without_plain children))

@@ -16,6 +16,7 @@ use Rattle.xt_tree.specs.declared.node.Node.{Node}
 use Rattle.xt_tree.specs.Edit.{IsNodeAt}
 use Rattle.xt_tree.specs.View.{forest_of, tree_of}
 use Rattle.xt_edit.specs.Inserted.{IsParent}
+use Rattle.xt_edit.proofs.Seams.{count-length}
 use Rattle.xt_edit.proofs.Sites.{depth_of-from}
 
 some_is : {A : Type 0} (x y : A) → Some x ≡ Some y → x ≡ y
@@ -35,10 +36,6 @@ element-parent document path node content h c e x at =
     ∙ ap (λ o. parent_by o x) own
 
 -- ---- Positions
-
-pub count-length : (xs : List (Rc Node Global)) → sibling_count (forest_of xs) ≡ length xs
-count-length [] = refl
-count-length (x ∷ xs) = let rest = count-length xs in omega (arith, rest)
 
 at_least : (n p : ℕ) → n ≤ p → nat_le n p ≡ true
 at_least n p h = elim (leb_tells n p) [ inl t ↦ t.0 | inr t ↦ absurd (omega (arith, t.1)) ]

@@ -30,7 +30,7 @@ faulted faults otherwise fault e = ap (λ o. answer_by o otherwise) (sym e)
 
 -- ---- Numbers
 
-no_least : (faults : List Fault) → None ≡ least faults → faults ≡ []
+pub no_least : (faults : List Fault) → None ≡ least faults → faults ≡ []
 no_least [] e = refl
 no_least (fault ∷ faults) e = absurd (cc)
 

@@ -2,7 +2,8 @@
 use Rattle.std.proofs.Common.{◌≡◌, ◌≢◌, ◌<◌, ◌≤◌, append_assoc, subst, eq-eqb, arith, ℕ, zero, suc, ◌+◌, ◌-◌, ◌==◌, Bool, true, false, cond, List, []}
 use Rattle.std.proofs.Common.{◌∷◌, ◌++◌, length, get_or, if◌then◌else◌, refl, ap, sym, ◌∙◌, Option, None, Some}
 use Rattle.std.specs.Option.{option_and_then, ForSome}
-use Rattle.std.proofs.lemmas.Bool.{eqb-true}
+use Rattle.std.specs.Prelude.{min, nat_lt}
+use Rattle.std.proofs.lemmas.Bool.{eqb-true, ltb-true, ltb-false}
 use Rattle.spec_document.specs.Forest.{Content, Element, Text, Comment, Instruction, Forest, Empty, Node, Document, followed}
 use Rattle.spec_document.specs.Place.{Found, root_of, found_in, child_at, node_from, node_at}
 use Rattle.spec_edit.specs.Splice.{first_siblings, later_siblings, replaced, text_before as before_text, last_before, met, sibling_count}
@@ -39,7 +40,7 @@ last_before-more l (Text t) f k (Instruction n u) g s h = refl
 last_before-more l (Comment t) f k d g s h = refl
 last_before-more l (Instruction n t) f k d g s h = refl
 
-met-more : (f : Forest ℕ) (k : ℕ) (d : Content) (g s h : Forest ℕ) → met f (followed (Node k d g s) h) ≡ followed (met f (Node k d g s)) h
+pub met-more : (f : Forest ℕ) (k : ℕ) (d : Content) (g s h : Forest ℕ) → met f (followed (Node k d g s) h) ≡ followed (met f (Node k d g s)) h
 met-more Empty k d g s h = refl
 met-more (Node l c f Empty) k d g s h = last_before-more l c f k d g s h
 met-more (Node l c f (Node m e i j)) k d g s h = ap (Node l c f) (met-more (Node m e i j) k d g s h)
@@ -97,11 +98,11 @@ met-assoc (Node l c f (Node k d i j)) g h = ap (Node l c f) (met-assoc (Node k d
 
 -- ---- Siblings up to an index, and from it on
 
-later-all : (s : Forest ℕ) → later_siblings 0 s ≡ s
+pub later-all : (s : Forest ℕ) → later_siblings 0 s ≡ s
 later-all Empty = refl
 later-all (Node l c f s) = refl
 
-first-none : (s : Forest ℕ) → first_siblings 0 s ≡ Empty
+pub first-none : (s : Forest ℕ) → first_siblings 0 s ≡ Empty
 first-none Empty = refl
 first-none (Node l c f s) = refl
 
@@ -111,10 +112,10 @@ not_zero n h = elim (n == 0) as (λ b. (n == 0) ≡ b → b ≡ false) [
   | false ↦ λ _. refl
 ] refl
 
-first-more : (n : ℕ) (l : ℕ) (c : Content) (f s : Forest ℕ) → 0 < n → first_siblings n (Node l c f s) ≡ Node l c f (first_siblings (n - 1) s)
+pub first-more : (n : ℕ) (l : ℕ) (c : Content) (f s : Forest ℕ) → 0 < n → first_siblings n (Node l c f s) ≡ Node l c f (first_siblings (n - 1) s)
 first-more n l c f s h = ap (λ b. cond b Empty (Node l c f (first_siblings (n - 1) s))) (not_zero n h)
 
-later-more : (n : ℕ) (l : ℕ) (c : Content) (f s : Forest ℕ) → 0 < n → later_siblings n (Node l c f s) ≡ later_siblings (n - 1) s
+pub later-more : (n : ℕ) (l : ℕ) (c : Content) (f s : Forest ℕ) → 0 < n → later_siblings n (Node l c f s) ≡ later_siblings (n - 1) s
 later-more n l c f s h = ap (λ b. cond b (Node l c f s) (later_siblings (n - 1) s)) (not_zero n h)
 
 later-later : (m n : ℕ) (s : Forest ℕ) → later_siblings (m + n) s ≡ later_siblings n (later_siblings m s)
@@ -276,7 +277,7 @@ for_some_both : {A : Type 0} (o : Option A) (P Q R : A → Type 0) → ((x : A) 
 for_some_both o P Q R step p q x e = step x (p x e) (q x e)
 
 -- what is spliced in, with the texts beside it, is put between
-pub spliced-is : (document : Document ℕ) (parent : List ℕ) (from to start end : ℕ) (nodes joined siblings : Forest ℕ) (front back : Option (Forest ℕ))
+spliced-is : (document : Document ℕ) (parent : List ℕ) (from to start end : ℕ) (nodes joined siblings : Forest ℕ) (front back : Option (Forest ℕ))
     → ForSome (node_at document parent) (λ n. siblings ≡ n.children) → ForSome (node_at document parent) (λ n. from ≤ sibling_count n.children)
     → front ≡ text_before from siblings → back ≡ text_at to siblings → start ≡ from - one_of front → end ≡ to + one_of back
     → joined ≡ between front nodes back
@@ -292,6 +293,41 @@ spliced-is document parent from to start end nodes joined siblings front back ar
     ∙ (λ i. replaced (from - one_of (front_is i)) (to + one_of (back_is i)) (between (front_is i) nodes (back_is i)) n.children)
     ∙ seam from to nodes n.children most)
     are within)
+
+-- ---- An index past the last sibling
+
+pub count-length : (xs : List (Rc Code Global)) → sibling_count (forest_of xs) ≡ length xs
+count-length [] = refl
+count-length (x ∷ xs) = let rest = count-length xs in omega (arith, rest)
+
+first-all : (n : ℕ) (s : Forest ℕ) → sibling_count s ≤ n → first_siblings n s ≡ s
+first-all n Empty h = refl
+first-all n (Node l c f s) h = first-more n l c f s (omega arith) ∙ ap (Node l c f) (first-all (n - 1) s (omega arith))
+
+-- up to the index, or all of them
+first-least : (n m : ℕ) (s : Forest ℕ) → m ≡ min n (sibling_count s) → first_siblings m s ≡ first_siblings n s
+first-least n m s e =
+    elim (nat_lt n (sibling_count s)) as (λ b. nat_lt n (sibling_count s) ≡ b → first_siblings m s ≡ first_siblings n s) [
+      | true ↦ λ k. let less = ltb-true n (sibling_count s) k in let same : m ≡ n = omega arith in ap (λ i. first_siblings i s) same
+      | false ↦ λ k. let more = ltb-false n (sibling_count s) k in first-all m s (omega arith) ∙ sym (first-all n s more)
+    ] refl
+
+-- the same where an index past the last sibling is the one after it
+pub put-is : (document : Document ℕ) (parent : List ℕ) (from to least start end : ℕ) (nodes joined : Forest ℕ) (xs : List (Rc Code Global))
+    (front back : Option (Forest ℕ))
+    → ForSome (node_at document parent) (λ n. forest_of xs ≡ n.children) → least ≡ min from (length xs)
+    → front ≡ text_before least (forest_of xs) → back ≡ text_at to (forest_of xs) → start ≡ least - one_of front → end ≡ to + one_of back
+    → joined ≡ between front nodes back
+    → children_changed (replaced start end joined) parent document.nodes ≡ children_changed (put_in from to nodes) parent document.nodes
+put-is document parent from to least start end nodes joined xs front back are l f b s e j =
+    let many = count-length xs in
+    spliced-is document parent least to start end nodes joined (forest_of xs) front back are
+    (λ n at. let same = ap sibling_count (are n at) in omega arith) f b s e j
+    ∙ changed-there (put_in least to nodes) (put_in from to nodes) parent document
+    (λ n at.
+    let is = are n at in
+    let same = ap sibling_count is in
+    ap (λ g. met g (met nodes (later_siblings to n.children))) (first-least from least n.children (omega arith)))
 
 -- ---- Nodes that are shared
 

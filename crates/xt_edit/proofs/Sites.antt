@@ -29,7 +29,7 @@ path_from-spot : (first : ℕ) (path : List ℕ) → first ∷ path ≡ (spot_fr
 path_from-spot first [] = refl
 path_from-spot first (next ∷ path) = ap (λ p. first ∷ p) (path_from-spot next path)
 
-path_of-spot : (path : List ℕ) (spot : Spot) → spot_of path ≡ Some spot → path ≡ spot.above ++ spot.position ∷ []
+pub path_of-spot : (path : List ℕ) (spot : Spot) → spot_of path ≡ Some spot → path ≡ spot.above ++ spot.position ∷ []
 path_of-spot [] spot e = absurd (cc)
 path_of-spot (first ∷ path) spot e = path_from-spot first path ∙ ap (λ (s : Spot). s.above ++ s.position ∷ []) (some_is (spot_from first path) spot e)
 
@@ -125,7 +125,7 @@ is_at document path spot node e h =
 
 -- ---- What stands at a spot
 
-child-from : (above : List Content) (f : Forest ℕ) (p : ℕ) (found : Found ℕ) → child_at above f p ≡ Some found → (1 ≤ p) × (p ≤ sibling_count f)
+pub child-from : (above : List Content) (f : Forest ℕ) (p : ℕ) (found : Found ℕ) → child_at above f p ≡ Some found → (1 ≤ p) × (p ≤ sibling_count f)
 child-from above Empty p found e = absurd (cc)
 child-from above (Tree label content children siblings) p found e =
     elim (p == 1) as (λ b. (p == 1) ≡ b → cond b (Some (found_in above label content children)) (child_at above siblings (p - 1)) ≡ Some found

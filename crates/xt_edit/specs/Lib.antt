@@ -2,6 +2,8 @@ pub mod Changed
 pub mod Finding
 pub mod Inserted
 pub mod Kept
+pub mod Moving
+pub mod Placing
 pub mod Seam
 pub mod Site
 pub mod Standing

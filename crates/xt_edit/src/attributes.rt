@@ -24,7 +24,8 @@ pub(crate) fn makes_anew(name: &str) -> bool
     }
 }
 
-fn is_space_name(name: &str) -> bool
+/// Whether it is the written name of xml:space.
+pub(crate) fn is_space_name(name: &str) -> bool
     ensures { result ≡ bytes_eq (chars name.now) (codes "xml:space") }
 {
     name == "xml:space"

@@ -129,8 +129,8 @@ fn way_to<'a>(alloc: Global, document: &'a Doc, path: &[u64]) -> Result<Option<W
     }))
 }
 
-// The sibling at this position, from 1.
-fn child_at(siblings: &[Rc<Node>], position: u64) -> Option<&Node>
+/// The sibling at this position, from 1.
+pub(crate) fn child_at(siblings: &[Rc<Node>], position: u64) -> Option<&Node>
     ensures { option_map (λ node. tree_of node.now) result ≡ tree_at (forest_of siblings.now) position }
 {
     if position == 0 || position > siblings.len() as u64 {

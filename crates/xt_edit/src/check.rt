@@ -12,7 +12,7 @@ ghost use Rattle.spec_edit.specs.Edit.{without_lines};
 ghost use Rattle.xt_tree.specs.View.{content_of, forest_of};
 ghost use Rattle.xt_build.specs.Least.{merged};
 ghost use Rattle.xt_build.specs.View.{found_of};
-ghost use Rattle.xt_edit.specs.Finding.{at_no_line};
+ghost use Rattle.xt_edit.specs.Finding.{IsLesser, at_no_line};
 
 use std::alloc::Global;
 use std::rc::Rc;
@@ -56,14 +56,47 @@ pub(crate) fn tree_fault(
     ensures { IfOk result (λ found. let tree = without_lines (forest.Node tt (content_of content.now) (plain (forest_of children.now)) forest.Empty) in
         at_no_line found ≡ least (node_faults around.now depth tree ++ number_faults first (map (λ l. l.first) (labels tree)))) }
 {
-    let inside = scope_inside(alloc, around, content)?;
     let mut found = None;
-    check_content(alloc, &inside, depth, content, 0, &[], &mut found)?;
-    let below = depth.saturating_add(1);
-    let count = check_nodes(alloc, children, &inside, below, &mut found)?;
+    let count = check_tree(alloc, around, depth, content, children, &mut found)?;
     let left = NUMBER_LIMIT.saturating_sub(first);
     // The node itself takes one number more.
     Ok(or_too_many(code_of(found), count >= left))
+}
+
+/// The same where the nodes keep their numbers.
+pub(crate) fn nodes_fault(
+    alloc: Global,
+    around: &Scope,
+    depth: u64,
+    content: &Content,
+    children: &[Rc<Node>],
+) -> Result<Option<EditCode>, Memory>
+    ensures { IfOk result (λ found. at_no_line found ≡ least (node_faults around.now depth (without_lines (forest.Node 0 (content_of content.now) (forest_of children.now) forest.Empty)))) }
+{
+    let mut found = None;
+    let _ = check_tree(alloc, around, depth, content, children, &mut found)?;
+    Ok(code_of(found))
+}
+
+// Finds the faults of a node with this content and of what is below it, and says how many nodes are below it; where
+// that is no u64, the greatest one.
+fn check_tree(
+    alloc: Global,
+    around: &Scope,
+    depth: u64,
+    content: &Content,
+    children: &[Rc<Node>],
+    found: &mut Option<Fault>,
+) -> Result<u64, Memory>
+    ensures faults { OnOk result (found_of found.new
+        ≡ merged (found_of found.old) (least (node_faults around.now depth (without_lines (forest.Node 0 (content_of content.now) (forest_of children.now) forest.Empty))))) }
+    ensures count { IfOk result (λ count. count ≡ min (size (forest_of children.now)) u64.MAX) }
+{
+    let inside = scope_inside(alloc, around, content)?;
+    check_content(alloc, &inside, depth, content, 0, &[], found)?;
+    let below = depth.saturating_add(1);
+    let count = check_nodes(alloc, children, &inside, below, found)?;
+    Ok(count)
 }
 
 // Finds the faults of siblings, which stand in this scope and at this depth, and of what is below them, and says how
@@ -104,8 +137,31 @@ fn or_too_many(found: Option<EditCode>, are_too_many: bool) -> Option<EditCode>
     if !are_too_many {
         return found;
     }
+    sooner(found, Some(EditCode::TooManyNodes))
+}
+
+/// The one of two findings that is answered: that of the least number.
+pub(crate) fn sooner(found: Option<EditCode>, other: Option<EditCode>) -> Option<EditCode>
+    ensures { at_no_line result ≡ merged (at_no_line found) (at_no_line other) }
+{
     match found {
-        Some(code) if code.number() <= EditCode::TooManyNodes.number() => Some(code),
-        _ => Some(EditCode::TooManyNodes),
+        None => other,
+        Some(code) => Some(lesser(code, other)),
+    }
+}
+
+/// The same of a finding and another, where there is one.
+pub(crate) fn lesser(code: EditCode, other: Option<EditCode>) -> EditCode
+    ensures { IsLesser code other result }
+{
+    match other {
+        None => code,
+        Some(next) => {
+            if next.number() < code.number() {
+                next
+            } else {
+                code
+            }
+        }
     }
 }

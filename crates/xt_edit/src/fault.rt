@@ -14,7 +14,7 @@ pub enum EditFault {
     /// The least fault of the change.
     #[error("the change is refused")]
     Refused {
-        /// What is wrong: 2, or 5 to 14.
+        /// What is wrong: 2, or 5 to 15.
         code: EditCode,
         /// The line of the body where it stands, from 1, or 0 where it is no line's.
         line: u64,

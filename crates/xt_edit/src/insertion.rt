@@ -6,6 +6,7 @@ ghost use Rattle.spec_document.specs.Place.{node_at, scope_at};
 ghost use Rattle.spec_edit.specs.Edit as spec;
 ghost use Rattle.spec_edit.specs.Edit.{Insert, edited_nodes, parent_by};
 ghost use Rattle.xt_edit.specs.Inserted.{AreBuilt, Parts};
+ghost use Rattle.xt_edit.specs.Moving.{IsTarget};
 ghost use Rattle.xt_edit.specs.Site.{spot_in};
 ghost use Rattle.xt_edit.specs.View.{AreBelow, Edits};
 ghost use Rattle.xt_tree.specs.View.{forest_of};
@@ -55,20 +56,30 @@ pub fn insert(
     }
 }
 
-// What is to stand above nodes that are put there: 6 where nothing does or there is no such position, 7 where it may
-// have no nodes below it.
+// What is to stand above nodes that are put there, or the refusal.
 fn parent_at(document: &Doc, spot: Spot<'_>) -> Result<Parent, EditFault>
     ensures { Parts document.now (spot_in spot.entry) result }
 {
+    match target_at(document, spot) {
+        Ok(parent) => Ok(parent),
+        Err(code) => Err(refused(code)),
+    }
+}
+
+/// What is to stand above nodes that come to this spot: 6 where nothing does or there is no such position, 7 where it
+/// may have no nodes below it.
+pub(crate) fn target_at(document: &Doc, spot: Spot<'_>) -> Result<Parent, EditCode>
+    ensures { IsTarget document.now (spot_in spot.entry) result }
+{
     match document.children_at(spot.parent) {
-        None => Err(refused(EditCode::NoPlace)),
+        None => Err(EditCode::NoPlace),
         Some(siblings) => match parent_of(document, spot.parent) {
-            None => Err(refused(EditCode::WrongKind)),
+            None => Err(EditCode::WrongKind),
             Some(parent) => {
                 if is_position(spot.position, siblings) {
                     Ok(parent)
                 } else {
-                    Err(refused(EditCode::NoPlace))
+                    Err(EditCode::NoPlace)
                 }
             }
         },

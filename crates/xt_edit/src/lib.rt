@@ -1,4 +1,4 @@
-//! Edits of a document by path: nodes put in or taken away, the content of a text, attributes and names. Each gives
+//! Edits of a document by path: nodes put in, taken away or moved, the content of a text, attributes and names. Each gives
 //! a new document that shares with the old one all that it does not touch, or the least refusal; the old one stays.
 //!
 //! ```text
@@ -9,6 +9,7 @@
 
 mod attribute;
 mod attributes;
+mod carrying;
 mod change;
 mod check;
 mod deletion;
@@ -16,6 +17,9 @@ mod edit;
 mod fault;
 mod insertion;
 mod kind;
+mod labels;
+mod placing;
+mod relocation;
 mod renaming;
 mod renewal;
 mod seam;
@@ -28,6 +32,7 @@ pub use deletion::delete;
 pub use edit::{Edit, Edited, apply};
 pub use fault::EditFault;
 pub use insertion::insert;
+pub use relocation::relocate;
 pub use renaming::rename;
 pub use text::set_text;
 pub use xt_io::Line;

@@ -116,8 +116,8 @@ fn whole_fault(
     )
 }
 
-// The number after those of these nodes and of all below them, which are numbered from `first` on.
-fn number_after(first: u64, nodes: &[Rc<Node>]) -> u64
+/// The number after those of these nodes and of all below them, which are numbered from `first` on.
+pub(crate) fn number_after(first: u64, nodes: &[Rc<Node>]) -> u64
     requires { first + size (forest_of nodes.now) ≤ number_limit }
     ensures { result ≡ first + size (forest_of nodes.now) }
 {

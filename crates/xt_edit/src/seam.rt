@@ -3,7 +3,7 @@ ghost use Rattle.std.specs.Prelude.{◌≡◌, ◌+◌, ◌≤◌, IfOk, OnOk};
 ghost use Rattle.std.specs.Option.{ForSome};
 ghost use Rattle.spec_document.specs.Forest.{followed};
 ghost use Rattle.spec_document.specs.Place.{node_at};
-ghost use Rattle.spec_edit.specs.Splice.{met, sibling_count};
+ghost use Rattle.spec_edit.specs.Splice.{met};
 ghost use Rattle.xt_edit.specs.Changed.{taken_out, with_children};
 ghost use Rattle.xt_edit.specs.Seam as spec;
 ghost use Rattle.xt_edit.specs.Seam.{alone, between, one_of, put_in};
@@ -37,7 +37,8 @@ pub(crate) fn take_out(alloc: Global, document: &Doc, site: Site<'_>) -> Result<
 }
 
 /// The document in which these nodes stand in place of the children from the index `from` up to, but not including,
-/// `to`, of the node that the positions lead to. Texts that become neighbours are one, with the number of the first.
+/// `to`, of the node that the positions lead to; an index past the last child is the one after it. Texts that become
+/// neighbours are one, with the number of the first.
 pub(crate) fn put_between(
     alloc: Global,
     document: &Doc,
@@ -47,11 +48,11 @@ pub(crate) fn put_between(
     nodes: &[Rc<Node>],
 ) -> Result<Doc, Memory>
     requires order { from ≤ to }
-    requires within { ForSome (node_at document.now parent.now) (λ node. from ≤ sibling_count node.children) }
     requires stands { Stands (with_children (put_in from to (forest_of nodes.now)) parent.now document.now) }
     ensures { IfOk result (λ new. new ≡ with_children (put_in from to (forest_of nodes.now)) parent.now document.now) }
 {
     let siblings = children_of(document, parent);
+    let from = from.min(siblings.len());
     let before = text_before(siblings, from);
     let after = text_at(siblings, to);
     let start = from - one_of(before);
@@ -60,8 +61,8 @@ pub(crate) fn put_between(
     document.spliced(alloc, parent, start, end, joined)
 }
 
-// The nodes directly below the node that these positions lead to.
-fn children_of<'a>(document: &'a Doc, parent: &[u64]) -> &'a [Rc<Node>]
+/// The nodes directly below the node that these positions lead to.
+pub(crate) fn children_of<'a>(document: &'a Doc, parent: &[u64]) -> &'a [Rc<Node>]
     ensures { ForSome (node_at document.now parent.now) (λ node. forest_of result.now ≡ node.children) }
 {
     document.children_at(parent).unwrap_or(&[])

@@ -2,6 +2,7 @@
 ghost use Rattle.std.specs.Prelude.{◌≡◌, ◌+◌, length};
 ghost use Rattle.std.specs.Option.{option_map};
 ghost use Rattle.spec_edit.specs.Splice as spec;
+ghost use Rattle.xt_edit.specs.Moving.{IsOrigin};
 ghost use Rattle.xt_edit.specs.Site.{IsSite, spot_in};
 ghost use Rattle.xt_edit.specs.Standing.{Stands};
 ghost use Rattle.xt_edit.specs.declared.fault.EditFault.TheVariants.{Refused};
@@ -51,10 +52,20 @@ pub(crate) fn spot_of(path: &Path) -> Option<Spot<'_>>
 pub(crate) fn site_at<'a>(document: &'a Doc, path: &'a Path) -> Result<Site<'a>, EditFault>
     ensures { IsSite document.now path.now result }
 {
+    match origin_at(document, path) {
+        Ok(site) => Ok(site),
+        Err(code) => Err(refused(code)),
+    }
+}
+
+/// The same with the code alone.
+pub(crate) fn origin_at<'a>(document: &'a Doc, path: &'a Path) -> Result<Site<'a>, EditCode>
+    ensures { IsOrigin document.now path.now result }
+{
     match spot_of(path) {
-        None => Err(refused(EditCode::WrongKind)),
+        None => Err(EditCode::WrongKind),
         Some(spot) => match document.node_at(path.positions()) {
-            None => Err(refused(EditCode::NoPlace)),
+            None => Err(EditCode::NoPlace),
             Some(node) => Ok(Site { spot, node }),
         },
     }

@@ -14,9 +14,7 @@ returns c =
     let children = forest_of c.args.children.now in
     let left = c.saturating_sub-left.result in
     let count = c.in_ok-count.count in
-    tree_told c.args.around.now c.in_ok-inside.inside c.args.depth c.saturating_add-below.result c.args.first (nat_le left count) content children
-    c.check_content.new.found c.check_nodes.new.found _ c.in_ok-inside.ensures (λ h. omega arith) (λ h. omega arith) c.in_ok-check_content.ensures
-    c.in_ok-count.ensures.faults
+    tree_told c.args.around.now c.args.depth c.args.first (nat_le left count) content children c.check_tree.new.found _ c.in_ok-count.ensures.faults
     (λ k. let enough : left ≤ count = leb-true left count k in omega (arith, c.in_ok-count.ensures.count))
     (λ k. le-leb left count (omega (arith, c.in_ok-count.ensures.count)))
     (c.or_too_many.ensures ∙ ap (λ o. merged (at_no_line o) (least (fault_if (nat_le left count) 12 0))) c.code_of.ensures)
