@@ -10,9 +10,10 @@ use Rattle.spec_document.specs.Forest.{Plain, Document, plain}
 use Rattle.spec_document.specs.Fault.{Fault}
 use Rattle.spec_edit.specs.Edit as edits
 use Rattle.spec_edit.specs.Edit.{Edit, Edited}
+use Rattle.spec_move.specs.Move.{moved_document}
 use Rattle.spec_session.specs.Command.{Command}
 use Rattle.spec_session.specs.Request.{DocumentName, SourceName, ModuleName, Request, SetSource, SetModule}
-use Rattle.spec_session.specs.Request.{DropModule, Insert, Delete, SetText, SetAttribute, RemoveAttribute, Rename}
+use Rattle.spec_session.specs.Request.{DropModule, Insert, Delete, SetText, SetAttribute, RemoveAttribute, Rename, Move}
 use Rattle.spec_session.specs.Request.{SetParameter, Show, Write, Messages, Dump, Statistics, request_by, Words, is_text, is_taken, or_number, asked_by}
 use Rattle.spec_session.specs.Request.{words_of}
 use Rattle.spec_structure.specs.Modules.{is_among}
@@ -23,6 +24,7 @@ use Rattle.spec_session.specs.Machine.{kept_by, dropped_by, given_by, with_docum
 use Rattle.spec_session.proofs.Steps.{AreFinite, IsOther, finite_after}
 use Rattle.spec_session.proofs.FaultNumbers.{FaultIsAbove, fault-above}
 use Rattle.spec_session.proofs.EditFaults.{edit-above}
+use Rattle.spec_session.proofs.MoveFaults.{move-above}
 
 -- ---- The modules
 
@@ -77,12 +79,17 @@ finite_at : (document : DocumentName) (nodes : Plain) (old : Documents) → AreF
 finite_at SourceName nodes old finite = finite_source nodes old finite
 finite_at (ModuleName name) nodes old finite = finite_with name nodes old finite
 
+changed : (old : State) → AreFinite old.documents → (document : DocumentName) (result : Result (Edited (Unit {0})) Fault) → FaultIsAbove result
+    → IsOther (edited_by old document result)
+changed old finite document (Err fault) h = h
+changed old finite document (Ok edited) h = finite_at document edited.nodes old.documents finite
+
 edited : (old : State) → AreFinite old.documents → (document : DocumentName) (edit : Edit) → IsOther (edited_in old document edit)
-edited old finite document edit = go _ (edit-above old.made edit (document_named old document))
-  where
-    go : (result : Result (Edited (Unit {0})) Fault) → FaultIsAbove result → IsOther (edited_by old document result)
-    go (Err fault) h = h
-    go (Ok edited) h = finite_at document edited.nodes old.documents finite
+edited old finite document edit = changed old finite document _ (edit-above old.made edit (document_named old document))
+
+moved : (old : State) → AreFinite old.documents → (document : DocumentName) (path other : List ℕ)
+    → IsOther (edited_by old document (moved_document old.made path other (document_named old document)))
+moved old finite document path other = changed old finite document _ (move-above old.made path other (document_named old document))
 
 shown : (o : Option Plain) → IsOther (shows o)
 shown None = lit< tt
@@ -102,6 +109,7 @@ to old finite (SetText document path value) = edited old finite document (edits.
 to old finite (SetAttribute document path name value) = edited old finite document (edits.SetAttribute path name value)
 to old finite (RemoveAttribute document path name) = edited old finite document (edits.RemoveAttribute path name)
 to old finite (Rename document path name) = edited old finite document (edits.Rename path name)
+to old finite (Move document path other) = moved old finite document path other
 to old finite (SetParameter name value) = given name value old finite
 to old finite Write = tt
 to old finite Messages = tt

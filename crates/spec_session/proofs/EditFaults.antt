@@ -18,7 +18,7 @@ use Rattle.spec_edit.specs.Edit.{is_document_element, is_named, with_attribute, 
 use Rattle.spec_edit.specs.Edit.{makes_anew, attributes_changed, attribute_set, attribute_removed, renamed}
 use Rattle.spec_session.proofs.FaultNumbers.{Above, FaultIsAbove, both, answer-above, content-above, node-above, number-above, not_utf8-above, nodes-above}
 
-either : {A : Type 0} (b : Bool) (x y : Result A Fault) → FaultIsAbove x → FaultIsAbove y → FaultIsAbove (if b then x else y)
+pub either : {A : Type 0} (b : Bool) (x y : Result A Fault) → FaultIsAbove x → FaultIsAbove y → FaultIsAbove (if b then x else y)
 either true x y h k = h
 either false x y h k = k
 
@@ -94,7 +94,7 @@ renamed-above anew first spot document name node (Instruction target text) = ren
 
 -- ---- Each edit
 
-node-found : {L : Type 0} (change : Found L → Content → Result (Edited L) Fault) (found : Option (Found L))
+pub node-found : {L : Type 0} (change : Found L → Content → Result (Edited L) Fault) (found : Option (Found L))
     → ((node : Found L) (content : Content) → FaultIsAbove (change node content)) → FaultIsAbove (by_node change found)
 node-found {L} change None each = lit< tt
 node-found {L} change (Some node) each = content-found node.content
@@ -103,7 +103,7 @@ node-found {L} change (Some node) each = content-found node.content
     content-found None = lit< tt
     content-found (Some content) = each node content
 
-spot-found : {L : Type 0} (path : List ℕ) (change : Spot → Result (Edited L) Fault) → ((spot : Spot) → FaultIsAbove (change spot))
+pub spot-found : {L : Type 0} (path : List ℕ) (change : Spot → Result (Edited L) Fault) → ((spot : Spot) → FaultIsAbove (change spot))
     → FaultIsAbove (at_spot path change)
 spot-found [] change each = lit< tt
 spot-found (position ∷ positions) change each = each _

@@ -34,7 +34,7 @@ pub both : (xs ys : List Fault) → Above xs → Above ys → Above (xs ++ ys)
 both [] ys a b = b
 both (x ∷ xs) ys a b = (a.0, both xs ys a.1 b)
 
-one_if : (b : Bool) (number line : ℕ) → 1 < number → Above (fault_if b number line)
+pub one_if : (b : Bool) (number line : ℕ) → 1 < number → Above (fault_if b number line)
 one_if true number line h = (h, tt)
 one_if false number line h = tt
 
@@ -105,7 +105,7 @@ document-above scope first f =
     answer-above _ _ (both _ _ (both _ _ (both _ _ (element-above 0 (elements_at_top f)) (text-above f)) (node-above scope 1 f))
     (number-above (drop (number_limit - first) (0 ∷ map (λ l. l.first) (labels (without_texts f)))))) tt
 
-top-above : (others : Option ℕ) (f : Forest LineNumbers) → Above (top_faults others f)
+pub top-above : (others : Option ℕ) (f : Forest LineNumbers) → Above (top_faults others f)
 top-above None f = tt
 top-above (Some others) f = both _ _ (element-above others (elements_at_top f)) (text-above f)
 

@@ -7,7 +7,7 @@ use Rattle.spec_document.specs.Character.{is_char, is_name_start, is_name_part}
 use Rattle.spec_document.specs.Forest.{Plain, Empty, Node, Element, Text, Comment, lines_of}
 use Rattle.spec_session.specs.declared.kinds.Ending.TheVariants.{Finished, Quit, Unfinished}
 use Rattle.spec_session.specs.Command.{session_of, status_of}
-use Rattle.spec_session.specs.Request.{Request, SetSource, SetModule, DropModule, Insert, Delete, SetText, SetAttribute, RemoveAttribute, Rename}
+use Rattle.spec_session.specs.Request.{Request, SetSource, SetModule, DropModule, Insert, Delete, SetText, SetAttribute, RemoveAttribute, Rename, Move}
 use Rattle.spec_session.specs.Request.{SetParameter, Write, Messages, Dump, SourceName, ModuleName, words_of, asked_by, request_of, path_of}
 use Rattle.spec_run.specs.Documents.{Documents, no_documents, with_source, with_module, without_module, with_parameter}
 use Rattle.spec_structure.specs.Modules.{reads, no_link, no_fault}
@@ -93,7 +93,11 @@ pub rename_asks : asks (codes "rename source /2 p:b") ≡ Ok (Rename SourceName 
 unfolding chars is_utf8 encode
 rename_asks = refl
 
--- a path ends the line of `insert` and of `delete`, a name that of `unattr` and of `rename`
+pub move_asks : asks (codes "move source /1/2 /2") ≡ Ok (Move SourceName (1 ∷ 2 ∷ []) (2 ∷ []))
+unfolding chars is_utf8 encode
+move_asks = refl
+
+-- a path ends the line of `insert`, of `delete` and of `move`, a name that of `unattr` and of `rename`
 pub insert_with_a_value : asks (codes "insert source /1 x") ≡ Err 4
 unfolding chars is_utf8 encode
 insert_with_a_value = refl
@@ -101,6 +105,23 @@ insert_with_a_value = refl
 pub delete_without_a_path : asks (codes "delete source") ≡ Err 4
 unfolding chars is_utf8 encode
 delete_without_a_path = refl
+
+pub move_with_one_path : asks (codes "move source /1") ≡ Err 4
+unfolding chars is_utf8 encode
+move_with_one_path = refl
+
+pub move_with_three_paths : asks (codes "move source /1 /2 /3") ≡ Err 4
+unfolding chars is_utf8 encode
+move_with_three_paths = refl
+
+pub move_to_no_path : asks (codes "move source /1 2") ≡ Err 4
+unfolding chars is_utf8 encode
+move_to_no_path = refl
+
+-- only the word in lower case is the command
+pub no_other_case : asks (codes "Move source /1 /2") ≡ Err 3
+unfolding chars is_utf8 encode
+no_other_case = refl
 
 pub rename_with_two_names : asks (codes "rename source /1 b c") ≡ Err 4
 unfolding chars is_utf8 encode
@@ -305,6 +326,34 @@ no_such_attribute = refl
 pub least_refusals : answer_to edited (SetText (ModuleName (codes "main")) [] (1 ∷ [])) ∷ answer_to edited (SetText SourceName (9 ∷ []) (1 ∷ [])) ∷ []
     ≡ Refuses 5 ∷ Refuses 6 ∷ []
 least_refusals = refl
+
+-- ---- What a move comes to
+
+abbrev empty_before : List ℕ → Plain → Plain
+empty_before name siblings = Node tt (Element name []) Empty siblings
+
+-- <a><b/><c/></a>
+abbrev moved : State
+moved = with_nodes (in_a (empty_before (codes "b") (empty_before (codes "c") Empty))) 4
+
+-- before the other child: the node stays the same, so nothing is made
+pub move_to_the_front : answer_to moved (Move SourceName (1 ∷ 2 ∷ []) (1 ∷ 1 ∷ []))
+    ≡ Changes (with_nodes (in_a (empty_before (codes "c") (empty_before (codes "b") Empty))) 4)
+move_to_the_front = refl
+
+-- before the sibling behind it, where it stands already, and before itself
+pub move_to_its_place : answer_to moved (Move SourceName (1 ∷ 1 ∷ []) (1 ∷ 2 ∷ [])) ∷ answer_to moved (Move SourceName (1 ∷ 1 ∷ []) (1 ∷ 1 ∷ [])) ∷ []
+    ≡ Changes moved ∷ Changes moved ∷ []
+move_to_its_place = refl
+
+pub move_below_itself : answer_to moved (Move SourceName (1 ∷ []) (1 ∷ 1 ∷ [])) ≡ Refuses 15
+move_below_itself = refl
+
+pub move_of_no_node : answer_to moved (Move SourceName (1 ∷ 9 ∷ []) (1 ∷ 1 ∷ [])) ≡ Refuses 6
+move_of_no_node = refl
+
+pub move_of_the_root : answer_to moved (Move SourceName [] (1 ∷ 1 ∷ [])) ≡ Refuses 7
+move_of_the_root = refl
 
 -- ---- Replies
 

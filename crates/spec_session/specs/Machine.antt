@@ -9,10 +9,11 @@ use Rattle.spec_document.specs.Document.{document_of}
 use Rattle.spec_document.specs.Name.{Expanded}
 use Rattle.spec_edit.specs.Edit as edits
 use Rattle.spec_edit.specs.Edit.{Edit, Edited, edited_document}
+use Rattle.spec_move.specs.Move.{moved_document}
 use Rattle.spec_stylesheet.specs.declared.method.Method.{Method}
 use Rattle.spec_stylesheet.specs.declared.method.Method.TheVariants as method
 use Rattle.spec_session.specs.Command.{Command}
-use Rattle.spec_session.specs.Request.{DocumentName, SourceName, ModuleName, Request, SetSource, SetModule, DropModule, Insert, Delete, SetText, SetAttribute, RemoveAttribute, Rename, SetParameter, Show, Write, Messages, Dump, Statistics, request_of}
+use Rattle.spec_session.specs.Request.{DocumentName, SourceName, ModuleName, Request, SetSource, SetModule, DropModule, Insert, Delete, SetText, SetAttribute, RemoveAttribute, Rename, Move, SetParameter, Show, Write, Messages, Dump, Statistics, request_of}
 use Rattle.spec_run.specs.Documents.{Documents, no_documents, with_source, with_module, without_module, with_parameter, parameter_fault}
 use Rattle.spec_run.specs.Outcome.{Outcome, Done, Failed, IsOutcome}
 use Rattle.spec_session.specs.Reply.{Reply, OkDone, OkRefused, Refused, Shown, Written, No}
@@ -99,6 +100,7 @@ answer_to old (SetText document path value) = edited_in old document (edits.SetT
 answer_to old (SetAttribute document path name value) = edited_in old document (edits.SetAttribute path name value)
 answer_to old (RemoveAttribute document path name) = edited_in old document (edits.RemoveAttribute path name)
 answer_to old (Rename document path name) = edited_in old document (edits.Rename path name)
+answer_to old (Move document path other) = edited_by old document (moved_document old.made path other (document_named old document))
 -- whatever else a command may ask is not taken: its word is no command
 answer_to old Statistics = Refuses 3
 

@@ -25,6 +25,7 @@ pub data Request : Type 0 where
   SetAttribute : (document : DocumentName) → (path : List ℕ) → (name : List ℕ) → (value : List ℕ) → Request
   RemoveAttribute : (document : DocumentName) → (path : List ℕ) → (name : List ℕ) → Request
   Rename : (document : DocumentName) → (path : List ℕ) → (name : List ℕ) → Request
+  Move : (document : DocumentName) → (path other : List ℕ) → Request
   SetParameter : (name : List ℕ) → (value : List ℕ) → Request
   Show : Request
   Write : Request
@@ -158,6 +159,11 @@ unattribute_form rest body = option_and_then (λ target. option_map (RemoveAttri
 abbrev pub rename_form : Form
 rename_form rest body = option_and_then (λ target. option_map (Rename target.document target.path) (only_word target.rest)) (target_of rest)
 
+-- a second path stands alone behind the first
+abbrev pub move_form : Form
+move_form rest body =
+    option_and_then (λ target. option_map (Move target.document target.path) (option_and_then path_of (only_word target.rest))) (target_of rest)
+
 abbrev pub parameter_form : Form
 parameter_form rest body = option_map (λ name. SetParameter name.first (value_of name.rest)) (next_word rest)
 
@@ -186,6 +192,7 @@ commands =
     ∷ (codes "attr", attribute_form)
     ∷ (codes "unattr", unattribute_form)
     ∷ (codes "rename", rename_form)
+    ∷ (codes "move", move_form)
     ∷ (codes "param", parameter_form)
     ∷ (codes "write", word_form Write)
     ∷ (codes "messages", word_form Messages)
@@ -196,7 +203,7 @@ commands =
 abbrev pub taken_words : List (List ℕ)
 taken_words =
     codes "source" ∷ codes "module" ∷ codes "show" ∷ codes "dump" ∷ codes "quit" ∷ codes "write" ∷ codes "param" ∷ codes "messages"
-    ∷ codes "insert" ∷ codes "delete" ∷ codes "text" ∷ codes "attr" ∷ codes "unattr" ∷ codes "rename" ∷ codes "drop" ∷ []
+    ∷ codes "insert" ∷ codes "delete" ∷ codes "text" ∷ codes "attr" ∷ codes "unattr" ∷ codes "rename" ∷ codes "drop" ∷ codes "move" ∷ []
 
 abbrev pub is_taken : List ℕ → Bool
 is_taken word = list_any (λ taken. bytes_eq word taken) taken_words

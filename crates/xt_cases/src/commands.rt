@@ -89,6 +89,15 @@ fn push_edit(out: &mut Text, edit: &Command) -> Result<(), Memory> {
             push_target(out, "rename", document, path)?;
             push_text(out, name)
         }
+        Command::Move {
+            document,
+            path,
+            other,
+        } => {
+            push_target(out, "move", document, path)?;
+            part(out)?;
+            push_path(out, other)
+        }
         _ => push_part(out, "?"),
     }
 }

@@ -9,6 +9,7 @@ use Rattle.std.specs.declared.string.String.{String}
 use Rattle.spec_document.specs.Fault.{Fault}
 use Rattle.spec_document.specs.Forest.{Plain, Document, size}
 use Rattle.spec_edit.specs.Edit.{Edit, Edited, edited_document}
+use Rattle.spec_move.specs.Move.{moved_document}
 use Rattle.spec_run.specs.Documents.{Documents, with_source, with_module, without_module, with_parameter, parameter_fault}
 use Rattle.spec_run.specs.Outcome as spec
 use Rattle.spec_run.specs.Outcome.{IsOutcome}
@@ -152,14 +153,20 @@ Prepares with_it held answer (Err faults.Memory) = Unit {0}
 abbrev pub IsEdited : DocName → Edited (Unit {0}) → Held → Ready → Type 0
 IsEdited name new held ready = IsReady (with_document name new.nodes) (made_of held + new.made) held ready
 
--- where the document of this name is to be edited so: it is held as it is edited, or the least refusal is answered
+-- where this is what the document of this name becomes: it is held so, or the least refusal is answered
+abbrev pub PreparesEdited : DocName → Held → Result (Edited (Unit {0})) Fault → Result Ready EditFault → Type 0
+PreparesEdited name held answer (Ok ready) = (new : Edited (Unit {0})) × (answer ≡ Ok new) × IsEdited name new held ready
+PreparesEdited name held answer (Err (faults.Refused code line)) = answer ≡ Err (record { number = edit_number code; line = line })
+PreparesEdited name held answer (Err faults.Memory) = Unit {0}
+
+-- where it is to be edited so, and where the node at a path of it is to move before what is at another
 abbrev pub PreparesEdit : DocName → Edit → Held → Result Ready EditFault → Type 0
-PreparesEdit name edit held (Ok ready) =
-    (new : Edited (Unit {0})) × (edited_document (made_of held) edit (document_named name (documents_of held)) ≡ Ok new)
-    × IsEdited name new held ready
-PreparesEdit name edit held (Err (faults.Refused code line)) =
-    edited_document (made_of held) edit (document_named name (documents_of held)) ≡ Err (record { number = edit_number code; line = line })
-PreparesEdit name edit held (Err faults.Memory) = Unit {0}
+PreparesEdit name edit held result =
+    PreparesEdited name held (edited_document (made_of held) edit (document_named name (documents_of held))) result
+
+abbrev pub PreparesMove : DocName → (path other : List ℕ) → Held → Result Ready EditFault → Type 0
+PreparesMove name path other held result =
+    PreparesEdited name held (moved_document (made_of held) path other (document_named name (documents_of held))) result
 
 -- where the module of this name is to be dropped, which makes no node: 5 where there is none
 abbrev pub PreparesDrop : (name : List ℕ) → Held → Result Ready EditFault → Type 0

@@ -8,13 +8,14 @@ ghost use Rattle.spec_document.specs.Document.{document_of};
 ghost use Rattle.spec_document.specs.Forest.{size};
 ghost use Rattle.spec_document.specs.Scope.{root_scope};
 ghost use Rattle.spec_edit.specs.Edit.{edited_or_missing};
+ghost use Rattle.spec_move.specs.Move.{moved_document};
 ghost use Rattle.spec_run.specs.Documents.{no_documents, with_module, with_parameter, with_source, without_module};
 ghost use Rattle.xt_build.specs.View.{Builds, document_in};
 ghost use Rattle.xt_edit.specs.View.{AreBelow, EditsPlain, edit_of};
 ghost use Rattle.xt_import.specs.View.{is_name, plain_of};
 ghost use Rattle.xt_world.specs.ParameterView.{HasRoomForOne};
 ghost use Rattle.xt_repair.specs.OutcomeView.{outcome_of, plain_in};
-ghost use Rattle.xt_repair.specs.View.{HasBelow, HasRoom, IsBelow, IsCurrent, IsKept, IsMadeFrom, IsReady, Prepares, PreparesDrop, PreparesEdit, PreparesParameter, changed_by, document_named, documents_of, edit_fault_of, made_of, next_compiled, next_documents, next_made, next_outcome, numbered_document, outcome_in, with_document};
+ghost use Rattle.xt_repair.specs.View.{HasBelow, HasRoom, IsBelow, IsCurrent, IsKept, IsMadeFrom, IsReady, Prepares, PreparesDrop, PreparesEdit, PreparesMove, PreparesParameter, changed_by, document_named, documents_of, edit_fault_of, made_of, next_compiled, next_documents, next_made, next_outcome, numbered_document, outcome_in, with_document};
 
 use crate::name::DocName;
 use crate::outcome::{Outcome, at_no_element, outcome_of};
@@ -29,10 +30,10 @@ use std::alloc::Global;
 use std::mem;
 use xt_base::EditCode;
 use xt_build::{BuildFault, Built, build};
-use xt_edit::{Edit, EditFault, Edited, apply};
+use xt_edit::{Edit, EditFault, Edited, apply, relocate};
 use xt_io::Line;
 use xt_names::Scope;
-use xt_text::{Memory, Text};
+use xt_text::{Memory, Path, Text};
 use xt_tree::{Doc, NodeId};
 use xt_world::Parameters;
 
@@ -136,6 +137,25 @@ impl Held {
         }
     }
 
+    /// Makes ready that the node at the path `path` of the document of this name stands before what is at the path
+    /// `other`, or after the last child there. Else the least of the faults: 5 where there is no such document; 6, 7, 9
+    /// to 12, 14 or 15 as `relocate` of `xt_edit` says. Nothing is changed but that room is made. A move in the source
+    /// reads no module again.
+    pub fn relocate(
+        &mut self,
+        alloc: Global,
+        name: DocName<'_>,
+        path: &Path,
+        other: &Path,
+    ) -> Result<Ready, EditFault>
+        requires { IsCurrent self.old }
+        ensures answer { PreparesMove name.entry path.now other.now self.new result }
+        ensures kept { IsKept self.old self.new }
+    {
+        let Edited { document, next } = self.relocated(alloc, name, path, other)?;
+        Ok(self.document_ready(alloc, name, document, next)?)
+    }
+
     /// Makes ready that the parameter of this name is given this value (XSLT 1.0, section 11.4): 8 where the value has
     /// a character that is none of XML, else 10 where the name is no NCName. Nothing is changed but that room is made.
     pub fn set_param(
@@ -221,6 +241,27 @@ impl Held {
     {
         match self.found(name) {
             Some(document) => apply(alloc, document, edit, self.next),
+            None => Err(EditFault::Refused {
+                code: EditCode::NoDocument,
+                line: 0,
+            }),
+        }
+    }
+
+    // What the document of this name is where the node at the path `path` has moved to the path `other`.
+    fn relocated(
+        &self,
+        alloc: Global,
+        name: DocName<'_>,
+        path: &Path,
+        other: &Path,
+    ) -> Result<Edited, EditFault>
+        requires { IsCurrent self.now }
+        ensures answer { EditsPlain (made_of self.now) result (moved_document (made_of self.now) path.now other.now (document_named name.entry (documents_of self.now))) }
+        ensures below { IfOk result (λ edited. AreBelow edited.next.number edited.document) }
+    {
+        match self.found(name) {
+            Some(document) => relocate(alloc, document, path, other, self.next),
             None => Err(EditFault::Refused {
                 code: EditCode::NoDocument,
                 line: 0,

@@ -1,7 +1,7 @@
 //! What a session holds: the source, the modules by name, the values that parameters are given, and the outcome of the
 //! transformation, which is that of all these. A change is made ready first, with the outcome that it will have, and
 //! then adopted, so that a refused or failing one leaves all as it was. A document is given whole, or edited by path
-//! with `edit`.
+//! with `edit`, or a node of it moves with `relocate`.
 //!
 //! So far the outcome of a change is that of a run from nothing. The modules are compiled again where one changes.
 //!
@@ -11,6 +11,7 @@
 //! let outcome = ready.outcome();                     // what it will come to
 //! held.adopt(ready);                                 // takes no memory
 //! let ready = held.edit(alloc, name, &edit)?;        // a document by its name, edited by path
+//! let ready = held.relocate(alloc, name, &path, &other)?;  // a node of it moved, by two paths
 //! let ready = held.set_param(alloc, name, value)?;   // the same for a parameter
 //! let ready = held.drop_module(alloc, name)?;        // a module taken away
 //! ```

@@ -5,14 +5,14 @@ use Rattle.std.specs.Str.{encode_utf8_all}
 use Rattle.spec_document.specs.Fault.{Fault}
 use Rattle.spec_document.specs.Forest.{Plain, Document, lines_of, texts_in}
 use Rattle.spec_document.specs.Name.{Expanded}
-use Rattle.spec_edit.specs.Edit.{Edit, Edited, edited_document}
+use Rattle.spec_edit.specs.Edit.{Edited}
 use Rattle.spec_stylesheet.specs.declared.method.Method.{Method}
 use Rattle.spec_stylesheet.specs.declared.method.Method.TheVariants as method
 use Rattle.spec_run.specs.Documents.{Documents, with_parameter, without_module}
 use Rattle.spec_run.specs.Outcome.{Outcome, IsOutcome}
 use Rattle.spec_session.specs.Command.{Command}
-use Rattle.spec_session.specs.Machine.{State, Changes, ShowsResult, WritesResult, ShowsMessages, ShowsDocument, Refuses, kept_in, kept_by}
-use Rattle.spec_session.specs.Machine.{document_named, with_document, edited_by, edited_in}
+use Rattle.spec_session.specs.Machine.{State, Answer, Changes, ShowsResult, WritesResult, ShowsMessages, ShowsDocument, Refuses, kept_in, kept_by}
+use Rattle.spec_session.specs.Machine.{document_named, with_document, edited_by}
 use Rattle.spec_session.specs.Machine.{shows, dropped_by, given_by, change_reply, result_reply, written_by, written_reply, messages_reply, answer_by, answer_to, Gives, Step}
 use Rattle.spec_session.specs.Request.{DocumentName, Request, request_of}
 use Rattle.spec_session.specs.Reply.{Reply, No, Shown, Written, reply_text}
@@ -113,8 +113,8 @@ pub gives_fault : (old : State) (make : Plain → Documents → Documents) (buil
 gives_fault old make built fault text e is =
     subst (λ (r : Result (Document ℕ) Fault). GivesText old (kept_by make old r) text old) (sym e) (gives_refusal old fault.number text is)
 
--- of an edit: the document of this name, whatever it is called where it is held, is held as it is edited, after what changed nothing, or the edit's
--- least refusal is answered
+-- of an edit, or of a move: the document of this name, whatever it is called where it is held, is held as it is edited, after what changed nothing, or
+-- the least refusal is answered
 named_same : (name : DocName) (old : State) → repair.document_named name old.documents ≡ document_named old (name_in name)
 named_same names.Source old = refl
 named_same (names.Module name) old = refl
@@ -123,32 +123,39 @@ with_same : (name : DocName) → repair.with_document name ≡ with_document (na
 with_same names.Source = refl
 with_same (names.Module name) = refl
 
-edited_as : (name : DocName) (edit : Edit) (asked : DocumentName) (old : State) (text : List ℕ) (new : State) (r : Result (Edited (Unit {0})) Fault)
-    → name_in name ≡ asked → edited_document old.made edit (repair.document_named name old.documents) ≡ r
-    → GivesText old (edited_by old (name_in name) r) text new → GivesText old (edited_in old asked edit) text new
-edited_as name edit asked old text new r same e gives =
-    let is : edited_document old.made edit (document_named old (name_in name)) ≡ r
-    = ap (edited_document old.made edit) (sym (named_same name old)) ∙ e in
-    subst (λ (n : DocumentName). GivesText old (edited_in old n edit) text new) same
+-- what an edit of a document, so many nodes were made before, is answered; of the document that is held
+abbrev pub Edits : Type 0
+Edits = (made : ℕ) → Option Plain → Result (Edited (Unit {0})) Fault
+
+abbrev edited_so : Edits → State → DocumentName → Answer
+edited_so change old asked = edited_by old asked (change old.made (document_named old asked))
+
+edited_as : (name : DocName) (change : Edits) (asked : DocumentName) (old : State) (text : List ℕ) (new : State) (r : Result (Edited (Unit {0})) Fault)
+    → name_in name ≡ asked → change old.made (repair.document_named name old.documents) ≡ r
+    → GivesText old (edited_by old (name_in name) r) text new → GivesText old (edited_so change old asked) text new
+edited_as name change asked old text new r same e gives =
+    let is : change old.made (document_named old (name_in name)) ≡ r
+    = ap (change old.made) (sym (named_same name old)) ∙ e in
+    subst (λ (n : DocumentName). GivesText old (edited_so change old n) text new) same
     (subst (λ (answer : Result (Edited (Unit {0})) Fault). GivesText old (edited_by old (name_in name) answer) text new) (sym is) gives)
 
-pub gives_edited : (name : DocName) (edit : Edit) (asked : DocumentName) (first : State) (edited : Edited (Unit {0})) {old next new : State} {text : List ℕ}
-    → name_in name ≡ asked → old ≡ first → edited_document old.made edit (repair.document_named name old.documents) ≡ Ok edited
+pub gives_edited : (name : DocName) (change : Edits) (asked : DocumentName) (first : State) (edited : Edited (Unit {0})) {old next new : State} {text : List ℕ}
+    → name_in name ≡ asked → old ≡ first → change old.made (repair.document_named name old.documents) ≡ Ok edited
     → GivesText old (Changes next) text new
     → next ≡ record { documents = repair.with_document name edited.nodes old.documents; made = old.made + edited.made }
-    → GivesText first (edited_in first asked edit) text new
-gives_edited name edit asked first edited {old = old} {next = next} {new = new} {text = text} same kept e gives is =
+    → GivesText first (edited_by first asked (change first.made (document_named first asked))) text new
+gives_edited name change asked first edited {old = old} {next = next} {new = new} {text = text} same kept e gives is =
     let put : next ≡ record { documents = with_document (name_in name) edited.nodes old.documents; made = old.made + edited.made }
     = is ∙ λ i. record { documents = with_same name i edited.nodes old.documents; made = old.made + edited.made } in
-    subst (λ (s : State). GivesText s (edited_in s asked edit) text new) kept
-    (edited_as name edit asked old text new (Ok edited) same e (subst (λ (s : State). GivesText old (Changes s) text new) put gives))
+    subst (λ (s : State). GivesText s (edited_so change s asked) text new) kept
+    (edited_as name change asked old text new (Ok edited) same e (subst (λ (s : State). GivesText old (Changes s) text new) put gives))
 
-pub gives_not_edited : (name : DocName) (edit : Edit) (asked : DocumentName) (first : State) (fault : Fault) {old : State} {text : List ℕ}
-    → name_in name ≡ asked → old ≡ first → edited_document old.made edit (repair.document_named name old.documents) ≡ Err fault
-    → text ≡ reply_text (No fault.number) → GivesText first (edited_in first asked edit) text old
-gives_not_edited name edit asked first fault {old = old} {text = text} same kept e is =
-    subst (λ (s : State). GivesText s (edited_in s asked edit) text old) kept
-    (edited_as name edit asked old text old (Err fault) same e (gives_refusal old fault.number text is))
+pub gives_not_edited : (name : DocName) (change : Edits) (asked : DocumentName) (first : State) (fault : Fault) {old : State} {text : List ℕ}
+    → name_in name ≡ asked → old ≡ first → change old.made (repair.document_named name old.documents) ≡ Err fault
+    → text ≡ reply_text (No fault.number) → GivesText first (edited_by first asked (change first.made (document_named first asked))) text old
+gives_not_edited name change asked first fault {old = old} {text = text} same kept e is =
+    subst (λ (s : State). GivesText s (edited_so change s asked) text old) kept
+    (edited_as name change asked old text old (Err fault) same e (gives_refusal old fault.number text is))
 
 -- of a parameter: it has the value, after what changed nothing, or it may not have it
 pub gives_given : (name value : List ℕ) (fault : Option ℕ) (first : State) {old next new : State} {text : List ℕ} → old ≡ first → fault ≡ None

@@ -9,7 +9,7 @@ ghost use Rattle.xt_wire.specs.View.{asked_of, name_of};
 ghost use Rattle.xt_session.specs.State.{state_of};
 ghost use Rattle.xt_session.specs.Turn.{GivesReply, GivesText};
 
-use crate::changes::{drop_module, edit, set_module, set_parameter, set_source};
+use crate::changes::{drop_module, edit, relocate, set_module, set_parameter, set_source};
 use crate::command::Command;
 use crate::messages::messages_reply;
 use crate::names::doc_name;
@@ -74,6 +74,11 @@ fn carry_out(alloc: Global, held: &mut Held, asked: xt_wire::Command) -> Result<
         xt_wire::Command::Rename(document, path, name) => {
             change(alloc, held, document, Edit::Rename { path, name })
         }
+        xt_wire::Command::Move {
+            document,
+            path,
+            other,
+        } => relocate(alloc, held, &document, &path, &other),
     }
 }
 

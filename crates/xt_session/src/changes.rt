@@ -3,7 +3,8 @@ ghost use Rattle.std.specs.Prelude.{◌≡◌, IfOk, OnErr};
 ghost use Rattle.spec_document.specs.Document.{document_of};
 ghost use Rattle.spec_document.specs.Scope.{root_scope};
 ghost use Rattle.spec_run.specs.Documents.{parameter_fault, with_module, with_source};
-ghost use Rattle.spec_session.specs.Machine.{dropped_by, edited_in, given_by, kept_by, Changes};
+ghost use Rattle.spec_session.specs.Machine.{answer_to, dropped_by, edited_in, given_by, kept_by, Changes};
+ghost use Rattle.spec_session.specs.Request.{Move};
 ghost use Rattle.xt_edit.specs.View.{edit_of};
 ghost use Rattle.xt_repair.specs.View.{IsCurrent, IsMadeFrom, next_documents, next_made};
 ghost use Rattle.xt_wire.specs.View.{name_of};
@@ -15,7 +16,7 @@ use crate::replies::{change_text, text_of};
 use std::alloc::Global;
 use xt_io::Line;
 use xt_repair::{Edit, EditFault, Held, Ready};
-use xt_text::{Memory, Text};
+use xt_text::{Memory, Path, Text};
 use xt_wire::{DocumentName, Reply};
 
 /// Makes the document of the lines the source, unless they have a fault.
@@ -78,6 +79,26 @@ pub(crate) fn edit(
     ensures current { IsCurrent held.new }
 {
     match held.edit(alloc, doc_name(name), edit) {
+        Ok(ready) => adopt(alloc, held, ready),
+        Err(EditFault::Refused { code, .. }) => text_of(alloc, Reply::No(code)),
+        Err(EditFault::Memory) => Err(Memory),
+    }
+}
+
+/// Moves a node of the document of this name, unless the move is refused.
+pub(crate) fn relocate(
+    alloc: Global,
+    held: &mut Held,
+    name: &DocumentName,
+    path: &Path,
+    other: &Path,
+) -> Result<Text, Memory>
+    requires { IsCurrent held.old }
+    ensures ok { IfOk result (λ text. GivesText (state_of held.old) (answer_to (state_of held.old) (Move (name_of name.now) path.now other.now)) text (state_of held.new)) }
+    ensures err { OnErr result (state_of held.new ≡ state_of held.old) }
+    ensures current { IsCurrent held.new }
+{
+    match held.relocate(alloc, doc_name(name), path, other) {
         Ok(ready) => adopt(alloc, held, ready),
         Err(EditFault::Refused { code, .. }) => text_of(alloc, Reply::No(code)),
         Err(EditFault::Memory) => Err(Memory),

@@ -31,6 +31,7 @@ pub record IsNoCommand (word : List ℕ) : Type 0 where
   pub not_attr : word ≡ codes "attr" → ⊥
   pub not_unattr : word ≡ codes "unattr" → ⊥
   pub not_rename : word ≡ codes "rename" → ⊥
+  pub not_move : word ≡ codes "move" → ⊥
   pub not_drop : word ≡ codes "drop" → ⊥
   pub not_quit : word ≡ codes "quit" → ⊥
 
@@ -50,6 +51,7 @@ not_asked word rest body u n = rw (
   is_other word (codes "attr") u refl n.not_attr,
   is_other word (codes "unattr") u refl n.not_unattr,
   is_other word (codes "rename") u refl n.not_rename,
+  is_other word (codes "move") u refl n.not_move,
   is_other word (codes "drop") u refl n.not_drop,
   is_other word (codes "quit") u refl n.not_quit,
 ) refl

@@ -13,7 +13,7 @@ use Rattle.xt_base.specs.declared.codes.EditCode.TheVariants as edit
 use Rattle.xt_base.specs.declared.place.Place.{Place}
 use Rattle.xt_wire.specs.declared.command.Command.{Command}
 use Rattle.xt_wire.specs.declared.command.Command.TheVariants.{SetSource, SetModule, DropModule, Show, Dump, Write, SetParameter, Messages}
-use Rattle.xt_wire.specs.declared.command.Command.TheVariants.{Insert, Delete, SetText, SetAttribute, RemoveAttribute, Rename}
+use Rattle.xt_wire.specs.declared.command.Command.TheVariants.{Insert, Delete, SetText, SetAttribute, RemoveAttribute, Rename, Move}
 use Rattle.xt_wire.specs.declared.document.DocumentName.{DocumentName}
 use Rattle.xt_wire.specs.declared.document.DocumentName.TheVariants.{Source, Module}
 use Rattle.xt_wire.specs.declared.fault.WireFault.{WireFault}
@@ -63,6 +63,7 @@ asked_of (SetText document path value) = spec.SetText (name_of document) path va
 asked_of (SetAttribute document path name value) = spec.SetAttribute (name_of document) path name value
 asked_of (RemoveAttribute document path name) = spec.RemoveAttribute (name_of document) path name
 asked_of (Rename document path name) = spec.Rename (name_of document) path name
+asked_of (Move document path other) = spec.Move (name_of document) path other
 
 -- the call gives the defined answer, a command or the number of a refusal. Want of memory is free
 abbrev pub Reads : Result Command WireFault → Result Request ℕ → Type 0

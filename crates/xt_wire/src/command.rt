@@ -8,7 +8,8 @@ ghost use Rattle.xt_wire.specs.View.{HasForm, Reads, asked_of, rest_of};
 use crate::WireFault;
 use crate::document::{DocumentName, module_name, read_document};
 use crate::edits::{
-    read_delete, read_insert, read_remove_attribute, read_rename, read_set_attribute, read_set_text,
+    read_delete, read_insert, read_move, read_remove_attribute, read_rename, read_set_attribute,
+    read_set_text,
 };
 use crate::word::{first_word, next_word, only_word, read_value};
 use std::alloc::Global;
@@ -52,6 +53,13 @@ pub enum Command {
     /// `rename DOC PATH NAME`: the name of an element, or the target of a processing instruction. It is one or
     /// more characters without a space.
     Rename(DocumentName, Path, Text),
+    /// `move DOC PATH PATH`: the node at the first path goes, with all below it, and stands again before what is at
+    /// the other.
+    Move {
+        document: DocumentName,
+        path: Path,
+        other: Path,
+    },
 }
 
 impl Command {
@@ -108,6 +116,7 @@ fn read_words(
         "attr" => read_set_attribute(alloc, rest),
         "unattr" => read_remove_attribute(alloc, rest),
         "rename" => read_rename(alloc, rest),
+        "move" => read_move(alloc, rest),
         "drop" => read_drop(alloc, rest),
         // Alone it ends the session and is no command.
         "quit" => Err(WireFault::BadArguments),

@@ -1,10 +1,11 @@
 // From what stands behind the word of an edit to the edit.
 ghost use Rattle.std.specs.Prelude.{[]};
-ghost use Rattle.spec_session.specs.Request.{attribute_form, delete_form, insert_form, rename_form, text_form, unattribute_form};
+ghost use Rattle.spec_session.specs.Request.{attribute_form, delete_form, insert_form, move_form, rename_form, text_form, unattribute_form};
 ghost use Rattle.xt_wire.specs.View.{HasForm, rest_of};
 
 use crate::command::Command;
 use crate::fault::WireFault;
+use crate::path::read_path;
 use crate::target::{Target, read_target};
 use crate::word::{next_word, only_word, read_value};
 use std::alloc::Global;
@@ -105,4 +106,26 @@ pub(crate) fn read_rename(alloc: Global, rest: Option<&str>) -> Result<Command, 
     };
     let name = Text::from_str(alloc, name)?;
     Ok(Command::Rename(document, path, name))
+}
+
+/// `move`: a document and two paths, and nothing behind them.
+pub(crate) fn read_move(alloc: Global, rest: Option<&str>) -> Result<Command, WireFault>
+    ensures { HasForm result (move_form (rest_of rest.entry) []) }
+{
+    let Target {
+        document,
+        path,
+        rest,
+    } = read_target(alloc, rest)?;
+    let Some(place) = only_word(rest) else {
+        return Err(WireFault::BadArguments);
+    };
+    let Some(other) = read_path(alloc, place)? else {
+        return Err(WireFault::BadArguments);
+    };
+    Ok(Command::Move {
+        document,
+        path,
+        other,
+    })
 }

@@ -57,6 +57,10 @@ pub returns-in-rename : goal.returns-in-rename
 returns-in-rename c =
     reads_as c.args.word.now (codes "rename") (rest_of c.args.rest) c.args.body.items c.read_rename.result refl c.in-rename.is c.read_rename.ensures
 
+pub returns-in-move : goal.returns-in-move
+returns-in-move c =
+    reads_as c.args.word.now (codes "move") (rest_of c.args.rest) c.args.body.items c.read_move.result refl c.in-move.is c.read_move.ensures
+
 pub returns-in-drop : goal.returns-in-drop
 returns-in-drop c =
     reads_as c.args.word.now (codes "drop") (rest_of c.args.rest) c.args.body.items c.read_drop.result refl c.in-drop.is c.read_drop.ensures
@@ -80,6 +84,7 @@ returns-in_default c =
       not_attr = c.in_default.not-attr;
       not_unattr = c.in_default.not-unattr;
       not_rename = c.in_default.not-rename;
+      not_move = c.in_default.not-move;
       not_drop = c.in_default.not-drop;
       not_quit = c.in_default.not-quit;
     })
