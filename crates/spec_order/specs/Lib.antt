@@ -1,0 +1,3 @@
+pub mod NodeSet
+pub mod First
+pub mod Run
