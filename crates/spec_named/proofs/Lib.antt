@@ -1,0 +1,14 @@
+pub mod Documents
+pub mod Streams
+pub mod Names
+pub mod Programs
+pub mod Plans
+pub mod Runs
+pub mod Scopes
+pub mod Copies
+pub mod Worlds
+pub mod Readings
+pub mod Contents
+pub mod Modules
+pub mod Sheets
+pub mod Results
