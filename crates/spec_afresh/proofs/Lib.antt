@@ -1,0 +1,9 @@
+pub mod Characters
+pub mod Reading
+pub mod Editing
+pub mod Moving
+pub mod Names
+pub mod Writable
+pub mod Writing
+pub mod Held
+pub mod Dumped
