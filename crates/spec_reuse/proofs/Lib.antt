@@ -1,0 +1,10 @@
+pub mod Declared
+pub mod Comes
+pub mod Stays
+pub mod Entering
+pub mod Lockstep
+pub mod Later
+pub mod Again
+pub mod Alike
+pub mod Told
+pub mod Served
