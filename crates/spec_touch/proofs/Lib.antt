@@ -1,0 +1,15 @@
+pub mod Ways
+pub mod Positions
+pub mod Off
+pub mod Scopes
+pub mod Entries
+pub mod Running
+pub mod Answering
+pub mod Parting
+pub mod Leading
+pub mod Marking
+pub mod Seeing
+pub mod SeenElements
+pub mod SeenLeading
+pub mod Spaces
+pub mod KeepingSpace

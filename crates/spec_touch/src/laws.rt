@@ -1,0 +1,80 @@
+// Laws of what changes mark, which hold of the definitions alone.
+ghost use Rattle.std.specs.Prelude.{◌≡◌, ℕ, List, ◌∷◌, Some, Ok, false, IsTrue, nat_eq, nat_lt};
+ghost use Rattle.std.specs.List.{list_all, IsDistinct};
+ghost use Rattle.spec_document.specs.Forest.{Document, IsNormal, labels};
+ghost use Rattle.spec_document.specs.Order.{entries_of};
+ghost use Rattle.spec_stylesheet.specs.Place.{Place};
+ghost use Rattle.spec_stylesheet.specs.Sheet.{Sheet, SpaceRule};
+ghost use Rattle.spec_seen.specs.Seen.{seen};
+ghost use Rattle.spec_meaning.specs.Question.{Question};
+ghost use Rattle.spec_run.specs.Documents.{Parameters};
+ghost use Rattle.spec_run.specs.World.{truth_by};
+ghost use Rattle.spec_edit.specs.Valid.{IsValid};
+ghost use Rattle.spec_edit.specs.Edit.{Edit, Edited, edited_nodes};
+ghost use Rattle.spec_change.specs.Change.{Change, change_of};
+ghost use Rattle.xt_tree.specs.declared.node_ref.NodeRef.{NodeRef};
+ghost use Rattle.xp_axes.specs.View.{ref_of, same_ref};
+ghost use Rattle.spec_touch.specs.Touched.{is_touched};
+ghost use Rattle.spec_touch.specs.Leads.{KeepsSpace, Leads, seen_change};
+ghost use Rattle.spec_touch.specs.Marks.{ComesTo, World, WorldChange, answers, marks};
+
+/// Each edit that is accepted makes a change that leads from the document before to the one after, where the numbers of the
+/// document were distinct and all below the first that is free.
+pub fn edits_lead()
+    ensures { (first : ℕ) (edit : Edit) (document : Document ℕ) (new : Edited ℕ) → edited_nodes first edit document ≡ Ok new
+        → IsDistinct nat_eq (document.root ∷ labels document.nodes) → IsTrue (list_all (λ n. nat_lt n first) (document.root ∷ labels document.nodes))
+        → (change : Change) × (change_of edit document (record { root = document.root; nodes = new.nodes }) ≡ Some change)
+        × Leads change document (record { root = document.root; nodes = new.nodes }) }
+{}
+
+/// Where a change leads from one document to another, a question that it does not mark has the same true answer in both,
+/// whatever the stylesheet, its elements' names and the parameters are. Nodes of the documents are named by their numbers.
+pub fn unmarked_questions_keep_their_answers()
+    ensures { (change : Change) (old new : Document ℕ) → Leads change old new
+        → (sheet : Sheet) (parameters : Parameters) (called : Place → NodeRef) (question : Question NodeRef) → is_touched change question ≡ false
+        → truth_by ref_of same_ref called sheet parameters (entries_of old) question
+        ≡ truth_by ref_of same_ref called sheet parameters (entries_of new) question }
+{}
+
+/// Where a change of the source, of modules or of a parameter leads from one world to another, a question that it does not
+/// mark has the same true answer in both.
+pub fn unmarked_questions_keep_their_answers_in_worlds()
+    ensures { (change : WorldChange) (old new : World) → ComesTo change old new → (question : Question NodeRef) → marks change question ≡ false
+        → answers old question ≡ answers new question }
+{}
+
+/// The change of an edit as it is seen leads from what is seen of the document before to what is seen of the one after,
+/// whatever rules strip white space: a text that is seen before or after alone goes or comes. Where attributes of an element
+/// change, xml:space has to say there what it said, as it does in a document without faults (`edits_keep_space`).
+pub fn edits_lead_as_they_are_seen()
+    ensures { (rules : List SpaceRule) (first : ℕ) (edit : Edit) (document : Document ℕ) (new : Edited ℕ) → edited_nodes first edit document ≡ Ok new
+        → IsNormal document.nodes → IsDistinct nat_eq (document.root ∷ labels document.nodes)
+        → IsTrue (list_all (λ n. nat_lt n first) (document.root ∷ labels document.nodes))
+        → KeepsSpace edit document (record { root = document.root; nodes = new.nodes })
+        → (change : Change) × (change_of edit document (record { root = document.root; nodes = new.nodes }) ≡ Some change)
+        × Leads (seen_change change (seen rules document) (seen rules (record { root = document.root; nodes = new.nodes })))
+        (seen rules document) (seen rules (record { root = document.root; nodes = new.nodes })) }
+{}
+
+/// In a document without faults xml:space says what it said wherever an edit changes attributes: where it would say otherwise,
+/// the element is made anew.
+pub fn edits_keep_space()
+    ensures { (first : ℕ) (edit : Edit) (document : Document ℕ) (new : Edited ℕ) → edited_nodes first edit document ≡ Ok new
+        → IsValid document.nodes → KeepsSpace edit document (record { root = document.root; nodes = new.nodes }) }
+{}
+
+/// So with an edit of the source a question that the change as it is seen does not mark has the same true answer before and
+/// after, whatever the stylesheet and the parameters are.
+pub fn edits_keep_the_answers_of_unmarked_questions()
+    ensures { (sheet : Sheet) (first : ℕ) (edit : Edit) (document : Document ℕ) (new : Edited ℕ) → edited_nodes first edit document ≡ Ok new
+        → IsNormal document.nodes → IsDistinct nat_eq (document.root ∷ labels document.nodes)
+        → IsTrue (list_all (λ n. nat_lt n first) (document.root ∷ labels document.nodes))
+        → KeepsSpace edit document (record { root = document.root; nodes = new.nodes })
+        → (parameters : Parameters) (called : Place → NodeRef) (change : Change)
+        → change_of edit document (record { root = document.root; nodes = new.nodes }) ≡ Some change → (question : Question NodeRef)
+        → is_touched (seen_change change (seen sheet.space_rules.rules document)
+        (seen sheet.space_rules.rules (record { root = document.root; nodes = new.nodes }))) question ≡ false
+        → truth_by ref_of same_ref called sheet parameters (entries_of (seen sheet.space_rules.rules document)) question
+        ≡ truth_by ref_of same_ref called sheet parameters
+        (entries_of (seen sheet.space_rules.rules (record { root = document.root; nodes = new.nodes }))) question }
+{}

@@ -1,0 +1,12 @@
+//! Which questions a change marks: a question that is not marked has the same true answer before the change and after it.
+//!
+//! There is no code here but the laws, whose functions have no body.
+#![tactic(auto)]
+
+mod laws;
+
+pub use laws::{
+    edits_keep_space, edits_keep_the_answers_of_unmarked_questions, edits_lead,
+    edits_lead_as_they_are_seen, unmarked_questions_keep_their_answers,
+    unmarked_questions_keep_their_answers_in_worlds,
+};
