@@ -45,11 +45,11 @@ use Rattle.spec_touch.proofs.Running.{olds-at-rise, news-at-rise, leads-run}
 
 -- ---- Truths
 
-neither-first : (a b : Bool) → (a || b) ≡ false → a ≡ false
+pub neither-first : (a b : Bool) → (a || b) ≡ false → a ≡ false
 neither-first true b e = absurd (cc)
 neither-first false b e = refl
 
-neither-second : (a b : Bool) → (a || b) ≡ false → b ≡ false
+pub neither-second : (a b : Bool) → (a || b) ≡ false → b ≡ false
 neither-second true b e = absurd (cc)
 neither-second false b e = e
 

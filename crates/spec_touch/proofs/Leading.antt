@@ -40,7 +40,7 @@ use Rattle.spec_touch.specs.Leads.{Rewrites, text_rewritten, comment_rewritten, 
 use Rattle.spec_touch.specs.Leads.{AttributesChange}
 use Rattle.spec_touch.specs.Leads.{ChangesIn, children, attributes, inside, further, Leads, at_root, below_root}
 use Rattle.spec_touch.proofs.Scopes.{same-declarations}
-use Rattle.spec_touch.proofs.Parting.{Split, split_rewritten, split_goes, unsplit, met-split, followed-split}
+use Rattle.spec_touch.proofs.Parting.{IsUnder, Split, split_rewritten, split_goes, unsplit, met-split, followed-split}
 use Rattle.spec_touch.proofs.Parting.{come-split, come-followed, parts-of, told-itself, Holds, child-holds}
 use Rattle.spec_touch.proofs.Parting.{parent-holds}
 
@@ -211,7 +211,7 @@ module _ (name : List ℕ) (apart : makes_anew name ≡ false) where
 
 pub data Led (first : ℕ) (document : Document ℕ) (new : Edited ℕ) : Bool → List ℕ → Type 0 where
   children_led : {path : List ℕ} (was : Found ℕ) → node_at document path ≡ Some was → Holds was → (g : Forest ℕ → Forest ℕ)
-      → new.nodes ≡ children_changed g path document.nodes → Split first was.children (g was.children) → Led first document new false path
+      → new.nodes ≡ children_changed g path document.nodes → Split (IsUnder first) was.children (g was.children) → Led first document new false path
   attributes_led : {p : ℕ} {ps : List ℕ} (was : Found ℕ) → node_at document (p ∷ ps) ≡ Some was → (name : List ℕ) (old more : List Written)
       → was.content ≡ Some (Element name old) → (named : List ℕ) → makes_anew named ≡ false → AreSet named old more
       → filter is_declaration more ≡ filter is_declaration old
@@ -224,13 +224,13 @@ abbrev way_by : Bool → ℕ → List ℕ → List ℕ
 way_by true p ps = (spot_from p ps).above
 way_by false p ps = p ∷ ps
 
-split-is : {first : ℕ} {old new was now : Forest ℕ} → old ≡ was → new ≡ now → Split first was now → Split first old new
+split-is : {first : ℕ} {old new was now : Forest ℕ} → old ≡ was → new ≡ now → Split (IsUnder first) was now → Split (IsUnder first) old new
 split-is {first} {old = old} {new = new} {was = was} {now = now} e f s =
-    subst (λ g. Split first g new) (sym e) (subst (λ g. Split first was g) (sym f) s)
+    subst (λ g. Split (IsUnder first) g new) (sym e) (subst (λ g. Split (IsUnder first) was g) (sym f) s)
 
 module _ (first : ℕ) (document : Document ℕ) (new : Edited ℕ) where
   led : (path : List ℕ) (y : Found ℕ) → node_at document path ≡ Some y → Holds y → (g : Forest ℕ → Forest ℕ) (made : ℕ)
-      → answered (record { nodes = children_changed g path document.nodes; made = made }) ≡ Ok new → Split first y.children (g y.children)
+      → answered (record { nodes = children_changed g path document.nodes; made = made }) ≡ Ok new → Split (IsUnder first) y.children (g y.children)
       → Led first document new false path
   led path y at holds g made h s =
       children_led y at holds g (sym (ap (λ d. d.nodes) (ok_same (record { nodes = children_changed g path document.nodes; made = made }) new h))) s
@@ -282,7 +282,7 @@ module _ (first : ℕ) (document : Document ℕ) (new : Edited ℕ) where
       let is : deleted (p - 1) y.children ≡ met i.before i.after =
       ap (λ n. met (first_siblings (p - 1) y.children) (later_siblings n y.children)) next ∙ (λ j. met (i.first j) (i.later j)) in
       led spot.above y at (child-holds y spot.position x i) (deleted (p - 1)) 0 h
-      (split-is i.whole is (met-split i.before (split_goes (unsplit first i.after))))
+      (split-is i.whole is (met-split i.before (split_goes (unsplit (IsUnder first) i.after))))
 
   content_kept : (spot : Spot) (y x : Found ℕ) → node_at document spot.above ≡ Some y → (i : IsHere spot y x)
       → (old content : Content) → i.content ≡ old
@@ -290,7 +290,7 @@ module _ (first : ℕ) (document : Document ℕ) (new : Edited ℕ) where
   content_kept spot y x at i old content is w h =
       led spot.above y at (child-holds y spot.position x i) (content_replaced spot.position content) 0 h
       (split-is (i.whole ∙ ap (λ c. followed i.before (Node i.label c i.children i.after)) is) (i.content_is content)
-      (followed-split i.before (split_rewritten w (unsplit first i.after))))
+      (followed-split i.before (split_rewritten w (unsplit (IsUnder first) i.after))))
 
   renewal : (spot : Spot) (y x : Found ℕ) → node_at document spot.above ≡ Some y → (i : IsHere spot y x) → (content : Content)
       → renewed same_nodes first spot document (here spot y x i) content ≡ Ok new → Led first document new false spot.above
@@ -513,7 +513,7 @@ pub record LeadsBy (edit : Edit) (document after : Document ℕ) : Type 0 where
   pub change_is : change_of edit document after ≡ Some change
   pub leads : Leads change document after
 
-children-lead : (change : Change) (document : Document ℕ) (new : Edited ℕ) (path : List ℕ) (was : Found ℕ) (g : Forest ℕ → Forest ℕ)
+pub children-lead : (change : Change) (document : Document ℕ) (new : Edited ℕ) (path : List ℕ) (was : Found ℕ) (g : Forest ℕ → Forest ℕ)
     → change.above ≡ passed path (root_of document) → node_at document path ≡ Some was → new.nodes ≡ children_changed g path document.nodes
     → ChildrenChange change was.label was.children (g was.children) → Leads change document (after_edit document new)
 children-lead change document new [] was g above at nodes d =

@@ -7,6 +7,11 @@ pub mod Running
 pub mod Answering
 pub mod Parting
 pub mod Leading
+pub mod Carrying
+pub mod Joining
+pub mod Lesser
+pub mod Reordering
+pub mod Moving
 pub mod Marking
 pub mod Seeing
 pub mod SeenElements

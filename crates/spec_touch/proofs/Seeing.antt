@@ -1,5 +1,5 @@
 -- What an edit changes of a document as it is seen, where texts of white space are stripped.
-use Rattle.std.proofs.Common.{◌≡◌, ◌≤◌, ◌<◌, arith, ℕ, ◌+◌, ◌-◌, ◌==◌, Bool, true, false, cond, List, [], ◌∷◌, None, Some}
+use Rattle.std.proofs.Common.{◌≡◌, ◌≤◌, arith, ℕ, ◌+◌, ◌-◌, ◌==◌, Bool, true, false, cond, List, [], ◌∷◌, None, Some}
 use Rattle.std.proofs.Common.{sym, ap, ◌∙◌, subst}
 use Rattle.std.specs.Prelude.{◌&&◌}
 use Rattle.std.specs.Option.{option_and_then}
@@ -14,15 +14,15 @@ use Rattle.spec_edit.proofs.Numbers.{one_if, stands}
 use Rattle.spec_change.specs.Change.{Change, passed, passed_below}
 use Rattle.spec_touch.specs.Leads.{Rewrites, text_rewritten, comment_rewritten, instruction_rewritten, ChildrenChange}
 use Rattle.spec_touch.specs.Leads.{ChangesIn, children, inside, further}
-use Rattle.spec_touch.proofs.Parting.{Split, split_end, split_stays, split_rewritten, split_goes, split_comes}
+use Rattle.spec_touch.proofs.Parting.{IsUnder, Split, split_end, split_stays, split_rewritten, split_goes, split_comes}
 use Rattle.spec_touch.proofs.Parting.{kept_count, gone_count, brought_count}
 use Rattle.spec_touch.proofs.Parting.{Holds, is_root, is_element, has_children}
 
 -- ---- Siblings as they are seen
 
 -- siblings before and after, of which others are seen: each that goes, comes or stays was counted before
-pub record Sees {first : ℕ} {old new : Forest ℕ} (r : Split first old new) (f g : Forest ℕ) : Type 0 where
-  pub split : Split 0 f g
+pub record Sees {Used : ℕ → Type 0} {old new : Forest ℕ} (r : Split Used old new) (f g : Forest ℕ) : Type 0 where
+  pub split : Split (IsUnder 0) f g
   pub olds_fewer : (p : ℕ → Bool) → gone_count p split + kept_count p split ≤ gone_count p r + kept_count p r
   pub all_fewer : (p : ℕ → Bool)
       → gone_count p split + brought_count p split + kept_count p split ≤ gone_count p r + brought_count p r + kept_count p r
@@ -30,7 +30,7 @@ pub record Sees {first : ℕ} {old new : Forest ℕ} (r : Split first old new) (
 IsFewer : Forest ℕ → Forest ℕ → Type 0
 IsFewer f g = (p : ℕ → Bool) → stands p f ≤ stands p g
 
-module _ {first : ℕ} {old new : Forest ℕ} (r : Split first old new) (f g : Forest ℕ) (h : Sees r f g) (l : ℕ) (below seen_below : Forest ℕ)
+module _ {Used : ℕ → Type 0} {old new : Forest ℕ} (r : Split Used old new) (f g : Forest ℕ) (h : Sees r f g) (l : ℕ) (below seen_below : Forest ℕ)
     (fewer : (p : ℕ → Bool) → stands p seen_below ≤ stands p below) where
   stays-seen : (c : Content) → Sees (split_stays {label = l} {content = c} {children = below} r) (Node l c seen_below f)
       (Node l c seen_below g)
@@ -58,7 +58,7 @@ module _ {first : ℕ} {old new : Forest ℕ} (r : Split first old new) (f g : F
         all_fewer = λ p. (let a = h.all_fewer p in let b = fewer p in omega arith);
       }
 
-  comes-seen : (c : Content) (fresh : (k : ℕ) → k < first → one_if (l == k) + stands (λ m. m == k) below ≡ 0)
+  comes-seen : (c : Content) (fresh : (k : ℕ) → Used k → one_if (l == k) + stands (λ m. m == k) below ≡ 0)
       → Sees (split_comes {label = l} {content = c} {children = below} fresh r) f (Node l c seen_below g)
   comes-seen c fresh =
       record {
@@ -67,7 +67,7 @@ module _ {first : ℕ} {old new : Forest ℕ} (r : Split first old new) (f g : F
         all_fewer = λ p. (let a = h.all_fewer p in let b = fewer p in omega arith);
       }
 
-module _ {first : ℕ} {old new : Forest ℕ} (r : Split first old new) (f g : Forest ℕ) (h : Sees r f g) (l : ℕ) (below : Forest ℕ) where
+module _ {Used : ℕ → Type 0} {old new : Forest ℕ} (r : Split Used old new) (f g : Forest ℕ) (h : Sees r f g) (l : ℕ) (below : Forest ℕ) where
   -- those that are not seen
   stays-hidden : (c : Content) → Sees (split_stays {label = l} {content = c} {children = below} r) f g
   stays-hidden c =
@@ -85,7 +85,7 @@ module _ {first : ℕ} {old new : Forest ℕ} (r : Split first old new) (f g : F
         all_fewer = λ p. (let a = h.all_fewer p in omega arith);
       }
 
-  comes-hidden : (c : Content) (fresh : (k : ℕ) → k < first → one_if (l == k) + stands (λ m. m == k) below ≡ 0)
+  comes-hidden : (c : Content) (fresh : (k : ℕ) → Used k → one_if (l == k) + stands (λ m. m == k) below ≡ 0)
       → Sees (split_comes {label = l} {content = c} {children = below} fresh r) f g
   comes-hidden c fresh =
       record {
@@ -104,7 +104,7 @@ module _ {first : ℕ} {old new : Forest ℕ} (r : Split first old new) (f g : F
   text-goes true t = goes-hidden (Text t)
   text-goes false t = goes-seen r f g h l below below (λ p. omega arith) (Text t)
 
-  text-comes : (b : Bool) (t : List ℕ) (fresh : (k : ℕ) → k < first → one_if (l == k) + stands (λ m. m == k) below ≡ 0)
+  text-comes : (b : Bool) (t : List ℕ) (fresh : (k : ℕ) → Used k → one_if (l == k) + stands (λ m. m == k) below ≡ 0)
       → Sees (split_comes {label = l} {content = Text t} {children = below} fresh r) f (cond b g (Node l (Text t) below g))
   text-comes true t fresh = comes-hidden (Text t) fresh
   text-comes false t fresh = comes-seen r f g h l below below (λ p. omega arith) (Text t) fresh
@@ -149,7 +149,7 @@ module _ (rules : List SpaceRule) where
   fewer-seen p around (Node l (Comment t) c s) = let b = fewer-seen p around s in omega arith
   fewer-seen p around (Node l (Instruction n t) c s) = let b = fewer-seen p around s in omega arith
 
-  pub sees : (around : Around) {first : ℕ} {old new : Forest ℕ} (r : Split first old new)
+  pub sees : (around : Around) {Used : ℕ → Type 0} {old new : Forest ℕ} (r : Split Used old new)
       → Sees r (seen_among rules around old) (seen_among rules around new)
   sees around split_end = record { split = split_end; olds_fewer = λ p. omega arith; all_fewer = λ p. omega arith }
   sees around (split_stays {label = l} {content = Text t} {children = c} r) =

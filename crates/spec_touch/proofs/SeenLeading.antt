@@ -22,8 +22,8 @@ use Rattle.spec_change.proofs.Gone.{some-among}
 use Rattle.spec_change.proofs.Changing.{with_children, found-changed}
 use Rattle.spec_touch.specs.Leads.{Parts, ChildrenChange, ChangesIn, Leads, at_root as leads_at_root, below_root}
 use Rattle.spec_touch.specs.Leads.{seen_change, space_in, space_said, KeepsSpace}
-use Rattle.spec_touch.proofs.Parting.{Split, gone_count, brought_count, old-counted, new-counted, brought-fresh}
-use Rattle.spec_touch.proofs.Parting.{parted, still-among, filter-keeps, all-from}
+use Rattle.spec_touch.proofs.Parting.{IsUnder, Split, gone_count, brought_count, old-counted, new-counted, brought-fresh}
+use Rattle.spec_touch.proofs.Parting.{parted, still-among, filter-keeps, all-from, under-by}
 use Rattle.spec_touch.proofs.Parting.{Holds}
 use Rattle.spec_touch.proofs.Leading.{Led, children_led, attributes_led, edit-led, change-is, after_edit}
 use Rattle.spec_touch.proofs.SeenElements.{way-element}
@@ -66,7 +66,7 @@ told-seen told f all fewer inner =
     ))
 
 -- of children that an edit parts, where of the rest of the document as much is seen before as after
-record Around2 (first : ℕ) (document : Forest ℕ) (old new : Forest ℕ) (seen_old seen_new : Forest ℕ)
+record Around2 (document : Forest ℕ) (old new : Forest ℕ) (seen_old seen_new : Forest ℕ)
     (children_old children_new : Forest ℕ) : Type 0 where
   outside : (ℕ → Bool) → ℕ
   outside_all : (ℕ → Bool) → ℕ
@@ -75,16 +75,19 @@ record Around2 (first : ℕ) (document : Forest ℕ) (old new : Forest ℕ) (see
   new_seen : (p : ℕ → Bool) → stands p seen_new ≡ outside p + stands p children_new
   old_all : (p : ℕ → Bool) → stands p document ≡ outside_all p + stands p old
 
-module _ (first : ℕ) (document old new : Forest ℕ) (r : Split first old new) (seen_old seen_new f g : Forest ℕ) (h : Sees r f g)
-    (a : Around2 first document old new seen_old seen_new f g) (once : (k : ℕ) → stands (λ m. m == k) document ≤ 1)
-    (low : (k : ℕ) → first ≤ k → stands (λ m. m == k) document ≡ 0) where
-  gone-seen : (k : ℕ) → 1 ≤ gone_count (λ m. m == k) h.split → (b : Bool) → nat_lt k first ≡ b
-      → is_among (without (labels seen_new) (labels seen_old)) k ≡ true
-  gone-seen k some true e =
+module _ (Used : ℕ → Type 0) (document old new : Forest ℕ) (r : Split Used old new) (seen_old seen_new f g : Forest ℕ) (h : Sees r f g)
+    (a : Around2 document old new seen_old seen_new f g) (once : (k : ℕ) → stands (λ m. m == k) document ≤ 1)
+    (used : (k : ℕ) → 1 ≤ stands (λ m. m == k) document → Used k) where
+  abbrev here : ℕ → ℕ
+  here k = stands (λ m. m == k) document
+
+  gone-seen : (k : ℕ) → 1 ≤ gone_count (λ m. m == k) h.split → is_among (without (labels seen_new) (labels seen_old)) k ≡ true
+  gone-seen k some =
       let was = old-counted (λ m. m == k) r in
-      let fresh = brought-fresh k r (ltb-true k first e) in
-      let few = h.all_fewer (λ m. m == k) in
+      let own = h.olds_fewer (λ m. m == k) in
       let all = a.old_all (λ m. m == k) in
+      let fresh = brought-fresh k r (used k (omega arith)) in
+      let few = h.all_fewer (λ m. m == k) in
       let most = once k in
       let rest = a.outside_fewer (λ m. m == k) in
       let before = a.old_seen (λ m. m == k) in
@@ -94,20 +97,13 @@ module _ (first : ℕ) (document old new : Forest ℕ) (r : Split first old new)
       let listed = occurs-labels (λ m. m == k) seen_old in
       let told = occurs-labels (λ m. m == k) seen_new in
       still-among k (labels seen_new) (labels seen_old) (omega arith) (omega arith)
-  gone-seen k some false e =
-      absurd (
-      let none = low k (ltb-false k first e) in
-      let was = old-counted (λ m. m == k) r in
-      let few = h.olds_fewer (λ m. m == k) in
-      let all = a.old_all (λ m. m == k) in
-      omega arith
-      )
 
-  brought-seen : (k : ℕ) → 1 ≤ brought_count (λ m. m == k) h.split → (b : Bool) → nat_lt k first ≡ b
+  brought-seen : (k : ℕ) → 1 ≤ brought_count (λ m. m == k) h.split → (b : Bool) → nat_lt 0 (here k) ≡ b
       → is_among (without (labels seen_old) (labels seen_new)) k ≡ true
   brought-seen k some true e =
+      let stood : 1 ≤ stands (λ m. m == k) document = ltb-true 0 (here k) e in
       let was = old-counted (λ m. m == k) r in
-      let fresh = brought-fresh k r (ltb-true k first e) in
+      let fresh = brought-fresh k r (used k (omega arith)) in
       let few = h.all_fewer (λ m. m == k) in
       let all = a.old_all (λ m. m == k) in
       let most = once k in
@@ -120,7 +116,7 @@ module _ (first : ℕ) (document old new : Forest ℕ) (r : Split first old new)
       let told = occurs-labels (λ m. m == k) seen_new in
       still-among k (labels seen_old) (labels seen_new) (omega arith) (omega arith)
   brought-seen k some false e =
-      let none = low k (ltb-false k first e) in
+      let none : stands (λ m. m == k) document ≤ 0 = ltb-false 0 (here k) e in
       let was = old-counted (λ m. m == k) r in
       let few = h.olds_fewer (λ m. m == k) in
       let all = a.old_all (λ m. m == k) in
@@ -136,12 +132,89 @@ module _ (first : ℕ) (document old new : Forest ℕ) (r : Split first old new)
   parts-seen : Parts (without (labels seen_new) (labels seen_old)) (without (labels seen_old) (labels seen_new)) f g
   parts-seen =
       parted (without (labels seen_new) (labels seen_old)) (without (labels seen_old) (labels seen_new)) h.split
-      (λ k some. gone-seen k some (nat_lt k first) refl) (λ k some. brought-seen k some (nat_lt k first) refl)
+      gone-seen (λ k some. brought-seen k some (nat_lt 0 (here k)) refl)
 
 zero-more : (n m : ℕ) → n ≡ m → n ≡ 0 + m
 zero-more n m e = omega arith
 
 -- ---- The change as it is seen
+
+module _ (rules : List SpaceRule) (Used : ℕ → Type 0) (document : Document ℕ) (new : Edited ℕ) (normal : IsNormal document.nodes)
+    (once : (k : ℕ) → stands (λ m. m == k) document.nodes ≤ 1)
+    (used : (k : ℕ) → 1 ≤ stands (λ m. m == k) document.nodes → Used k) where
+  abbrev after_change : Document ℕ
+  after_change = after_edit document new
+
+  abbrev sight_of : Document ℕ → Document ℕ
+  sight_of d = seen rules d
+
+  module _ (change : Change) (was : Found ℕ) (g : Forest ℕ → Forest ℕ) (split : Split Used was.children (g was.children))
+      (of_children : change.of_attributes ≡ false) (node : change.node ≡ was.label) (before : change.before ≡ sibling_labels was.children)
+      (behind : change.after ≡ sibling_labels (g was.children)) where
+    children-seen : (around : Around) → Around2 document.nodes was.children (g was.children) (sight_of document).nodes
+        (sight_of after_change).nodes
+        (seen_among rules around was.children) (seen_among rules around (g was.children))
+        → ChildrenChange (seen_change change (sight_of document) (sight_of after_change)) was.label
+        (seen_among rules around was.children) (seen_among rules around (g was.children))
+    children-seen around a =
+        record {
+          of_children = of_children;
+          node = node;
+          before = told-seen change.before (seen_among rules around was.children) (sight_of document).nodes
+              (λ k. (
+              let same : occurs (λ m. m == k) change.before ≡ occurs (λ m. m == k) (sibling_labels was.children) = ap
+              (occurs (λ m. m == k)) before in
+              let few = siblings-fewer rules around (λ m. m == k) was.children in
+              omega arith
+              )) (λ k. (let all = a.old_seen (λ m. m == k) in omega arith));
+          after = told-seen change.after (seen_among rules around (g was.children)) (sight_of after_change).nodes
+              (λ k. (
+              let same : occurs (λ m. m == k) change.after ≡ occurs (λ m. m == k) (sibling_labels (g was.children)) = ap
+              (occurs (λ m. m == k)) behind in
+              let few = siblings-fewer rules around (λ m. m == k) (g was.children) in
+              omega arith
+              )) (λ k. (let all = a.new_seen (λ m. m == k) in omega arith));
+          parts = parts-seen Used document.nodes was.children (g was.children) split (sight_of document).nodes (sight_of after_change).nodes
+              (seen_among rules around was.children) (seen_among rules around (g was.children))
+              (sees rules around split) a once used;
+        }
+
+    pub children-lead-seen : (path : List ℕ) → change.above ≡ passed path (root_of document) → node_at document path ≡ Some was → Holds was
+        → new.nodes ≡ children_changed g path document.nodes
+        → Leads (seen_change change (sight_of document) (sight_of after_change)) (sight_of document) (sight_of after_change)
+    children-lead-seen [] above at holds nodes =
+        let is = some_same (root_of document) was at in
+        let children : document.nodes ≡ was.children = ap (λ y. y.children) is in
+        let others : new.nodes ≡ g was.children = nodes ∙ ap g children in
+        let c = children-seen at_root (record {
+          outside = λ p. 0;
+          outside_all = λ p. 0;
+          outside_fewer = λ p. omega arith;
+          old_seen = λ p. zero-more _ _ (ap (λ f. stands p (seen_among rules at_root f)) children);
+          new_seen = λ p. zero-more _ _ (ap (λ f. stands p (seen_among rules at_root f)) others);
+          old_all = λ p. zero-more _ _ (ap (stands p) children);
+        }) in
+        let label : was.label ≡ document.root = sym (ap (λ y. y.label) is) in
+        leads_at_root refl above
+        (subst (λ l. ChildrenChange (seen_change change (sight_of document) (sight_of after_change)) l (sight_of document).nodes (sight_of after_change).nodes) label
+        (subst (λ f. ChildrenChange (seen_change change (sight_of document) (sight_of after_change)) was.label f (sight_of after_change).nodes)
+        (sym (ap (seen_among rules at_root) children))
+        (subst (λ f. ChildrenChange (seen_change change (sight_of document) (sight_of after_change)) was.label (seen_among rules at_root was.children) f)
+        (sym (ap (seen_among rules at_root) others)) c)))
+    children-lead-seen (p ∷ ps) above at holds nodes =
+        let r = way-seen rules was holds g at_root p ps [] document.nodes normal at in
+        let c = children-seen r.around (record {
+          outside = r.outside;
+          outside_all = r.outside_all;
+          outside_fewer = r.outside_fewer;
+          old_seen = r.old_seen;
+          new_seen = λ q. ap (λ f. stands q (seen_among rules at_root f)) nodes ∙ r.new_seen q;
+          old_all = r.old_all;
+        }) in
+        below_root refl above
+        (subst (λ f. ChangesIn (seen_change change (sight_of document) (sight_of after_change))
+        (passed_below (passed ps) (child_at [] document.nodes p)) (sight_of document).nodes f)
+        (sym (ap (seen_among rules at_root) nodes)) (r.leads (seen_change change (sight_of document) (sight_of after_change)) c))
 
 module _ (rules : List SpaceRule) (first : ℕ) (edit : Edit) (document : Document ℕ) (new : Edited ℕ) (normal : IsNormal document.nodes)
     (once : AreOnce (document.root ∷ labels document.nodes)) (low : AreBelow first (document.root ∷ labels document.nodes)) where
@@ -157,73 +230,8 @@ module _ (rules : List SpaceRule) (first : ℕ) (edit : Edit) (document : Docume
   low_all : (k : ℕ) → first ≤ k → stands (λ m. m == k) document.nodes ≡ 0
   low_all k high = let none = low.at k high in let sum = occurs-labels (λ m. m == k) document.nodes in omega arith
 
-  module _ (change : Change) (was : Found ℕ) (g : Forest ℕ → Forest ℕ) (split : Split first was.children (g was.children))
-      (of_children : change.of_attributes ≡ false) (node : change.node ≡ was.label) (before : change.before ≡ sibling_labels was.children)
-      (behind : change.after ≡ sibling_labels (g was.children)) where
-    children-seen : (around : Around) → Around2 first document.nodes was.children (g was.children) (sight document).nodes
-        (sight after).nodes
-        (seen_among rules around was.children) (seen_among rules around (g was.children))
-        → ChildrenChange (seen_change change (sight document) (sight after)) was.label
-        (seen_among rules around was.children) (seen_among rules around (g was.children))
-    children-seen around a =
-        record {
-          of_children = of_children;
-          node = node;
-          before = told-seen change.before (seen_among rules around was.children) (sight document).nodes
-              (λ k. (
-              let same : occurs (λ m. m == k) change.before ≡ occurs (λ m. m == k) (sibling_labels was.children) = ap
-              (occurs (λ m. m == k)) before in
-              let few = siblings-fewer rules around (λ m. m == k) was.children in
-              omega arith
-              )) (λ k. (let all = a.old_seen (λ m. m == k) in omega arith));
-          after = told-seen change.after (seen_among rules around (g was.children)) (sight after).nodes
-              (λ k. (
-              let same : occurs (λ m. m == k) change.after ≡ occurs (λ m. m == k) (sibling_labels (g was.children)) = ap
-              (occurs (λ m. m == k)) behind in
-              let few = siblings-fewer rules around (λ m. m == k) (g was.children) in
-              omega arith
-              )) (λ k. (let all = a.new_seen (λ m. m == k) in omega arith));
-          parts = parts-seen first document.nodes was.children (g was.children) split (sight document).nodes (sight after).nodes
-              (seen_among rules around was.children) (seen_among rules around (g was.children))
-              (sees rules around split) a once_all low_all;
-        }
-
-    children-lead-seen : (path : List ℕ) → change.above ≡ passed path (root_of document) → node_at document path ≡ Some was → Holds was
-        → new.nodes ≡ children_changed g path document.nodes
-        → Leads (seen_change change (sight document) (sight after)) (sight document) (sight after)
-    children-lead-seen [] above at holds nodes =
-        let is = some_same (root_of document) was at in
-        let children : document.nodes ≡ was.children = ap (λ y. y.children) is in
-        let others : new.nodes ≡ g was.children = nodes ∙ ap g children in
-        let c = children-seen at_root (record {
-          outside = λ p. 0;
-          outside_all = λ p. 0;
-          outside_fewer = λ p. omega arith;
-          old_seen = λ p. zero-more _ _ (ap (λ f. stands p (seen_among rules at_root f)) children);
-          new_seen = λ p. zero-more _ _ (ap (λ f. stands p (seen_among rules at_root f)) others);
-          old_all = λ p. zero-more _ _ (ap (stands p) children);
-        }) in
-        let label : was.label ≡ document.root = sym (ap (λ y. y.label) is) in
-        leads_at_root refl above
-        (subst (λ l. ChildrenChange (seen_change change (sight document) (sight after)) l (sight document).nodes (sight after).nodes) label
-        (subst (λ f. ChildrenChange (seen_change change (sight document) (sight after)) was.label f (sight after).nodes)
-        (sym (ap (seen_among rules at_root) children))
-        (subst (λ f. ChildrenChange (seen_change change (sight document) (sight after)) was.label (seen_among rules at_root was.children) f)
-        (sym (ap (seen_among rules at_root) others)) c)))
-    children-lead-seen (p ∷ ps) above at holds nodes =
-        let r = way-seen rules was holds g at_root p ps [] document.nodes normal at in
-        let c = children-seen r.around (record {
-          outside = r.outside;
-          outside_all = r.outside_all;
-          outside_fewer = r.outside_fewer;
-          old_seen = r.old_seen;
-          new_seen = λ q. ap (λ f. stands q (seen_among rules at_root f)) nodes ∙ r.new_seen q;
-          old_all = r.old_all;
-        }) in
-        below_root refl above
-        (subst (λ f. ChangesIn (seen_change change (sight document) (sight after))
-        (passed_below (passed ps) (child_at [] document.nodes p)) (sight document).nodes f)
-        (sym (ap (seen_among rules at_root) nodes)) (r.leads (seen_change change (sight document) (sight after)) c))
+  used_all : (k : ℕ) → 1 ≤ stands (λ m. m == k) document.nodes → IsUnder first k
+  used_all k some = under-by first k (stands (λ m. m == k) document.nodes) (low_all k) some (nat_lt k first) refl
 
   pub record LeadsSeen : Type 0 where
     pub change : Change
@@ -275,7 +283,7 @@ module _ (rules : List SpaceRule) (first : ℕ) (edit : Edit) (document : Docume
           record {
             change = change;
             change_is = change-is edit document after false path was now f pe at there;
-            leads = children-lead-seen change was g split refl refl refl refl path refl at holds nodes;
+            leads = children-lead-seen rules (IsUnder first) document new normal once_all used_all change was g split refl refl refl refl path refl at holds nodes;
           }
       by true f _ pe (attributes_led {p = p} {ps = ps} was at name old more content named apart set same nodes now there has scope) =
           let way : path_of edit ≡ p ∷ ps = at-path (changes_attributes edit) f _ (p ∷ ps) pe in

@@ -1,3 +1,4 @@
 pub mod Touched
 pub mod Leads
 pub mod Marks
+pub mod Moved

@@ -11,11 +11,14 @@ ghost use Rattle.spec_run.specs.Documents.{Parameters};
 ghost use Rattle.spec_run.specs.World.{truth_by};
 ghost use Rattle.spec_edit.specs.Valid.{IsValid};
 ghost use Rattle.spec_edit.specs.Edit.{Edit, Edited, edited_nodes};
+ghost use Rattle.spec_edit.specs.Splice.{Spot, spot_of};
 ghost use Rattle.spec_change.specs.Change.{Change, change_of};
+ghost use Rattle.spec_move.specs.Move.{is_path, moved_nodes};
 ghost use Rattle.xt_tree.specs.declared.node_ref.NodeRef.{NodeRef};
 ghost use Rattle.xp_axes.specs.View.{ref_of, same_ref};
 ghost use Rattle.spec_touch.specs.Touched.{is_touched};
 ghost use Rattle.spec_touch.specs.Leads.{KeepsSpace, Leads, seen_change};
+ghost use Rattle.spec_touch.specs.Moved.{MoveChange, between, document_without, move_change, move_touched};
 ghost use Rattle.spec_touch.specs.Marks.{ComesTo, World, WorldChange, answers, marks};
 
 /// Each edit that is accepted makes a change that leads from the document before to the one after, where the numbers of the
@@ -73,6 +76,75 @@ pub fn edits_keep_the_answers_of_unmarked_questions()
         → (parameters : Parameters) (called : Place → NodeRef) (change : Change)
         → change_of edit document (record { root = document.root; nodes = new.nodes }) ≡ Some change → (question : Question NodeRef)
         → is_touched (seen_change change (seen sheet.space_rules.rules document)
+        (seen sheet.space_rules.rules (record { root = document.root; nodes = new.nodes }))) question ≡ false
+        → truth_by ref_of same_ref called sheet parameters (entries_of (seen sheet.space_rules.rules document)) question
+        ≡ truth_by ref_of same_ref called sheet parameters
+        (entries_of (seen sheet.space_rules.rules (record { root = document.root; nodes = new.nodes }))) question }
+{}
+
+/// Each move that is accepted makes a change.
+pub fn moves_make_changes()
+    ensures { (first : ℕ) (path other : List ℕ) (document : Document ℕ) (new : Edited ℕ) → moved_nodes first path other document ≡ Ok new
+        → IsNormal document.nodes → IsDistinct nat_eq (document.root ∷ labels document.nodes)
+        → IsTrue (list_all (λ n. nat_lt n first) (document.root ∷ labels document.nodes))
+        → (change : MoveChange) × (move_change path other document (record { root = document.root; nodes = new.nodes }) ≡ Some change) }
+{}
+
+/// A move to another parent leads from the document before to the one after in two steps: the children of the parent that the
+/// node leaves change, which leads to the document without the node, and then those of the parent that it comes to.
+pub fn moves_to_another_parent_lead()
+    ensures { (first : ℕ) (path other : List ℕ) (document : Document ℕ) (new : Edited ℕ) → moved_nodes first path other document ≡ Ok new
+        → IsNormal document.nodes → IsDistinct nat_eq (document.root ∷ labels document.nodes)
+        → IsTrue (list_all (λ n. nat_lt n first) (document.root ∷ labels document.nodes))
+        → (from to : Spot) → spot_of path ≡ Some from → spot_of other ≡ Some to → is_path from.above to.above ≡ false
+        → (left entered : Change)
+        × (move_change path other document (record { root = document.root; nodes = new.nodes }) ≡ Some (between left entered))
+        × Leads left document (document_without from document)
+        × Leads entered (document_without from document) (record { root = document.root; nodes = new.nodes }) }
+{}
+
+/// With a move, to another parent or within one, a question that its change does not mark has the same true answer before and
+/// after, whatever the stylesheet, its elements' names and the parameters are.
+pub fn moves_keep_the_answers_of_unmarked_questions()
+    ensures { (first : ℕ) (path other : List ℕ) (document : Document ℕ) (new : Edited ℕ) → moved_nodes first path other document ≡ Ok new
+        → IsNormal document.nodes → IsDistinct nat_eq (document.root ∷ labels document.nodes)
+        → IsTrue (list_all (λ n. nat_lt n first) (document.root ∷ labels document.nodes))
+        → (change : MoveChange) → move_change path other document (record { root = document.root; nodes = new.nodes }) ≡ Some change
+        → (sheet : Sheet) (parameters : Parameters) (called : Place → NodeRef) (question : Question NodeRef)
+        → move_touched change question ≡ false
+        → truth_by ref_of same_ref called sheet parameters (entries_of document) question
+        ≡ truth_by ref_of same_ref called sheet parameters (entries_of (record { root = document.root; nodes = new.nodes })) question }
+{}
+
+/// So it does as it is seen, whatever rules strip white space.
+pub fn moves_to_another_parent_lead_as_they_are_seen()
+    ensures { (rules : List SpaceRule) (first : ℕ) (path other : List ℕ) (document : Document ℕ) (new : Edited ℕ)
+        → moved_nodes first path other document ≡ Ok new
+        → IsNormal document.nodes → IsDistinct nat_eq (document.root ∷ labels document.nodes)
+        → IsTrue (list_all (λ n. nat_lt n first) (document.root ∷ labels document.nodes))
+        → (from to : Spot) → spot_of path ≡ Some from → spot_of other ≡ Some to → is_path from.above to.above ≡ false
+        → (left entered : Change)
+        × (move_change path other document (record { root = document.root; nodes = new.nodes }) ≡ Some (between left entered))
+        × Leads (seen_change left (seen rules document) (seen rules (document_without from document)))
+        (seen rules document) (seen rules (document_without from document))
+        × Leads (seen_change entered (seen rules (document_without from document)) (seen rules (record { root = document.root; nodes = new.nodes })))
+        (seen rules (document_without from document)) (seen rules (record { root = document.root; nodes = new.nodes })) }
+{}
+
+/// So with a move to another parent a question that neither change marks as it is seen has the same true answer before and
+/// after.
+pub fn moves_to_another_parent_keep_the_answers_of_unmarked_questions()
+    ensures { (sheet : Sheet) (first : ℕ) (path other : List ℕ) (document : Document ℕ) (new : Edited ℕ)
+        → moved_nodes first path other document ≡ Ok new
+        → IsNormal document.nodes → IsDistinct nat_eq (document.root ∷ labels document.nodes)
+        → IsTrue (list_all (λ n. nat_lt n first) (document.root ∷ labels document.nodes))
+        → (from to : Spot) → spot_of path ≡ Some from → spot_of other ≡ Some to → is_path from.above to.above ≡ false
+        → (left entered : Change)
+        → move_change path other document (record { root = document.root; nodes = new.nodes }) ≡ Some (between left entered)
+        → (parameters : Parameters) (called : Place → NodeRef) (question : Question NodeRef)
+        → is_touched (seen_change left (seen sheet.space_rules.rules document)
+        (seen sheet.space_rules.rules (document_without from document))) question ≡ false
+        → is_touched (seen_change entered (seen sheet.space_rules.rules (document_without from document))
         (seen sheet.space_rules.rules (record { root = document.root; nodes = new.nodes }))) question ≡ false
         → truth_by ref_of same_ref called sheet parameters (entries_of (seen sheet.space_rules.rules document)) question
         ≡ truth_by ref_of same_ref called sheet parameters
