@@ -14,10 +14,10 @@ use Rattle.spec_run.specs.Going.{Event, Asked, Going, at_start, noted}
 use Rattle.spec_run.specs.Content.{Here, deeper, with_variable, valued, is_empty, unless_passed, planned, with_parameters, declared_planned}
 use Rattle.spec_run.specs.Content.{here_in, unit_planned, plan_of}
 use Rattle.spec_run.specs.Trail.{Trail, asks, Kept, IsTrue}
-use Rattle.spec_reuse.specs.Serving.{names_in, declared_by, declared_in, PassAlike, IsOf, taken_for}
+use Rattle.spec_reuse.specs.Serving.{bound_in, declared_by, declared_in, PassAlike, IsOf, taken_for}
 
 -- the parameters of a template
-parameters_alike : {N : Type 0} (bs : Bindings) (given also : List (Bound N)) (h : Here N) (k : Here N → Plan N) → PassAlike (names_in bs) given also
+parameters_alike : {N : Type 0} (bs : Bindings) (given also : List (Bound N)) (h : Here N) (k : Here N → Plan N) → PassAlike (bound_in bs) given also
     → with_parameters bs given h k ≡ with_parameters bs also h k
 parameters_alike no_bindings given also h k e = refl
 parameters_alike {N = N} (binding site name select is more) given also h k e =

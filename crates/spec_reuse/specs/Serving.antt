@@ -19,13 +19,14 @@ use Rattle.spec_reuse.specs.Instantiation.{Instantiation, given_to, meant_below}
 
 -- ---- Of the same unit, node and declared parameters
 
-abbrev pub names_in : Bindings → List Expanded
-names_in no_bindings = []
-names_in (binding site name select content more) = name ∷ names_in more
+-- the names that these bind
+abbrev pub bound_in : Bindings → List Expanded
+bound_in no_bindings = []
+bound_in (binding site name select content more) = name ∷ bound_in more
 
 -- a template alone declares parameters
 abbrev pub declared_by : sheet.Declared → List Expanded
-declared_by (sheet.ATemplate t) = names_in t.parameters
+declared_by (sheet.ATemplate t) = bound_in t.parameters
 declared_by (sheet.AGlobal g) = []
 declared_by (sheet.ASet s) = []
 declared_by (sheet.AKey k) = []
