@@ -2,7 +2,7 @@
 
 use crate::tree::push_tree;
 use cases::push_quoted;
-use xp_syntax::AvtPart;
+use xt_syntax::AvtPart;
 use xt_text::{Memory, Text};
 
 /// Adds a part of a value template: a text in quotes, an expression as its tree in braces.

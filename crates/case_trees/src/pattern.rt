@@ -5,7 +5,7 @@
 
 use crate::tree::push_step;
 use cases::{push_name, push_quoted};
-use xp_syntax::{Alternative, Pattern, PatternStep, Separator, Start};
+use xt_syntax::{Alternative, Pattern, PatternStep, Separator, Start};
 use xt_text::{Memory, Text};
 
 /// Adds a pattern.

@@ -1,7 +1,7 @@
 // The words of expressions.
 
 use cases::{push_name, push_quoted, push_uri};
-use xp_syntax::{Axis, NodeType, Operator, Test};
+use xt_syntax::{Axis, NodeType, Operator, Test};
 use xt_text::{Memory, Text};
 
 /// Adds an operator as it is written.

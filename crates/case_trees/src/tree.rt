@@ -6,7 +6,7 @@
 
 use crate::syntax::{push_axis, push_operator, push_test};
 use cases::{push_name, push_number, push_quoted};
-use xp_syntax::{Expr, Link, Step};
+use xt_syntax::{Expr, Link, Step};
 use xt_text::{Memory, Text};
 
 /// Adds a tree.

@@ -6,8 +6,8 @@ use case_trees::push_code;
 use cases::{Fault, push_part};
 use indexmap::IndexMap;
 use std::alloc::Global;
-use xp_syntax::Sheet;
 use xt_compile::{SheetFault, StaticRefusal, sheet};
+use xt_syntax::Sheet;
 use xt_text::{Memory, Text};
 use xt_tree::Doc;
 

@@ -6,7 +6,7 @@ use crate::parts::{
     push_named, push_numbering, push_place_of, push_sets, push_sort_keys,
 };
 use cases::{part, push_name, push_quoted};
-use xp_syntax::{
+use xt_syntax::{
     Binding, Branch, Control, Form, Instr, Selection, Site, WithContent, WithoutContent,
 };
 use xt_text::{Memory, Text};

@@ -2,11 +2,11 @@
 // trees in braces, the names of attribute sets as `use=NAME`, and a place as `main/1/2`.
 use case_trees::{push_avt_part, push_pattern, push_tree};
 use cases::{part, push_name, push_number, push_part};
-use xp_syntax::{
+use xt_names::Expanded;
+use xt_syntax::{
     Avt, Count, Expr, LiteralAttribute, LiteralTag, MadeName, Namespace, NumberLevel, NumberSource,
     Numbering, Pattern, Place, Site, SortKey,
 };
-use xt_names::Expanded;
 use xt_text::{Memory, Text};
 
 /// Whether the places of elements are printed.

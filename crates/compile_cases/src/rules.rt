@@ -4,7 +4,7 @@
 use crate::parts::push_named;
 use case_trees::{push_pattern, push_test};
 use cases::{push_name, push_number, push_part};
-use xp_syntax::{Alias, Method, Rule, Sheet, SpaceRule};
+use xt_syntax::{Alias, Method, Rule, Sheet, SpaceRule};
 use xt_text::{Memory, Text};
 
 /// Adds rules.

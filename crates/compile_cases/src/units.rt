@@ -4,7 +4,7 @@ use crate::instructions::{push_binding, push_bindings, push_instrs};
 use crate::parts::{Places, push_end, push_expr, push_head, push_named, push_place, push_sets};
 use case_trees::push_pattern;
 use cases::{part, push_name, push_number, push_part};
-use xp_syntax::{AttributeSet, Declared, GlobalBinding, Key, Site, Template, Unit};
+use xt_syntax::{AttributeSet, Declared, GlobalBinding, Key, Site, Template, Unit};
 use xt_text::{Memory, Text};
 
 /// Adds each unit, with its place and its precedence before it.

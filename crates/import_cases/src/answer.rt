@@ -3,7 +3,7 @@ use cases::{push_number, push_part};
 use indexmap::IndexMap;
 use std::alloc::Global;
 use xt_import::{ListedModule, tree};
-use xt_sheet::Fault;
+use xt_structure::Fault;
 use xt_text::{Memory, Text};
 use xt_tree::Doc;
 

@@ -23,10 +23,10 @@ fn answer_all(rt: &impl Print, alloc: Global, text: &str) -> io::Result<()> {
 
 fn answer_section(rt: &impl Print, alloc: Global, section: &str) -> io::Result<()> {
     match name_of(section) {
-        "documents" => xt_cases::answer_all(rt, alloc, section),
-        "expressions" => xp_cases::answer_all(rt, alloc, section),
+        "documents" => document_cases::answer_all(rt, alloc, section),
+        "expressions" => expression_cases::answer_all(rt, alloc, section),
         "patterns and templates" => stylesheet_cases::answer_all(rt, alloc, section),
-        "evaluation" => eval_cases::answer_all(rt, alloc, section),
+        "evaluation" => evaluation_cases::answer_all(rt, alloc, section),
         "matching" => match_cases::answer_all(rt, alloc, section),
         "results" => result_cases::answer_all(rt, alloc, section),
         "structure" => structure_cases::answer_all(rt, alloc, section),

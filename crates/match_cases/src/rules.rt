@@ -2,10 +2,10 @@
 
 use cases::{Fault, Word, number_at, text_at};
 use std::alloc::Global;
-use xp_syntax::{Pattern, Rule, Rules};
-use xt_ask::Candidates;
 use xt_names::{Expanded, Scope};
 use xt_pattern::{PatternFault, parse_pattern};
+use xt_questions::Candidates;
+use xt_syntax::{Pattern, Rule, Rules};
 use xt_text::{Memory, Text};
 
 /// The pattern of a text that is one.

@@ -8,11 +8,11 @@ use cases::{
 use std::alloc::Global;
 use xp_eval::Eval;
 use xp_parse::parse;
-use xp_syntax::{Expr, Pattern, Rules};
-use xt_ask::{Bindings, Candidates, Context, EvalFault, Evaluate, Focus, Supplies};
+use xt_document_world::PlainWorld;
 use xt_match::{choose, matches};
 use xt_names::Scope;
-use xt_plain::PlainWorld;
+use xt_questions::{Bindings, Candidates, Context, EvalFault, Evaluate, Focus, Supplies};
+use xt_syntax::{Expr, Pattern, Rules};
 use xt_text::{Memory, Text};
 use xt_tree::{Doc, NodeId, NodeRef, Value};
 

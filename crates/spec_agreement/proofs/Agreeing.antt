@@ -8,10 +8,10 @@ use Rattle.spec_meaning.specs.Program.{Ending, Supply, with_reads, if_given, run
 use Rattle.spec_meaning.proofs.Runs as programs
 use Rattle.spec_meaning.proofs.Runs.{run_is}
 use Rattle.xt_tree.specs.declared.node_ref.NodeRef.{NodeRef}
-use Rattle.xt_ask.specs.declared.fault.EvalFault.{EvalFault}
-use Rattle.xt_ask.specs.declared.fault.EvalFault.TheVariants as faults
-use Rattle.xt_ask.specs.Change.{AllStand}
-use Rattle.xt_ask.specs.Runs.{Runs}
+use Rattle.xt_questions.specs.declared.fault.EvalFault.{EvalFault}
+use Rattle.xt_questions.specs.declared.fault.EvalFault.TheVariants as faults
+use Rattle.xt_questions.specs.Change.{AllStand}
+use Rattle.xt_questions.specs.Runs.{Runs}
 use Rattle.spec_agreement.specs.Calls.{said_by, Says}
 
 -- a run that ends so, and what it leaves

@@ -16,11 +16,11 @@ use Rattle.spec_run.proofs.Trails.{trail_trace}
 use Rattle.xp_axes.specs.View.{same_ref}
 use Rattle.xt_tree.specs.declared.node_ref.NodeRef.{NodeRef}
 use Rattle.xt_tree.specs.declared.value.Value as code
-use Rattle.xt_run.specs.View.{call_of}
-use Rattle.xt_run.specs.declared.turn.Turn.TheVariants.{Want, WantGlobal, Done}
-use Rattle.xt_run.specs.Progress.{Waiting, Progress, Streamed, Evaluated, Start, Goes, Halts, received, started}
-use Rattle.xt_run.specs.Advances.{AdvancesSo, Made, made, ending_of, ran_of, Ends}
-use Rattle.xt_run.specs.Advances as code_ends
+use Rattle.xt_engine.specs.View.{call_of}
+use Rattle.xt_engine.specs.declared.turn.Turn.TheVariants.{Want, WantGlobal, Done}
+use Rattle.xt_engine.specs.Progress.{Waiting, Progress, Streamed, Evaluated, Start, Goes, Halts, received, started}
+use Rattle.xt_engine.specs.Advances.{AdvancesSo, Made, made, ending_of, ran_of, Ends}
+use Rattle.xt_engine.specs.Advances as code_ends
 use Rattle.spec_agreement.specs.Turns.{Turns, kept_of}
 use Rattle.spec_agreement.specs.Turns as turns
 

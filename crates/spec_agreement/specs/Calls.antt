@@ -1,9 +1,9 @@
 -- What a call says that runs a program.
 use Rattle.std.specs.Prelude.{◌≡◌, Result, Ok, Err, Option, Some, None, IfSome}
 use Rattle.spec_meaning.specs.Program.{Global, Said, Gives, Refuses, Lacks}
-use Rattle.xt_ask.specs.declared.fault.EvalFault.{EvalFault}
-use Rattle.xt_ask.specs.declared.fault.EvalFault.TheVariants as faults
-use Rattle.xt_ask.specs.View.{refusal_of}
+use Rattle.xt_questions.specs.declared.fault.EvalFault.{EvalFault}
+use Rattle.xt_questions.specs.declared.fault.EvalFault.TheVariants as faults
+use Rattle.xt_questions.specs.View.{refusal_of}
 
 -- how the program ends by this result; after want of memory nothing is said
 abbrev pub said_by : {A X : Type 0} → (X → A) → Result X EvalFault → Option (Said A)

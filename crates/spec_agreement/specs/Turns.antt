@@ -8,9 +8,9 @@ use Rattle.spec_run.specs.Direct.{Outcome}
 use Rattle.spec_run.specs.Trail.{Kept}
 use Rattle.spec_run.specs.Meaning.{Setting, Past, settled, meaning}
 use Rattle.xt_tree.specs.declared.node_ref.NodeRef.{NodeRef}
-use Rattle.xt_run.specs.declared.turn.Turn.TheVariants.{Want, WantGlobal, Done}
-use Rattle.xt_run.specs.Progress.{Progress, Gift, Streamed, Evaluated}
-use Rattle.xt_run.specs.Advances.{Advances, Made, ran_of}
+use Rattle.xt_engine.specs.declared.turn.Turn.TheVariants.{Want, WantGlobal, Done}
+use Rattle.xt_engine.specs.Progress.{Progress, Gift, Streamed, Evaluated}
+use Rattle.xt_engine.specs.Advances.{Advances, Made, ran_of}
 
 -- from this progress on, with what it is given: it waits for an instantiation and is given what that writes, or for a global and is given its
 -- value, until it makes this

@@ -2,9 +2,9 @@
 ghost use Rattle.std.specs.Prelude.{◌≡◌, ℕ, ◌++◌, List, Some, Result, IfSome};
 ghost use Rattle.spec_meaning.specs.Program.{Program, Supply, State, Read, Said, IsEnded, Hold, outcome_of, reads_of, with_reads};
 ghost use Rattle.xt_tree.specs.declared.node_ref.NodeRef.{NodeRef};
-ghost use Rattle.xt_ask.specs.Change.{AllStand};
-ghost use Rattle.xt_ask.specs.Runs.{Runs};
-ghost use Rattle.xt_ask.specs.declared.fault.EvalFault.{EvalFault};
+ghost use Rattle.xt_questions.specs.Change.{AllStand};
+ghost use Rattle.xt_questions.specs.Runs.{Runs};
+ghost use Rattle.xt_questions.specs.declared.fault.EvalFault.{EvalFault};
 ghost use Rattle.spec_agreement.specs.Results.{ResultType, ResultOf};
 ghost use Rattle.spec_agreement.specs.Calls.{said_by, Says};
 
@@ -44,7 +44,7 @@ pub fn calls_agree<X>()
 {}
 
 /// The same where what is needed of the run is given as before: then it is enough that the questions have the same
-/// answers there, which `holds` of `xt_ask` finds out.
+/// answers there, which `holds` of `xt_questions` finds out.
 pub fn calls_agree_where_reads_stand<X>()
     ensures { (type : ResultType) (view : X → ResultOf type) (p : Program NodeRef (ResultOf type)) →
         (supply : Supply NodeRef) (depth below : ℕ) (old new there after : State NodeRef) (first second : Result X EvalFault) →

@@ -14,8 +14,8 @@ ghost use Rattle.spec_run.specs.Cut.{cut};
 ghost use Rattle.spec_run.specs.Meaning.{Setting, Past, meaning, referred, supplied};
 ghost use Rattle.xt_tree.specs.declared.node_ref.NodeRef.{NodeRef};
 ghost use Rattle.xp_axes.specs.View.{same_ref};
-ghost use Rattle.xt_run.specs.Progress.{started};
-ghost use Rattle.xt_run.specs.Advances.{Made};
+ghost use Rattle.xt_engine.specs.Progress.{started};
+ghost use Rattle.xt_engine.specs.Advances.{Made};
 ghost use Rattle.spec_agreement.specs.Turns.{Turns, entered_by, kept_of};
 
 /// An instantiation that is run by itself, with the streams of what it enters in place of its holes, is what it means.

@@ -2,7 +2,7 @@
 use crate::modules::module_of;
 use cases::{Fault, Word, push_number, push_part, push_quoted};
 use std::alloc::Global;
-use xt_sheet::{Fault as SheetFault, Link, Module, check};
+use xt_structure::{Fault as SheetFault, Link, Module, check};
 use xt_text::{Memory, Path, Text};
 
 /// Answers the call.

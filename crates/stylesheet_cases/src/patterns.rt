@@ -4,8 +4,8 @@
 use case_trees::{push_code, push_pattern, scope};
 use cases::{Fault, Word, joined, push_part, text_at};
 use std::alloc::Global;
-use xp_syntax::Pattern;
 use xt_pattern::{PatternFault, parse_pattern, priority};
+use xt_syntax::Pattern;
 use xt_text::{Memory, Text};
 
 /// Answers the call, if it is one of these.

@@ -7,8 +7,8 @@
 use case_trees::{push_avt_part, push_code, scope};
 use cases::{Fault, Word, joined, part, text_at};
 use std::alloc::Global;
-use xp_syntax::Avt;
 use xt_avt::{AvtFault, parse_avt};
+use xt_syntax::Avt;
 use xt_text::{Memory, Text};
 
 /// Answers the call, if it is one of these.

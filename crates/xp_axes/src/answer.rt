@@ -3,7 +3,7 @@ ghost use Rattle.std.specs.Prelude.{◌≡◌, IfOk, IsSome};
 ghost use Rattle.spec_document.specs.Axis as spec;
 ghost use Rattle.spec_document.specs.Order.{entries_of};
 ghost use Rattle.spec_meaning.specs.Step.{stepped};
-ghost use Rattle.xp_syntax.specs.View.{test_of};
+ghost use Rattle.xt_syntax.specs.View.{test_of};
 ghost use Rattle.xt_tree.specs.View.{item_of};
 ghost use Rattle.xp_axes.specs.Along as ways;
 ghost use Rattle.xp_axes.specs.View.{on_axis, ref_of, same_ref};
@@ -13,7 +13,7 @@ use crate::own::{attributes, namespaces};
 use crate::passing::passing;
 use spec_document::Axis;
 use std::alloc::Global;
-use xp_syntax::Test;
+use xt_syntax::Test;
 use xt_text::{Memory, Path};
 use xt_tree::{Doc, NodeRef, Part};
 

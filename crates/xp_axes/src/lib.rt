@@ -20,4 +20,4 @@ mod passing;
 pub use answer::step;
 pub use laws::same_meaning;
 pub use ordered::order;
-pub use xp_syntax::{Axis, Test};
+pub use xt_syntax::{Axis, Test};

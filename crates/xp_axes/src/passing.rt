@@ -2,7 +2,7 @@
 ghost use Rattle.std.specs.Prelude.{◌≡◌, filter, Some, IfOk, IsSome};
 ghost use Rattle.spec_meaning.specs.Step as spec;
 ghost use Rattle.spec_document.specs.Name.{same_expanded};
-ghost use Rattle.xp_syntax.specs.View.{test_of};
+ghost use Rattle.xt_syntax.specs.View.{test_of};
 ghost use Rattle.xt_tree.specs.View.{item_of};
 ghost use Rattle.xp_axes.specs.View.{AreNodes, is_passing};
 
@@ -10,8 +10,8 @@ use crate::along::take_if;
 use spec_document::{Axis, Kind};
 use spec_expression::NodeType;
 use std::alloc::Global;
-use xp_syntax::Test;
 use xt_names::Expanded;
+use xt_syntax::Test;
 use xt_text::{Memory, Text};
 use xt_tree::{Doc, NodeRef};
 

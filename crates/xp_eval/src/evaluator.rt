@@ -1,10 +1,10 @@
 // A world that evaluates by this crate.
 use crate::eval;
 use std::alloc::Global;
-use xp_syntax::Expr;
-use xt_ask::{
+use xt_questions::{
     Answer, Context, EvalFault, Evaluate, Focus, Given, Question, Supplies, Wanted, World,
 };
+use xt_syntax::Expr;
 use xt_text::Memory;
 use xt_tree::Value;
 

@@ -6,21 +6,21 @@ ghost use Rattle.spec_meaning.specs.Function.{function_of};
 ghost use Rattle.spec_meaning.specs.Meaning.{meaning, values_of, chained, kept, kept_by, along, stepped};
 ghost use Rattle.spec_meaning.specs.Operation.{linked};
 ghost use Rattle.spec_meaning.specs.Supplies.{at_hand};
-ghost use Rattle.xp_syntax.specs.View.{expr_of, link_of, step_of};
+ghost use Rattle.xt_syntax.specs.View.{expr_of, link_of, step_of};
 ghost use Rattle.xt_tree.specs.ValueView.{value_of};
-ghost use Rattle.xt_ask.specs.View.{context_of, supplies_of};
-ghost use Rattle.xt_ask.specs.Runs.{Runs, items};
+ghost use Rattle.xt_questions.specs.View.{context_of, supplies_of};
+ghost use Rattle.xt_questions.specs.Runs.{Runs, items};
 ghost use Rattle.xp_eval.specs.View.{values_in};
-ghost use Rattle.xt_ask.specs.declared.context.Focus as code;
+ghost use Rattle.xt_questions.specs.declared.context.Focus as code;
 
 use crate::find::variable;
 use crate::pick::{arrange, keep, negate, only, root};
 use std::alloc::Global;
 use xp_functions::{apply, find};
-use xp_syntax::{Expr, Link, Step};
 use xp_values::{combine, count, is_decided, to_boolean, to_nodes};
-use xt_ask::{Context, EvalFault, Focus, Supplies, World, ask_nodes, copy_test};
 use xt_names::Expanded;
+use xt_questions::{Context, EvalFault, Focus, Supplies, World, ask_nodes, copy_test};
+use xt_syntax::{Expr, Link, Step};
 use xt_tree::{NodeRef, Value};
 
 /// The value of the expression at the focus. Operands, arguments, steps and predicates are evaluated from left

@@ -6,13 +6,15 @@ ghost use Rattle.spec_meaning.specs.Program as program;
 ghost use Rattle.spec_meaning.specs.Supplies.{at_hand, found};
 ghost use Rattle.xt_tree.specs.ValueView.{value_of};
 ghost use Rattle.xt_tree.specs.declared.node_ref.NodeRef.{NodeRef};
-ghost use Rattle.xt_ask.specs.View.{bindings_of, known_of, supplies_of};
-ghost use Rattle.xt_ask.specs.Runs.{Runs};
+ghost use Rattle.xt_questions.specs.View.{bindings_of, known_of, supplies_of};
+ghost use Rattle.xt_questions.specs.Runs.{Runs};
 ghost use Rattle.xp_eval.specs.View.{given_in};
 
 use std::alloc::Global;
-use xt_ask::{Context, EvalFault, Given, Known, Supplies, Wanted, World, copy_name, copy_value};
 use xt_names::Expanded;
+use xt_questions::{
+    Context, EvalFault, Given, Known, Supplies, Wanted, World, copy_name, copy_value,
+};
 use xt_text::Memory;
 use xt_tree::Value;
 

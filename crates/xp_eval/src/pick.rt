@@ -15,14 +15,14 @@ ghost use Rattle.spec_meaning.specs.Question.{Step, nodes_in};
 ghost use Rattle.spec_meaning.specs.Value as plain;
 ghost use Rattle.xt_tree.specs.ValueView.{value_of};
 ghost use Rattle.xt_tree.specs.declared.node_ref.NodeRef.{NodeRef};
-ghost use Rattle.xt_ask.specs.Runs.{Runs, items};
+ghost use Rattle.xt_questions.specs.Runs.{Runs, items};
 
 use spec_document::Axis;
 use std::alloc::Global;
-use xp_syntax::{NodeType, Test};
 use xp_values::{to_boolean, to_number};
-use xt_ask::{EvalFault, World, ask_nodes, ask_order};
 use xt_base::Num;
+use xt_questions::{EvalFault, World, ask_nodes, ask_order};
+use xt_syntax::{NodeType, Test};
 use xt_text::Memory;
 use xt_tree::{NodeRef, Value};
 

@@ -17,9 +17,9 @@ use Rattle.xt_base.specs.Fault.{Gives}
 use Rattle.xt_tree.specs.ValueView.{value_of}
 use Rattle.xt_tree.specs.declared.value.Value as code
 use Rattle.xt_tree.specs.declared.node_ref.NodeRef.{NodeRef}
-use Rattle.xt_ask.specs.declared.fault.EvalFault.{EvalFault}
-use Rattle.xt_ask.specs.Runs.{Runs, Continues}
-use Rattle.xt_ask.proofs.Steps.{runs_from}
+use Rattle.xt_questions.specs.declared.fault.EvalFault.{EvalFault}
+use Rattle.xt_questions.specs.Runs.{Runs, Continues}
+use Rattle.xt_questions.proofs.Steps.{runs_from}
 use Rattle.xp_values.specs.View.{result_of}
 
 pub then_then : {N A B C : Type 0} (p : Program N A) (f : A → Program N B) (k : B → Program N C) → then (then p f) k ≡ then p (λ x. then (f x) k)

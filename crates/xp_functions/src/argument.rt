@@ -5,13 +5,13 @@ ghost use Rattle.spec_meaning.specs.Call.{all_texts, argument, value_or_node};
 ghost use Rattle.spec_meaning.specs.Convert.{to_number};
 ghost use Rattle.xt_tree.specs.ValueView.{value_of};
 ghost use Rattle.xt_tree.specs.declared.node_ref.NodeRef.{NodeRef};
-ghost use Rattle.xt_ask.specs.View.{context_of};
-ghost use Rattle.xt_ask.specs.Runs.{Runs, items, itself};
+ghost use Rattle.xt_questions.specs.View.{context_of};
+ghost use Rattle.xt_questions.specs.Runs.{Runs, items, itself};
 
 use std::alloc::Global;
 use xp_values::{to_number, to_text};
-use xt_ask::{Context, EvalFault, Focus, World};
 use xt_base::Num;
+use xt_questions::{Context, EvalFault, Focus, World};
 use xt_text::{Memory, Text};
 use xt_tree::{NodeRef, Value};
 

@@ -7,8 +7,8 @@ ghost use Rattle.spec_meaning.specs.Call as calls;
 ghost use Rattle.spec_meaning.specs.Call.{called};
 ghost use Rattle.xt_tree.specs.ValueView.{value_of};
 ghost use Rattle.xt_tree.specs.declared.node_ref.NodeRef.{NodeRef};
-ghost use Rattle.xt_ask.specs.View.{context_of, supplies_of};
-ghost use Rattle.xt_ask.specs.Runs.{Runs};
+ghost use Rattle.xt_questions.specs.View.{context_of, supplies_of};
+ghost use Rattle.xt_questions.specs.Runs.{Runs};
 
 use crate::argument::{all_texts, value_or_node};
 use crate::context::of_context;
@@ -22,7 +22,7 @@ use spec_expression::DynCode;
 use spec_meaning::{Function, NodesFunction, TextFunction, TextsFunction, ValueFunction};
 use std::alloc::Global;
 use xp_values::{to_nodes, to_text};
-use xt_ask::{Context, EvalFault, Focus, Refusal, Supplies, World};
+use xt_questions::{Context, EvalFault, Focus, Refusal, Supplies, World};
 use xt_tree::Value;
 
 /// What the function makes of its arguments, which were evaluated; they are converted from left to right.

@@ -6,14 +6,14 @@ ghost use Rattle.spec_meaning.specs.Program.{Counted, Give, Position, Saw, Size,
 ghost use Rattle.spec_meaning.specs.Call.{known_or_needed, of_context};
 ghost use Rattle.xt_tree.specs.ValueView.{value_of};
 ghost use Rattle.xt_tree.specs.declared.node_ref.NodeRef.{NodeRef};
-ghost use Rattle.xt_ask.specs.View.{context_of, supplies_of, wanted_of};
-ghost use Rattle.xt_ask.specs.Runs.{Runs};
+ghost use Rattle.xt_questions.specs.View.{context_of, supplies_of, wanted_of};
+ghost use Rattle.xt_questions.specs.Runs.{Runs};
 
 use crate::argument::only;
 use spec_meaning::ContextFunction;
 use std::alloc::Global;
 use xp_values::count;
-use xt_ask::{Context, EvalFault, Focus, Given, Supplies, Wanted, World};
+use xt_questions::{Context, EvalFault, Focus, Given, Supplies, Wanted, World};
 use xt_text::Memory;
 use xt_tree::{NodeRef, Value};
 

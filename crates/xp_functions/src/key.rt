@@ -6,15 +6,17 @@ ghost use Rattle.spec_meaning.specs.Convert.{text_at, to_text};
 ghost use Rattle.spec_meaning.specs.Call.{arranged, key_of, keyed, nodes_of_key, nodes_of_keys, nodes_or_refused};
 ghost use Rattle.xt_tree.specs.ValueView.{value_of};
 ghost use Rattle.xt_tree.specs.declared.node_ref.NodeRef.{NodeRef};
-ghost use Rattle.xt_ask.specs.View.{answer_of, context_of};
-ghost use Rattle.xt_ask.specs.Runs.{Runs, items};
+ghost use Rattle.xt_questions.specs.View.{answer_of, context_of};
+ghost use Rattle.xt_questions.specs.Runs.{Runs, items};
 
 use crate::argument::take_first;
 use crate::name::name_meant;
 use std::alloc::Global;
 use xp_values::to_text;
-use xt_ask::{Answer, Context, EvalFault, Focus, Question, World, ask_order, ask_text, copy_name};
 use xt_names::Expanded;
+use xt_questions::{
+    Answer, Context, EvalFault, Focus, Question, World, ask_order, ask_text, copy_name,
+};
 use xt_text::Text;
 use xt_tree::{NodeRef, Value};
 

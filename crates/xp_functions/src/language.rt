@@ -8,17 +8,17 @@ ghost use Rattle.spec_meaning.specs.Question.{Step, nodes_in};
 ghost use Rattle.spec_meaning.specs.Program.{Ask, Give, Supply, then};
 ghost use Rattle.spec_meaning.specs.Convert.{text_at};
 ghost use Rattle.spec_meaning.specs.Call.{language_of, xml_lang};
-ghost use Rattle.xp_syntax.specs.View.{test_of};
+ghost use Rattle.xt_syntax.specs.View.{test_of};
 ghost use Rattle.xt_tree.specs.ValueView.{value_of};
 ghost use Rattle.xt_tree.specs.declared.node_ref.NodeRef.{NodeRef};
-ghost use Rattle.xt_ask.specs.Runs.{Runs, items};
+ghost use Rattle.xt_questions.specs.Runs.{Runs, items};
 
 use spec_document::Axis;
 use std::alloc::Global;
-use xp_syntax::Test;
 use xp_text::lang_matches;
-use xt_ask::{EvalFault, World, ask_nodes, ask_text};
 use xt_names::{Expanded, XML_URI};
+use xt_questions::{EvalFault, World, ask_nodes, ask_text};
+use xt_syntax::Test;
 use xt_text::{Memory, Text};
 use xt_tree::{NodeRef, Value};
 

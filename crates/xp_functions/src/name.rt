@@ -7,16 +7,16 @@ ghost use Rattle.spec_meaning.specs.Program.{State, Supply};
 ghost use Rattle.spec_meaning.specs.Call.{name_meant, system_property, xslt};
 ghost use Rattle.xt_tree.specs.ValueView.{value_of};
 ghost use Rattle.xt_tree.specs.declared.node_ref.NodeRef.{NodeRef};
-ghost use Rattle.xt_ask.specs.Runs.{Runs, itself};
-ghost use Rattle.xt_ask.specs.declared.fault.EvalFault.TheVariants as fault;
-ghost use Rattle.xt_ask.specs.declared.fault.Refusal.TheVariants as refusal;
+ghost use Rattle.xt_questions.specs.Runs.{Runs, itself};
+ghost use Rattle.xt_questions.specs.declared.fault.EvalFault.TheVariants as fault;
+ghost use Rattle.xt_questions.specs.declared.fault.Refusal.TheVariants as refusal;
 ghost use Rattle.spec_expression.specs.declared.code.DynCode.TheVariants as code;
 
 use spec_expression::DynCode;
 use std::alloc::Global;
-use xt_ask::{EvalFault, Refusal};
 use xt_base::Num;
 use xt_names::{Expanded, QName, Scope, XSLT_URI};
+use xt_questions::{EvalFault, Refusal};
 use xt_text::{Memory, Text};
 use xt_tree::Value;
 

@@ -8,15 +8,15 @@ ghost use Rattle.spec_meaning.specs.Convert.{given, text_at};
 ghost use Rattle.spec_meaning.specs.Call.{of_first, of_nodes, summed};
 ghost use Rattle.xt_tree.specs.ValueView.{value_of};
 ghost use Rattle.xt_tree.specs.declared.node_ref.NodeRef.{NodeRef};
-ghost use Rattle.xt_ask.specs.View.{answer_of, question_of};
-ghost use Rattle.xt_ask.specs.Runs.{Runs, itself};
+ghost use Rattle.xt_questions.specs.View.{answer_of, question_of};
+ghost use Rattle.xt_questions.specs.Runs.{Runs, itself};
 ghost use Rattle.xp_functions.specs.Part.{asked_by, told_by};
 
 use spec_meaning::NodesFunction;
 use std::alloc::Global;
 use xp_values::{count, given};
-use xt_ask::{Answer, EvalFault, Question, World, ask_text};
 use xt_base::Num;
+use xt_questions::{Answer, EvalFault, Question, World, ask_text};
 use xt_text::{Memory, Text};
 use xt_tree::{NodeRef, Value};
 

@@ -5,14 +5,14 @@ ghost use Rattle.spec_meaning.specs.Program.{Supply};
 ghost use Rattle.spec_meaning.specs.Call.{length_argument, substring_of};
 ghost use Rattle.xt_tree.specs.ValueView.{value_of};
 ghost use Rattle.xt_tree.specs.declared.node_ref.NodeRef.{NodeRef};
-ghost use Rattle.xt_ask.specs.Runs.{Runs, itself};
+ghost use Rattle.xt_questions.specs.Runs.{Runs, itself};
 
 use crate::argument::{number_of, take_first};
 use std::alloc::Global;
 use xp_text::substring;
 use xp_values::{to_number, to_text};
-use xt_ask::{EvalFault, World};
 use xt_base::Num;
+use xt_questions::{EvalFault, World};
 use xt_tree::Value;
 
 /// The characters of the first argument from the position that the second one is on; with a third one so many.

@@ -8,8 +8,8 @@ ghost use Rattle.spec_meaning.specs.Function as function;
 ghost use Rattle.spec_meaning.specs.Call.{name_meant, of_text, system_property};
 ghost use Rattle.xt_tree.specs.ValueView.{value_of};
 ghost use Rattle.xt_tree.specs.declared.node_ref.NodeRef.{NodeRef};
-ghost use Rattle.xt_ask.specs.View.{context_of};
-ghost use Rattle.xt_ask.specs.Runs.{Runs};
+ghost use Rattle.xt_questions.specs.View.{context_of};
+ghost use Rattle.xt_questions.specs.Runs.{Runs};
 
 use crate::language::lang;
 use crate::name::{name_meant, system_property};
@@ -18,8 +18,8 @@ use spec_meaning::TextFunction;
 use std::alloc::Global;
 use xp_text::{length, normalize};
 use xp_values::given;
-use xt_ask::{Context, EvalFault, Focus, World};
 use xt_names::Scope;
+use xt_questions::{Context, EvalFault, Focus, World};
 use xt_text::Text;
 use xt_tree::Value;
 

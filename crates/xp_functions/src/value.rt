@@ -6,13 +6,13 @@ ghost use Rattle.spec_meaning.specs.Convert as convert;
 ghost use Rattle.spec_meaning.specs.Call.{of_value};
 ghost use Rattle.xt_tree.specs.ValueView.{value_of};
 ghost use Rattle.xt_tree.specs.declared.node_ref.NodeRef.{NodeRef};
-ghost use Rattle.xt_ask.specs.Runs.{Runs};
+ghost use Rattle.xt_questions.specs.Runs.{Runs};
 
 use crate::argument::number_of;
 use spec_meaning::ValueFunction;
 use std::alloc::Global;
 use xp_values::{to_boolean, to_text};
-use xt_ask::{EvalFault, World};
+use xt_questions::{EvalFault, World};
 use xt_tree::Value;
 
 /// What a function makes of one value.

@@ -8,8 +8,8 @@ use Rattle.spec_expression.specs.declared.ExpressionRefusal.TheVariants.{Syntax}
 use Rattle.spec_expression.specs.Token.{Token, tokens, depth_behind, is_deep}
 use Rattle.spec_expression.specs.Syntax as tree
 use Rattle.spec_expression.specs.Grammar.{Gives, Uncut}
-use Rattle.xp_syntax.specs.declared.expr.Expr.{Expr}
-use Rattle.xp_syntax.specs.View.{expr_of}
+use Rattle.xt_syntax.specs.declared.expr.Expr.{Expr}
+use Rattle.xt_syntax.specs.View.{expr_of}
 use Rattle.xp_parse.specs.declared.fault.ParseFault.{ParseFault}
 use Rattle.xp_parse.specs.declared.fault.ParseFault.TheVariants.{Memory, Refused}
 use Rattle.xp_parse.specs.Parsed.{Given, Parsed}

@@ -4,11 +4,11 @@ use Rattle.spec_document.specs.Name.{Expanded}
 use Rattle.spec_document.specs.declared.axis.Axis.{Axis}
 use Rattle.spec_expression.specs.declared.Operator.{Operator}
 use Rattle.spec_expression.specs.Syntax as tree
-use Rattle.xp_syntax.specs.declared.expr.Expr.{Expr, Number, Literal, Variable, Call, Root, Here, the_lemmas}
-use Rattle.xp_syntax.specs.declared.expr.Link.{roll-Link}
-use Rattle.xp_syntax.specs.declared.expr.Step.{roll-Step}
-use Rattle.xp_syntax.specs.declared.expr.Test.{Test}
-use Rattle.xp_syntax.specs.View.{expr_of, link_of, step_of, test_of}
+use Rattle.xt_syntax.specs.declared.expr.Expr.{Expr, Number, Literal, Variable, Call, Root, Here, the_lemmas}
+use Rattle.xt_syntax.specs.declared.expr.Link.{roll-Link}
+use Rattle.xt_syntax.specs.declared.expr.Step.{roll-Step}
+use Rattle.xt_syntax.specs.declared.expr.Test.{Test}
+use Rattle.xt_syntax.specs.View.{expr_of, link_of, step_of, test_of}
 
 pub view-Number : (n : ℕ) → expr_of (Number n) ≡ tree.number n
 view-Number n = search (rules, the_lemmas)

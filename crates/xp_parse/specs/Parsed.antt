@@ -3,8 +3,8 @@ use Rattle.std.specs.Prelude.{ℕ, List, Result, Ok, Err}
 use Rattle.spec_document.specs.Scope.{Scope}
 use Rattle.spec_expression.specs.Token.{Token}
 use Rattle.spec_expression.specs.Grammar.{Gives, Parses}
-use Rattle.xp_syntax.specs.declared.expr.Expr.{Expr}
-use Rattle.xp_syntax.specs.View.{expr_of}
+use Rattle.xt_syntax.specs.declared.expr.Expr.{Expr}
+use Rattle.xt_syntax.specs.View.{expr_of}
 use Rattle.xp_parse.specs.declared.fault.ParseFault.{ParseFault}
 use Rattle.xp_parse.specs.declared.fault.ParseFault.TheVariants.{Memory, Refused}
 

@@ -6,16 +6,16 @@ ghost use Rattle.spec_document.specs.Scope as scopes;
 ghost use Rattle.spec_expression.specs.Number.{numeral};
 ghost use Rattle.spec_expression.specs.Syntax as tree;
 ghost use Rattle.spec_expression.specs.Grammar as grammar;
-ghost use Rattle.xp_syntax.specs.View.{expr_of, link_of, step_of};
+ghost use Rattle.xt_syntax.specs.View.{expr_of, link_of, step_of};
 ghost use Rattle.xp_parse.specs.View.{name_of};
 
 use crate::token::Name;
 use spec_document::Axis;
 use spec_expression::NodeType;
 use std::alloc::Global;
-use xp_syntax::{Expr, Link, Step, Test};
 use xt_base::numeral;
 use xt_names::{Expanded, Scope};
+use xt_syntax::{Expr, Link, Step, Test};
 use xt_text::{Memory, Text};
 
 /// The URI of a prefix; empty for a prefix that is not declared.

@@ -2,7 +2,7 @@
 ghost use Rattle.std.specs.Prelude.{◌≡◌, ◌≤◌, ◌<◌, length, map, IfOk, OnOk, OnErr};
 ghost use Rattle.spec_expression.specs.Grammar as grammar;
 ghost use Rattle.spec_expression.proofs.Rank.{rank};
-ghost use Rattle.xp_syntax.specs.View.{expr_of, link_of, step_of, test_of};
+ghost use Rattle.xt_syntax.specs.View.{expr_of, link_of, step_of, test_of};
 
 use crate::build::{chained, expanded, filtered, negated, node_on, stepped, uri_of};
 use crate::fault::ParseFault;
@@ -10,7 +10,7 @@ use crate::read::{Head, Parser, TestHead, axis_of, type_of};
 use crate::token::Sign;
 use spec_document::Axis;
 use spec_expression::{ExpressionRefusal, Level, NodeType};
-use xp_syntax::{Expr, Link, Step, Test};
+use xt_syntax::{Expr, Link, Step, Test};
 use xt_text::Text;
 
 impl<'a> Parser<'_, 'a> {

@@ -14,8 +14,8 @@ use crate::read::Parser;
 use crate::token::Token;
 use spec_expression::{ExpressionRefusal, Level};
 use std::alloc::Global;
-use xp_syntax::Expr;
 use xt_names::Scope;
+use xt_syntax::Expr;
 
 /// How many `(` and `[` may be open at a token.
 const GREATEST_DEPTH: u64 = 64;

@@ -10,9 +10,9 @@ use Rattle.spec_meaning.specs.Compare.{Operand, operands, beside, is_equality, i
 use Rattle.spec_meaning.specs.Compare.{operands_compared, compared, searched, after_first, some_pair}
 use Rattle.spec_meaning.specs.Program.{Program, Give, State, Supply, ◌>>=◌}
 use Rattle.xt_tree.specs.declared.node_ref.NodeRef.{NodeRef}
-use Rattle.xt_ask.specs.declared.fault.EvalFault.{EvalFault}
-use Rattle.xt_ask.specs.Runs.{Runs, Continues, itself}
-use Rattle.xt_ask.proofs.Steps.{next_turn}
+use Rattle.xt_questions.specs.declared.fault.EvalFault.{EvalFault}
+use Rattle.xt_questions.specs.Runs.{Runs, Continues, itself}
+use Rattle.xt_questions.proofs.Steps.{next_turn}
 use Rattle.xp_values.specs.declared.operand.Operand as code
 use Rattle.xp_values.specs.OperandView.{operand_of}
 

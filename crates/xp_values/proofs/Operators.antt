@@ -8,8 +8,8 @@ use Rattle.spec_meaning.specs.Operation.{combined, comparison, arithmetic}
 use Rattle.xt_tree.specs.ValueView.{value_of}
 use Rattle.xt_tree.specs.declared.node_ref.NodeRef.{NodeRef}
 use Rattle.xt_tree.specs.declared.value.Value as code
-use Rattle.xt_ask.specs.declared.fault.EvalFault.{EvalFault}
-use Rattle.xt_ask.specs.Runs.{Runs}
+use Rattle.xt_questions.specs.declared.fault.EvalFault.{EvalFault}
+use Rattle.xt_questions.specs.Runs.{Runs}
 use Rattle.xp_values.specs.View.{is_comparison}
 
 comparison_is : {N : Type 0} (operator : Operator) (v w : Value N) → is_comparison operator ≡ true → comparison operator v w ≡ combined operator v w

@@ -6,15 +6,15 @@ ghost use Rattle.spec_meaning.specs.Program.{Supply};
 ghost use Rattle.spec_meaning.specs.Compare as plain;
 ghost use Rattle.xt_tree.specs.ValueView.{value_of};
 ghost use Rattle.xt_tree.specs.declared.node_ref.NodeRef.{NodeRef};
-ghost use Rattle.xt_ask.specs.Runs.{Runs, itself, items};
+ghost use Rattle.xt_questions.specs.Runs.{Runs, itself, items};
 ghost use Rattle.xp_values.specs.OperandView.{operand_of};
 
 use crate::operand::{Comparand, Operand, operands};
 use crate::to_boolean;
 use spec_expression::Operator;
 use std::alloc::Global;
-use xt_ask::{EvalFault, World};
 use xt_base::Num;
+use xt_questions::{EvalFault, World};
 use xt_text::Text;
 use xt_tree::Value;
 

@@ -7,16 +7,16 @@ ghost use Rattle.spec_meaning.specs.Program.{State, Supply};
 ghost use Rattle.spec_meaning.specs.Convert as convert;
 ghost use Rattle.xt_tree.specs.ValueView.{value_of};
 ghost use Rattle.xt_tree.specs.declared.node_ref.NodeRef.{NodeRef};
-ghost use Rattle.xt_ask.specs.Runs.{Runs, itself, items};
+ghost use Rattle.xt_questions.specs.Runs.{Runs, itself, items};
 ghost use Rattle.spec_expression.specs.declared.code.DynCode.TheVariants as code;
-ghost use Rattle.xt_ask.specs.declared.fault.EvalFault.TheVariants as fault;
-ghost use Rattle.xt_ask.specs.declared.fault.Refusal.TheVariants as refusal;
+ghost use Rattle.xt_questions.specs.declared.fault.EvalFault.TheVariants as fault;
+ghost use Rattle.xt_questions.specs.declared.fault.Refusal.TheVariants as refusal;
 
 use crate::stream_text::text_of;
 use spec_expression::DynCode;
 use std::alloc::Global;
-use xt_ask::{EvalFault, Refusal, World, ask_text};
 use xt_base::{GREATEST, Num, NumFault};
+use xt_questions::{EvalFault, Refusal, World, ask_text};
 use xt_text::{Memory, Text};
 use xt_tree::{NodeRef, Value};
 

@@ -1,5 +1,5 @@
 //! Conversions, comparisons and operations on values (XPath 1.0, sections 3.3 to 3.5 and 4), in a world that
-//! is asked for the string-values of nodes. Every function that asks has the clause `Runs` (`xt_ask`).
+//! is asked for the string-values of nodes. Every function that asks has the clause `Runs` (`xt_questions`).
 //!
 //! ```text
 //! let number = to_number(alloc, &value, world)?;                     // of a node-set, by its first node

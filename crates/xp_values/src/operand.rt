@@ -7,7 +7,7 @@ ghost use Rattle.spec_meaning.specs.Compare.{Operand};
 ghost use Rattle.spec_meaning.specs.Program.{Program, Supply};
 ghost use Rattle.xt_tree.specs.ValueView.{value_of};
 ghost use Rattle.xt_tree.specs.declared.node_ref.NodeRef.{NodeRef};
-ghost use Rattle.xt_ask.specs.Runs.{Runs, itself};
+ghost use Rattle.xt_questions.specs.Runs.{Runs, itself};
 ghost use Rattle.xp_values.specs.OperandView.{operand_of};
 
 use crate::convert::{number_of_boolean, read, to_boolean};
@@ -15,8 +15,8 @@ use crate::stream_text::text_of;
 use spec_expression::Operator;
 use std::alloc::Global;
 use std::cmp::Ordering;
-use xt_ask::{EvalFault, World, ask_text};
 use xt_base::Num;
+use xt_questions::{EvalFault, World, ask_text};
 use xt_text::{Memory, Text};
 use xt_tree::{NodeRef, Value};
 

@@ -7,14 +7,14 @@ ghost use Rattle.spec_meaning.specs.Convert as convert;
 ghost use Rattle.spec_meaning.specs.Operation as operation;
 ghost use Rattle.xt_tree.specs.ValueView.{value_of};
 ghost use Rattle.xt_tree.specs.declared.node_ref.NodeRef.{NodeRef};
-ghost use Rattle.xt_ask.specs.Runs.{Runs};
+ghost use Rattle.xt_questions.specs.Runs.{Runs};
 ghost use Rattle.xp_values.specs.View.{is_comparison};
 
 use crate::{compare, given, to_boolean, to_nodes, to_number};
 use spec_expression::Operator;
 use std::alloc::Global;
-use xt_ask::{EvalFault, World, ask_order};
 use xt_base::{Num, NumFault};
+use xt_questions::{EvalFault, World, ask_order};
 use xt_tree::Value;
 
 /// What an arithmetic operator makes of two numbers: `+`, `-`, `*`, `div` or `mod`.

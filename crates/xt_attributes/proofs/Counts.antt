@@ -6,8 +6,8 @@ use Rattle.spec_compile.specs.Walk.{count_of}
 use Rattle.spec_expression.specs.Syntax.{exprs}
 use Rattle.spec_meaning.specs.declared.function.Function.{Function}
 use Rattle.xp_functions.specs.Found.{found_or_refused}
-use Rattle.xp_syntax.specs.View.{expr_of}
-use Rattle.xp_syntax.specs.declared.expr.Expr.{Expr}
+use Rattle.xt_syntax.specs.View.{expr_of}
+use Rattle.xt_syntax.specs.declared.expr.Expr.{Expr}
 
 pub count_is : (xs : List Expr) → length xs ≡ count_of (exprs (map expr_of xs))
 count_is [] = refl

@@ -6,8 +6,8 @@ use Rattle.spec_expression.specs.declared.code.StaticCode.{StaticCode}
 use Rattle.spec_static.specs.PatternGrammar.{ParsesPattern}
 use Rattle.spec_compile.specs.Reading.{APattern, Done}
 use Rattle.spec_compile.specs.Value.{pattern_by}
-use Rattle.xp_syntax.specs.PartView.{pattern_of}
-use Rattle.xp_syntax.specs.declared.pattern.Pattern.{Pattern}
+use Rattle.xt_syntax.specs.PartView.{pattern_of}
+use Rattle.xt_syntax.specs.declared.pattern.Pattern.{Pattern}
 use Rattle.xt_pattern.specs.Code.{fault_code}
 use Rattle.xt_pattern.specs.Parsed.{Parsed}
 use Rattle.xt_pattern.specs.declared.fault.PatternFault.{PatternFault}

@@ -6,9 +6,9 @@ use Rattle.spec_structure.specs.declared.element.XsltElement.{XsltElement}
 use Rattle.spec_compile.specs.Reading.{Reading}
 use Rattle.spec_compile.specs.Value as plain
 use Rattle.spec_compile.specs.Value.{is_within_limits, millionths}
-use Rattle.xp_syntax.specs.View.{expr_of, test_of}
-use Rattle.xp_syntax.specs.PartView.{avt_of, pattern_of}
-use Rattle.xp_syntax.specs.declared.avt.Avt.{Avt}
+use Rattle.xt_syntax.specs.View.{expr_of, test_of}
+use Rattle.xt_syntax.specs.PartView.{avt_of, pattern_of}
+use Rattle.xt_syntax.specs.declared.avt.Avt.{Avt}
 use Rattle.xt_attributes.specs.Answers.{IsRead}
 use Rattle.xt_attributes.specs.declared.entries.Entries.{Entries}
 use Rattle.xt_attributes.specs.declared.entries.Entry.{Entry}

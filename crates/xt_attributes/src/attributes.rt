@@ -8,7 +8,7 @@ ghost use Rattle.spec_structure.specs.Structure.{kind_named};
 ghost use Rattle.xt_attributes.specs.Answers.{Finds};
 ghost use Rattle.xt_attributes.specs.Gathering.{appended, gathered_in, seen};
 ghost use Rattle.xt_attributes.specs.View.{IsAnswer, barred_by, entries_in, entry_in, listed, value_in};
-ghost use Rattle.xt_sheet.specs.View.{row_of};
+ghost use Rattle.xt_structure.specs.View.{row_of};
 ghost use Rattle.xt_tree.specs.View.{written_of};
 
 use crate::barred::unless_barred;
@@ -21,7 +21,7 @@ use crate::value::Value;
 use spec_structure::{ValueKind, XsltElement};
 use std::alloc::Global;
 use xt_names::{Scope, XSLT_URI};
-use xt_sheet::{Meaning, Row, expanded_of, kind_named, rows_of};
+use xt_structure::{Meaning, Row, expanded_of, kind_named, rows_of};
 use xt_text::{Memory, Text};
 use xt_tree::Written;
 

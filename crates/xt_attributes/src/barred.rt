@@ -2,8 +2,8 @@
 ghost use Rattle.std.specs.Prelude.{◌≡◌, ◌||◌, Ok, codes};
 ghost use Rattle.spec_compile.specs.Value as spec;
 ghost use Rattle.spec_compile.specs.Walk as walk;
-ghost use Rattle.xp_syntax.specs.PartView.{pattern_of};
-ghost use Rattle.xp_syntax.specs.View.{expr_of};
+ghost use Rattle.xt_syntax.specs.PartView.{pattern_of};
+ghost use Rattle.xt_syntax.specs.View.{expr_of};
 ghost use Rattle.xt_attributes.specs.Gathering.{seen};
 ghost use Rattle.xt_attributes.specs.View.{barred_by, value_in};
 
@@ -12,7 +12,7 @@ use crate::value::Value;
 use crate::walk::{Sought, has, has_in_pattern, starts_with_key};
 use spec_expression::StaticCode;
 use spec_structure::XsltElement;
-use xp_syntax::{Expr, Pattern};
+use xt_syntax::{Expr, Pattern};
 
 fn is_barred_of_template(pattern: &Pattern) -> bool
     ensures { result ≡ (walk.has_in_pattern walk.variables (pattern_of pattern.now) || walk.has_in_pattern (walk.calls_of (codes "current")) (pattern_of pattern.now)) }

@@ -5,7 +5,7 @@ ghost use Rattle.std.specs.Option.{option_copied, option_map};
 ghost use Rattle.std.specs.Str.{chars};
 ghost use Rattle.spec_compile.specs.Value as spec;
 ghost use Rattle.spec_document.specs.Name as name;
-ghost use Rattle.xp_syntax.specs.View.{test_of};
+ghost use Rattle.xt_syntax.specs.View.{test_of};
 ghost use Rattle.xt_attributes.specs.Gathering.{seen};
 ghost use Rattle.xt_attributes.specs.View.{value_in};
 
@@ -13,8 +13,8 @@ use crate::gathered::Gathered;
 use crate::value::Value;
 use spec_expression::StaticCode;
 use std::alloc::Global;
-use xp_syntax::{Method, Test};
 use xt_names::{Expanded, QName, Scope, is_ncname};
+use xt_syntax::{Method, Test};
 use xt_text::{Memory, Text, split_first};
 
 /// What a part of a value is, or the code that stands where it is none.

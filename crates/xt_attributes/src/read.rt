@@ -3,8 +3,8 @@ ghost use Rattle.std.specs.Prelude.{◌≡◌, IfOk, Ok, map};
 ghost use Rattle.spec_compile.specs.Value as spec;
 ghost use Rattle.spec_expression.specs.Strings as strings;
 ghost use Rattle.spec_structure.specs.declared.value.ValueKind.TheVariants as kind;
-ghost use Rattle.xp_syntax.specs.PartView.{pattern_of};
-ghost use Rattle.xp_syntax.specs.View.{expr_of, test_of};
+ghost use Rattle.xt_syntax.specs.PartView.{pattern_of};
+ghost use Rattle.xt_syntax.specs.View.{expr_of, test_of};
 ghost use Rattle.xt_attributes.specs.Answers.{Finds};
 ghost use Rattle.xt_attributes.specs.Gathering.{seen};
 ghost use Rattle.xt_attributes.specs.View.{template_in, value_in};
@@ -17,10 +17,10 @@ use crate::walk::{Sought, has, has_in_pattern};
 use spec_expression::{ExpressionRefusal, StaticCode};
 use spec_structure::ValueKind;
 use std::alloc::Global;
-use xp_syntax::{Avt, Expr, Pattern, Test};
 use xt_names::{Expanded, Scope};
 use xt_pattern::parse_pattern;
-use xt_sheet::words;
+use xt_structure::words;
+use xt_syntax::{Avt, Expr, Pattern, Test};
 use xt_text::{Memory, Text};
 
 // ---- Texts and names

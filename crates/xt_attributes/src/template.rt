@@ -8,8 +8,8 @@ ghost use Rattle.spec_expression.specs.Grammar.{Parses};
 ghost use Rattle.spec_expression.specs.declared.code.StaticCode.TheVariants as code;
 ghost use Rattle.spec_static.specs.TemplateGrammar.{ParsesTemplate, pieces};
 ghost use Rattle.spec_structure.specs.declared.value.ValueKind.TheVariants as kind;
-ghost use Rattle.xp_syntax.specs.PartView.{avt_of};
-ghost use Rattle.xp_syntax.specs.View.{expr_of};
+ghost use Rattle.xt_syntax.specs.PartView.{avt_of};
+ghost use Rattle.xt_syntax.specs.View.{expr_of};
 ghost use Rattle.xt_attributes.specs.Answers.{Finds};
 ghost use Rattle.xt_attributes.specs.Gathering.{seen};
 ghost use Rattle.xt_attributes.specs.Stray.{IsAsked, refused_in};
@@ -22,9 +22,9 @@ use spec_expression::{ExpressionRefusal, StaticCode};
 use spec_static::TemplateRefusal;
 use std::alloc::Global;
 use xp_parse::{ParseFault, parse};
-use xp_syntax::{Avt, Expr};
 use xt_avt::{AvtFault, Piece, first_piece, parse_avt};
 use xt_names::Scope;
+use xt_syntax::{Avt, Expr};
 use xt_text::{Memory, Text};
 
 /// The expression that a text is, or its refusal.

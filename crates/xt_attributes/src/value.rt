@@ -3,12 +3,12 @@ ghost use Rattle.std.specs.Prelude.{◌≡◌, map};
 ghost use Rattle.std.specs.Option.{option_and_then, option_copied, option_map};
 ghost use Rattle.spec_compile.specs.Unit as unit;
 ghost use Rattle.spec_compile.specs.Value as spec;
-ghost use Rattle.xp_syntax.specs.PartView.{avt_of, pattern_of};
-ghost use Rattle.xp_syntax.specs.View.{expr_of, test_of};
+ghost use Rattle.xt_syntax.specs.PartView.{avt_of, pattern_of};
+ghost use Rattle.xt_syntax.specs.View.{expr_of, test_of};
 ghost use Rattle.xt_attributes.specs.View.{value_in};
 
-use xp_syntax::{Avt, Expr, Method, Pattern, Test};
 use xt_names::Expanded;
+use xt_syntax::{Avt, Expr, Method, Pattern, Test};
 use xt_text::Text;
 
 /// What the value of an attribute is.

@@ -4,14 +4,14 @@ ghost use Rattle.std.specs.List.{flat_map};
 ghost use Rattle.spec_compile.specs.Content.{variables_by};
 ghost use Rattle.spec_compile.specs.Walk as spec;
 ghost use Rattle.spec_expression.specs.Syntax.{exprs, links, steps};
-ghost use Rattle.xp_syntax.specs.PartView.{avt_of, avt_part_of, pattern_of, pattern_step_of};
-ghost use Rattle.xp_syntax.specs.View.{expr_of, link_of, step_of};
+ghost use Rattle.xt_syntax.specs.PartView.{avt_of, avt_part_of, pattern_of, pattern_step_of};
+ghost use Rattle.xt_syntax.specs.View.{expr_of, link_of, step_of};
 ghost use Rattle.xt_attributes.specs.View.{value_in};
 
 use crate::value::Value;
 use std::alloc::Global;
-use xp_syntax::{Avt, AvtPart, Expr, Link, Pattern, PatternStep, Step};
 use xt_names::Expanded;
+use xt_syntax::{Avt, AvtPart, Expr, Link, Pattern, PatternStep, Step};
 use xt_text::Memory;
 
 fn add_name(alloc: Global, name: &Expanded, into: &mut Vec<Expanded>) -> Result<(), Memory>

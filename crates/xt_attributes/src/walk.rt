@@ -4,13 +4,13 @@ ghost use Rattle.std.specs.List.{list_any};
 ghost use Rattle.std.specs.Str.{chars};
 ghost use Rattle.spec_compile.specs.Walk as spec;
 ghost use Rattle.spec_expression.specs.Syntax.{exprs, links, steps};
-ghost use Rattle.xp_syntax.specs.PartView.{avt_of, avt_part_of, pattern_of, pattern_step_of};
-ghost use Rattle.xp_syntax.specs.View.{expr_of, link_of, step_of};
+ghost use Rattle.xt_syntax.specs.PartView.{avt_of, avt_part_of, pattern_of, pattern_step_of};
+ghost use Rattle.xt_syntax.specs.View.{expr_of, link_of, step_of};
 ghost use Rattle.xt_attributes.specs.Sought.{sought_in};
 
 use xp_functions::find;
-use xp_syntax::{Avt, AvtPart, Expr, Link, Pattern, PatternStep, Start, Step};
 use xt_names::Expanded;
+use xt_syntax::{Avt, AvtPart, Expr, Link, Pattern, PatternStep, Start, Step};
 
 /// What is looked for.
 #[derive(Clone, Copy)]

@@ -11,9 +11,9 @@ use Rattle.spec_stylesheet.specs.ValueTemplate.{AvtPart, Text, Value}
 use Rattle.spec_static.specs.declared.refusal.TemplateRefusal.{TemplateRefusal}
 use Rattle.spec_static.specs.declared.refusal.TemplateRefusal.TheVariants.{Braces}
 use Rattle.spec_static.specs.TemplateGrammar.{Piece, Character, Enclosed, Stray, GiveParts, no_piece, character, stray, enclosed, least, refused, on_parts, with_character, with_value, template_code, template_by, pieces}
-use Rattle.xp_syntax.specs.declared.avt.AvtPart as code
-use Rattle.xp_syntax.specs.PartView.{avt_part_of}
-use Rattle.xp_syntax.specs.declared.avt.Avt.{Avt}
+use Rattle.xt_syntax.specs.declared.avt.AvtPart as code
+use Rattle.xt_syntax.specs.PartView.{avt_part_of}
+use Rattle.xt_syntax.specs.declared.avt.Avt.{Avt}
 use Rattle.xt_avt.specs.declared.fault.AvtFault.{AvtFault}
 use Rattle.xt_avt.specs.declared.fault.AvtFault.TheVariants.{Memory, Refused}
 use Rattle.xt_avt.specs.declared.parts.Parts.{Parts}

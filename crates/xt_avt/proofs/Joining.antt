@@ -5,13 +5,13 @@ use Rattle.spec_stylesheet.specs.ValueTemplate as plain
 use Rattle.spec_meaning.specs.Program.{Program, Give, Refuse, Ask, Need, then, State, Supply, run}
 use Rattle.spec_meaning.specs.Context.{Context}
 use Rattle.spec_transform.specs.Expansion.{part_text, joined}
-use Rattle.xp_syntax.specs.declared.avt.AvtPart.{AvtPart}
-use Rattle.xp_syntax.specs.PartView.{avt_part_of}
+use Rattle.xt_syntax.specs.declared.avt.AvtPart.{AvtPart}
+use Rattle.xt_syntax.specs.PartView.{avt_part_of}
 use Rattle.xt_tree.specs.declared.node_ref.NodeRef.{NodeRef}
-use Rattle.xt_ask.specs.declared.fault.EvalFault.{EvalFault}
-use Rattle.xt_ask.specs.Runs.{Runs, Continues}
+use Rattle.xt_questions.specs.declared.fault.EvalFault.{EvalFault}
+use Rattle.xt_questions.specs.Runs.{Runs, Continues}
 use Rattle.std.specs.Prelude.{Result}
-use Rattle.xt_ask.proofs.Steps.{next_turn, runs_from}
+use Rattle.xt_questions.proofs.Steps.{next_turn, runs_from}
 
 then_then : {N A B C : Type 0} (p : Program N A) (f : A → Program N B) (k : B → Program N C) → then (then p f) k ≡ then p (λ x. then (f x) k)
 unfolding then

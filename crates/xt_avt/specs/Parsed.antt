@@ -2,8 +2,8 @@
 use Rattle.std.specs.Prelude.{ℕ, List, Result, Ok, Err}
 use Rattle.spec_document.specs.Scope.{Scope}
 use Rattle.spec_static.specs.TemplateGrammar.{ParsesTemplate}
-use Rattle.xp_syntax.specs.declared.avt.Avt.{Avt}
-use Rattle.xp_syntax.specs.PartView.{avt_of}
+use Rattle.xt_syntax.specs.declared.avt.Avt.{Avt}
+use Rattle.xt_syntax.specs.PartView.{avt_of}
 use Rattle.xt_avt.specs.declared.fault.AvtFault.{AvtFault}
 use Rattle.xt_avt.specs.declared.fault.AvtFault.TheVariants.{Memory, Refused}
 

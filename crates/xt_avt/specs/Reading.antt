@@ -5,8 +5,8 @@ use Rattle.spec_stylesheet.specs.ValueTemplate as plain
 use Rattle.spec_stylesheet.specs.ValueTemplate.{AvtPart}
 use Rattle.spec_static.specs.declared.refusal.TemplateRefusal.{TemplateRefusal}
 use Rattle.spec_static.specs.TemplateGrammar.{Piece, GiveParts, with_character, on_parts, refused}
-use Rattle.xp_syntax.specs.declared.avt.Avt.{Avt}
-use Rattle.xp_syntax.specs.PartView.{avt_part_of}
+use Rattle.xt_syntax.specs.declared.avt.Avt.{Avt}
+use Rattle.xt_syntax.specs.PartView.{avt_part_of}
 use Rattle.xt_avt.specs.declared.fault.AvtFault.{AvtFault}
 use Rattle.xt_avt.specs.declared.fault.AvtFault.TheVariants.{Memory, Refused}
 use Rattle.xt_avt.specs.declared.parts.Parts.{Parts}

@@ -2,14 +2,14 @@
 ghost use Rattle.std.specs.Prelude.{◌≡◌};
 ghost use Rattle.spec_meaning.specs.Supplies.{at_hand};
 ghost use Rattle.spec_transform.specs.Expansion.{expanded, part_text};
-ghost use Rattle.xp_syntax.specs.PartView.{avt_of, avt_part_of};
-ghost use Rattle.xt_ask.specs.View.{context_of, supplies_of};
-ghost use Rattle.xt_ask.specs.Runs.{Runs, itself};
+ghost use Rattle.xt_syntax.specs.PartView.{avt_of, avt_part_of};
+ghost use Rattle.xt_questions.specs.View.{context_of, supplies_of};
+ghost use Rattle.xt_questions.specs.Runs.{Runs, itself};
 
 use std::alloc::Global;
-use xp_syntax::{Avt, AvtPart};
 use xp_values::to_text;
-use xt_ask::{Context, EvalFault, Evaluate, Focus, Supplies};
+use xt_questions::{Context, EvalFault, Evaluate, Focus, Supplies};
+use xt_syntax::{Avt, AvtPart};
 use xt_text::Text;
 
 /// The string that the template stands for: the strings of its parts joined, where an expression is evaluated

@@ -4,8 +4,8 @@ ghost use Rattle.std.specs.Str.{chars};
 ghost use Rattle.spec_stylesheet.specs.ValueTemplate as plain;
 ghost use Rattle.spec_static.specs.TemplateGrammar as grammar;
 ghost use Rattle.spec_static.specs.TemplateGrammar.{with_character, with_value, on_parts, refused};
-ghost use Rattle.xp_syntax.specs.View.{expr_of};
-ghost use Rattle.xp_syntax.specs.PartView.{avt_part_of};
+ghost use Rattle.xt_syntax.specs.View.{expr_of};
+ghost use Rattle.xt_syntax.specs.PartView.{avt_part_of};
 ghost use Rattle.xt_avt.specs.Cut.{piece_of};
 ghost use Rattle.xt_avt.specs.Reading.{Comes, Finishes, all_with, begins_text, with_text};
 
@@ -15,8 +15,8 @@ use spec_static::TemplateRefusal;
 use std::alloc::Global;
 use std::mem;
 use xp_parse::{ParseFault, parse};
-use xp_syntax::{Avt, AvtPart, Expr};
 use xt_names::Scope;
+use xt_syntax::{Avt, AvtPart, Expr};
 use xt_text::{Memory, Text};
 
 /// What was read of a value template so far.

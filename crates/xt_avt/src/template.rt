@@ -6,8 +6,8 @@ use crate::braces::first_piece;
 use crate::fault::AvtFault;
 use crate::parts::Parts;
 use std::alloc::Global;
-use xp_syntax::Avt;
 use xt_names::Scope;
+use xt_syntax::Avt;
 
 /// The attribute value template that a text is (XSLT 1.0, section 7.6.2), where the prefixes of names in its
 /// expressions stand for what the scope says. A text that is none has one refusal, the least of all that

@@ -2,10 +2,10 @@
 use Rattle.std.proofs.Common.{◌≡◌, ℕ, ◌+◌, List, [], ◌∷◌, ◌++◌, length, map, ap, ◌∙◌, append_assoc}
 use Rattle.std.proofs.lemmas.List.{map-append, length-append}
 use Rattle.spec_stylesheet.specs.Sheet as sheet
-use Rattle.xp_syntax.specs.PartView.{alternative_of}
-use Rattle.xp_syntax.specs.SheetView.{rule_of}
-use Rattle.xp_syntax.specs.declared.pattern.Alternative.{Alternative}
-use Rattle.xp_syntax.specs.declared.rule.Rule.{Rule}
+use Rattle.xt_syntax.specs.PartView.{alternative_of}
+use Rattle.xt_syntax.specs.SheetView.{rule_of}
+use Rattle.xt_syntax.specs.declared.pattern.Alternative.{Alternative}
+use Rattle.xt_syntax.specs.declared.rule.Rule.{Rule}
 use Rattle.xt_compile.specs.Rules.{rule_by, rules_by}
 use Rattle.xt_compile.specs.declared.rules.Common.{Common}
 

@@ -11,7 +11,7 @@ use Rattle.spec_compile.specs.Content.{Uses, Outline}
 use Rattle.spec_compile.specs.Scoping as plain
 use Rattle.spec_compile.specs.Unit.{Declaration, ATemplate, AGlobal, ASet, AKey, ASpaceRule, AnOutput, AnAlias}
 use Rattle.spec_compile.specs.Sheet as spec
-use Rattle.xp_syntax.specs.SheetView.{alias_of, rule_of, space_rule_of, unit_of}
+use Rattle.xt_syntax.specs.SheetView.{alias_of, rule_of, space_rule_of, unit_of}
 use Rattle.xt_scoping.specs.View.{ranked_in}
 use Rattle.xt_scoping.specs.declared.violation.Ranked.{Ranked}
 use Rattle.xt_rank.specs.Rank.{AreNumbered}

@@ -7,8 +7,8 @@ use Rattle.std.proofs.lemmas.List.Sorted.{list_any-IsPermutation, IsPermutation-
 use Rattle.std.proofs.lemmas.Slice.Eq.{bytes_eq-Decides}
 use Rattle.spec_stylesheet.specs.Sheet.{Alias}
 use Rattle.spec_compile.specs.Sheet.{is_alias_of, last_aliases}
-use Rattle.xp_syntax.specs.SheetView.{alias_of}
-use Rattle.xp_syntax.specs.declared.sheet.Alias as program
+use Rattle.xt_syntax.specs.SheetView.{alias_of}
+use Rattle.xt_syntax.specs.declared.sheet.Alias as program
 
 same_uri : (a b c : Alias) → is_alias_of a b ≡ true → is_alias_of a c ≡ is_alias_of b c
 same_uri a b c e = ap (λ (uri : List ℕ). bytes_eq uri c.stylesheet) ((bytes_eq-Decides a.stylesheet b.stylesheet).0 e)

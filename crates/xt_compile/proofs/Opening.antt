@@ -13,8 +13,8 @@ use Rattle.spec_compile.specs.Sheet.{Said, said_by, is_at}
 use Rattle.spec_compile.specs.Unit as unit
 use Rattle.xt_import.specs.View.{is_name}
 use Rattle.xt_text.specs.declared.memory.Memory.{Memory}
-use Rattle.xt_units.specs.View.{top_levels_in}
-use Rattle.xt_units.specs.declared.top_level.TopLevel.{TopLevel}
+use Rattle.xt_top_level.specs.View.{top_levels_in}
+use Rattle.xt_top_level.specs.declared.top_level.TopLevel.{TopLevel}
 use Rattle.xt_compile.specs.Opened.{IsLeft}
 use Rattle.xt_compile.specs.Placed.{AreOpened, MayBeLeft}
 

@@ -10,8 +10,8 @@ use Rattle.std.proofs.lemmas.List.Elements.{filter-append}
 use Rattle.std.proofs.lemmas.Slice.Eq.{bytes_eq-Decides}
 use Rattle.spec_compile.specs.Sheet.{is_at}
 use Rattle.spec_compile.specs.Unit as unit
-use Rattle.xt_units.specs.View.{top_levels_in}
-use Rattle.xt_units.specs.declared.top_level.TopLevel.{TopLevel}
+use Rattle.xt_top_level.specs.View.{top_levels_in}
+use Rattle.xt_top_level.specs.declared.top_level.TopLevel.{TopLevel}
 use Rattle.xt_compile.specs.Opened.{FitsAll, FitsLeft, IsLeft, IsOpened, is_path, items_of, kept_of}
 use Rattle.xt_compile.specs.Placed.{is_none_left}
 use Rattle.indexmap.specs.IndexMap.{insert_entry}

@@ -15,8 +15,8 @@ use Rattle.xt_import.specs.declared.precedence.Stylesheet as program_sheet
 use Rattle.xt_import.specs.declared.precedence.Part as program
 use Rattle.xt_scoping.specs.View.{ranked_in}
 use Rattle.xt_scoping.specs.declared.violation.Ranked.{Ranked}
-use Rattle.xt_units.specs.View.{top_levels_in, top_level_in}
-use Rattle.xt_units.specs.declared.top_level.TopLevel.{TopLevel}
+use Rattle.xt_top_level.specs.View.{top_levels_in, top_level_in}
+use Rattle.xt_top_level.specs.declared.top_level.TopLevel.{TopLevel}
 use Rattle.xt_compile.specs.Placed.{IsPlacing, Places}
 use Rattle.xt_text.specs.declared.memory.Memory.{Memory}
 use Rattle.xt_compile.specs.Stock.{Says}

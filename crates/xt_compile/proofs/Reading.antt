@@ -18,10 +18,10 @@ use Rattle.xt_compile.specs.declared.fault.StaticRefusal.{StaticRefusal}
 use Rattle.xt_compile.specs.declared.read.Said.{Said}
 use Rattle.xt_import.specs.Tree.{names_in, IsJudged}
 use Rattle.xt_import.specs.declared.listed.ListedModule.{ListedModule}
-use Rattle.xt_sheet.specs.View.{fault_in, faults_in}
-use Rattle.xt_sheet.specs.declared.fault.Fault.{Fault}
-use Rattle.xt_units.specs.View.{top_levels_in}
-use Rattle.xt_units.specs.declared.top_level.TopLevel.{TopLevel}
+use Rattle.xt_structure.specs.View.{fault_in, faults_in}
+use Rattle.xt_structure.specs.declared.fault.Fault.{Fault}
+use Rattle.xt_top_level.specs.View.{top_levels_in}
+use Rattle.xt_top_level.specs.declared.top_level.TopLevel.{TopLevel}
 
 -- what was said before, and then this
 abbrev pub with_all : List spec.Said → Result (List spec.Said) Refusal → Result (List spec.Said) Refusal

@@ -19,8 +19,8 @@ use Rattle.spec_compile.specs.Unit.{module_of}
 use Rattle.spec_compile.specs.Sheet.{Said, said_by}
 use Rattle.spec_compile.proofs.Readings.{OneAnswer, one_value}
 use Rattle.xt_import.specs.View.{is_name}
-use Rattle.xt_units.specs.View.{top_levels_in}
-use Rattle.xt_units.specs.declared.top_level.TopLevel.{TopLevel}
+use Rattle.xt_top_level.specs.View.{top_levels_in}
+use Rattle.xt_top_level.specs.declared.top_level.TopLevel.{TopLevel}
 use Rattle.xt_compile.specs.Stock.{Fits, IsStock, Says, in_slot, is_said}
 use Rattle.indexmap.specs.IndexMap.{insert_entry}
 use Rattle.xt_import.proofs.Keys.{by_characters}

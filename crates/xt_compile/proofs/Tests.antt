@@ -2,10 +2,10 @@
 use Rattle.std.proofs.Common.{◌≡◌, ℕ, Bool, List, [], ◌∷◌, ◌++◌, map, ap, ◌∙◌, append_assoc}
 use Rattle.std.proofs.lemmas.List.{map-append}
 use Rattle.spec_stylesheet.specs.Sheet as sheet
-use Rattle.xp_syntax.specs.SheetView.{space_rule_of}
-use Rattle.xp_syntax.specs.View.{test_of}
-use Rattle.xp_syntax.specs.declared.expr.Test.{Test}
-use Rattle.xp_syntax.specs.declared.space_rules.SpaceRule.{SpaceRule}
+use Rattle.xt_syntax.specs.SheetView.{space_rule_of}
+use Rattle.xt_syntax.specs.View.{test_of}
+use Rattle.xt_syntax.specs.declared.expr.Test.{Test}
+use Rattle.xt_syntax.specs.declared.space_rules.SpaceRule.{SpaceRule}
 use Rattle.xt_compile.specs.Space.{space_rule}
 
 abbrev pub tests_with : ℕ → Bool → List SpaceRule → List Test → List sheet.SpaceRule

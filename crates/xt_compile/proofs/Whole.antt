@@ -16,7 +16,7 @@ use Rattle.spec_compile.specs.Unit.{module_of}
 use Rattle.spec_compile.specs.Sheet as spec
 use Rattle.spec_compile.specs.Sheet.{AreRead, none_left, faulty, well, IsRead, Said, Refusal, said_by, with_said, answer_by, earlier_of, fault_in, IsSheet, refused, read}
 use Rattle.spec_compile.proofs.Orders.{AreModules, are_modules}
-use Rattle.xp_syntax.specs.declared.sheet.Sheet.{Sheet}
+use Rattle.xt_syntax.specs.declared.sheet.Sheet.{Sheet}
 use Rattle.xt_import.specs.Parts.{IsFaultless}
 use Rattle.xt_import.specs.Tree.{IsJudged, names_in}
 use Rattle.xt_import.specs.declared.listed.ListedModule.{ListedModule}

@@ -7,8 +7,8 @@ use Rattle.std.specs.declared.alloc.Global.{Global}
 use Rattle.std.specs.declared.vec.Vec.{Vec}
 use Rattle.spec_compile.specs.Sheet.{is_at}
 use Rattle.spec_compile.specs.Unit as unit
-use Rattle.xt_units.specs.View.{top_levels_in}
-use Rattle.xt_units.specs.declared.top_level.TopLevel.{TopLevel}
+use Rattle.xt_top_level.specs.View.{top_levels_in}
+use Rattle.xt_top_level.specs.declared.top_level.TopLevel.{TopLevel}
 
 abbrev pub is_path : List ℕ → Vec ℕ Global → Bool
 is_path path key = bytes_eq path key.items

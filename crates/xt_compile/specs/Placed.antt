@@ -13,7 +13,7 @@ use Rattle.spec_compile.specs.Unit as unit
 use Rattle.xt_import.specs.View.{is_name}
 use Rattle.xt_scoping.specs.View.{ranked_in}
 use Rattle.xt_scoping.specs.declared.violation.Ranked.{Ranked}
-use Rattle.xt_units.specs.declared.top_level.TopLevel.{TopLevel}
+use Rattle.xt_top_level.specs.declared.top_level.TopLevel.{TopLevel}
 use Rattle.xt_compile.specs.Opened.{IsLeft}
 use Rattle.xt_compile.specs.Stock.{IsStock, Says}
 use Rattle.xt_compile.specs.declared.placing.Placing.{Placing}

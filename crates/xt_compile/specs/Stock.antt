@@ -10,8 +10,8 @@ use Rattle.spec_compile.specs.Reading.{Reads}
 use Rattle.spec_compile.specs.Unit.{module_of}
 use Rattle.spec_compile.specs.Sheet.{Said, said_by}
 use Rattle.xt_import.specs.View.{is_name}
-use Rattle.xt_units.specs.View.{top_levels_in}
-use Rattle.xt_units.specs.declared.top_level.TopLevel.{TopLevel}
+use Rattle.xt_top_level.specs.View.{top_levels_in}
+use Rattle.xt_top_level.specs.declared.top_level.TopLevel.{TopLevel}
 
 abbrev pub is_said : List ℕ → List Said → Bool
 is_said name [] = false

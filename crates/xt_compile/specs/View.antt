@@ -8,15 +8,15 @@ use Rattle.spec_stylesheet.specs.Sheet as spec_sheet
 use Rattle.spec_compile.specs.Unit as unit
 use Rattle.spec_compile.specs.Sheet as spec
 use Rattle.spec_compile.specs.Sheet.{IsRead, AreRead, IsSheet}
-use Rattle.xp_syntax.specs.PartView.{place_of}
-use Rattle.xp_syntax.specs.SheetView.{sheet_of}
-use Rattle.xp_syntax.specs.declared.sheet.Sheet.{Sheet}
-use Rattle.xt_sheet.specs.View.{fault_in}
-use Rattle.xt_sheet.specs.declared.fault.Fault.{Fault}
+use Rattle.xt_syntax.specs.PartView.{place_of}
+use Rattle.xt_syntax.specs.SheetView.{sheet_of}
+use Rattle.xt_syntax.specs.declared.sheet.Sheet.{Sheet}
+use Rattle.xt_structure.specs.View.{fault_in}
+use Rattle.xt_structure.specs.declared.fault.Fault.{Fault}
 use Rattle.xt_import.specs.Tree.{IsJudged}
 use Rattle.xt_import.specs.declared.listed.ListedModule.{ListedModule}
-use Rattle.xt_units.specs.View.{top_levels_in}
-use Rattle.xt_units.specs.declared.top_level.TopLevel.{TopLevel}
+use Rattle.xt_top_level.specs.View.{top_levels_in}
+use Rattle.xt_top_level.specs.declared.top_level.TopLevel.{TopLevel}
 use Rattle.xt_compile.specs.declared.fault.SheetFault.{SheetFault}
 use Rattle.xt_compile.specs.declared.fault.SheetFault.TheVariants as faults
 use Rattle.xt_compile.specs.declared.fault.StaticRefusal.{StaticRefusal}

@@ -2,10 +2,10 @@
 ghost use Rattle.std.specs.Prelude.{◌≡◌, ◌++◌, map, IfOk};
 ghost use Rattle.std.specs.List.{list_any};
 ghost use Rattle.spec_compile.specs.Sheet as spec;
-ghost use Rattle.xp_syntax.specs.SheetView.{alias_of};
+ghost use Rattle.xt_syntax.specs.SheetView.{alias_of};
 
 use std::alloc::Global;
-use xp_syntax::Alias;
+use xt_syntax::Alias;
 use xt_text::Memory;
 
 /// Of the aliases of each URI, the last, in their order.

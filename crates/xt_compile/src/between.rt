@@ -7,13 +7,13 @@ ghost use Rattle.xt_compile.specs.Faulty.{AreFaulty};
 ghost use Rattle.xt_compile.specs.View.{refusals_in};
 ghost use Rattle.xt_import.specs.View.{is_name};
 ghost use Rattle.xt_scoping.specs.View.{violation_in};
-ghost use Rattle.xt_sheet.specs.View.{fault_in, faults_in};
+ghost use Rattle.xt_structure.specs.View.{fault_in, faults_in};
 
 use crate::fault::{StaticRefusal, earlier_of, refusal_at};
 use indexmap::IndexSet;
 use std::alloc::Global;
 use xt_scoping::Violation;
-use xt_sheet::Fault;
+use xt_structure::Fault;
 use xt_text::{Memory, Text};
 
 /// The first of the faults between elements: by module in the order of these names, then by place in document order,

@@ -15,9 +15,9 @@ use crate::placing::ranked_of;
 use crate::read::{Said, read_all};
 use indexmap::IndexMap;
 use std::alloc::Global;
-use xp_syntax::Sheet;
 use xt_import::{ListedModule, Stylesheet, stylesheets, tree};
 use xt_scoping::{Ranked, violations_of};
+use xt_syntax::Sheet;
 use xt_text::{Memory, Text};
 use xt_tree::Doc;
 

@@ -4,9 +4,9 @@ ghost use Rattle.std.specs.List.{flat_map};
 ghost use Rattle.std.specs.Option.{option_map};
 ghost use Rattle.spec_compile.specs.Sheet as spec;
 ghost use Rattle.spec_stylesheet.specs.Sheet as sheet;
-ghost use Rattle.xp_syntax.specs.PartView.{pattern_of, site_of};
-ghost use Rattle.xp_syntax.specs.SheetView.{alias_of, declared_of, rule_of, sheet_of, space_rule_of, template_of, unit_of};
-ghost use Rattle.xp_syntax.specs.View.{test_of};
+ghost use Rattle.xt_syntax.specs.PartView.{pattern_of, site_of};
+ghost use Rattle.xt_syntax.specs.SheetView.{alias_of, declared_of, rule_of, sheet_of, space_rule_of, template_of, unit_of};
+ghost use Rattle.xt_syntax.specs.View.{test_of};
 ghost use Rattle.xt_compile.specs.Rules.{method_or, rules_by};
 ghost use Rattle.xt_compile.specs.Space.{space_rule};
 ghost use Rattle.xt_scoping.specs.View.{ranked_in};
@@ -15,13 +15,13 @@ use crate::aliases::last_aliases;
 use crate::rules::{Common, add_rules};
 use crate::space::add_space_rules;
 use std::alloc::Global;
-use xp_syntax::{
-    Alias, Declared as UnitKind, Method, Rule, Rules, Sheet, Site, SpaceRule, SpaceRules, Unit,
-};
 use xt_rank::in_rank;
 use xt_scoping::Ranked;
+use xt_syntax::{
+    Alias, Declared as UnitKind, Method, Rule, Rules, Sheet, Site, SpaceRule, SpaceRules, Unit,
+};
 use xt_text::Memory;
-use xt_units::{Declaration, NamedSpace, RuleTemplate};
+use xt_top_level::{Declaration, NamedSpace, RuleTemplate};
 
 /// What the elements at the top of a stylesheet declare, so far.
 #[derive(Drop)]

@@ -2,13 +2,13 @@
 ghost use Rattle.std.specs.Prelude.{◌≡◌, Some};
 ghost use Rattle.spec_compile.specs.Sheet as spec;
 ghost use Rattle.xt_compile.specs.View.{refusal_in};
-ghost use Rattle.xt_sheet.specs.View.{fault_in, faults_in};
+ghost use Rattle.xt_structure.specs.View.{fault_in, faults_in};
 
 use spec_expression::StaticCode;
 use std::alloc::{AllocError, AllocFailed};
 use std::cmp::Ordering;
 use xt_base::Place;
-use xt_sheet::Fault;
+use xt_structure::Fault;
 use xt_text::{Memory, Text};
 
 /// Why modules are no stylesheet.

@@ -5,12 +5,12 @@ ghost use Rattle.std.specs.Map.{lookup};
 ghost use Rattle.spec_compile.specs.Sheet as spec;
 ghost use Rattle.spec_compile.specs.Unit as unit;
 ghost use Rattle.xt_compile.specs.Opened.{IsOpened, is_path, items_of, kept_of};
-ghost use Rattle.xt_units.specs.View.{top_level_in, top_levels_in};
+ghost use Rattle.xt_top_level.specs.View.{top_level_in, top_levels_in};
 
 use indexmap::IndexMap;
 use std::alloc::Global;
 use xt_text::{Memory, Path};
-use xt_units::TopLevel;
+use xt_top_level::TopLevel;
 
 /// The elements at the top of a module by the way to each; none where they were taken.
 pub(crate) type Opened = IndexMap<Vec<u64>, Vec<TopLevel>>;

@@ -10,7 +10,7 @@ ghost use Rattle.xt_compile.specs.View.{said_in};
 ghost use Rattle.xt_import.specs.Parts.{part_in, stylesheet_in};
 ghost use Rattle.xt_import.specs.View.{modules_in};
 ghost use Rattle.xt_scoping.specs.View.{ranked_in};
-ghost use Rattle.xt_units.specs.View.{top_levels_in};
+ghost use Rattle.xt_top_level.specs.View.{top_levels_in};
 
 use crate::opened::{Opened, by_path, or_none, take_at};
 use crate::read::Said;
@@ -20,8 +20,8 @@ use std::alloc::Global;
 use xt_import::{Part, Stylesheet};
 use xt_scoping::Ranked;
 use xt_text::{Memory, Path};
+use xt_top_level::TopLevel;
 use xt_tree::Doc;
-use xt_units::TopLevel;
 
 /// What is still to be put in place: what the modules say, and by its name each module of which parts were taken.
 #[derive(Drop)]

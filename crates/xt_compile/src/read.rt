@@ -8,17 +8,17 @@ ghost use Rattle.spec_structure.specs.Modules.{Modules};
 ghost use Rattle.xt_compile.specs.View.{AreJudged, AreReadAs, IsReadAs, says_in};
 ghost use Rattle.xt_import.specs.Tree.{IsJudged, names_in};
 ghost use Rattle.xt_import.specs.View.{modules_in};
-ghost use Rattle.xt_sheet.specs.View.{faults_in};
+ghost use Rattle.xt_structure.specs.View.{faults_in};
 
 use crate::fault::{SheetFault, earlier_of, earlier_or, refusal_at};
 use indexmap::IndexMap;
 use std::alloc::Global;
 use xt_content::ContentFault;
 use xt_import::ListedModule;
-use xt_sheet::{Fault, check};
+use xt_structure::{Fault, check};
 use xt_text::{Memory, Text};
+use xt_top_level::{TopLevel, module_of};
 use xt_tree::Doc;
-use xt_units::{TopLevel, module_of};
 
 /// What a module says, which was read without a fault.
 #[derive(Drop)]

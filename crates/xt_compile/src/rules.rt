@@ -2,14 +2,14 @@
 ghost use Rattle.std.specs.Prelude.{◌≡◌, ◌∷◌, [], ◌++◌, length, map, unwrap_or, IfOk, OnOk};
 ghost use Rattle.std.specs.Option.{option_map};
 ghost use Rattle.spec_compile.specs.Sheet as spec;
-ghost use Rattle.xp_syntax.specs.PartView.{alternative_of, pattern_of};
-ghost use Rattle.xp_syntax.specs.SheetView.{rule_of};
+ghost use Rattle.xt_syntax.specs.PartView.{alternative_of, pattern_of};
+ghost use Rattle.xt_syntax.specs.SheetView.{rule_of};
 ghost use Rattle.xt_compile.specs.Rules.{rule_by, rules_by};
 
 use std::alloc::Global;
-use xp_syntax::{Alternative, Pattern, Rule};
 use xt_names::Expanded;
 use xt_pattern::priority as default_priority;
+use xt_syntax::{Alternative, Pattern, Rule};
 use xt_text::Memory;
 
 /// What the rules of a template have in common.

@@ -1,12 +1,12 @@
 // Which elements are stripped of white space (XSLT 1.0, section 3.4).
 ghost use Rattle.std.specs.Prelude.{◌≡◌, ◌++◌, map, OnOk};
 ghost use Rattle.spec_static.specs.PatternGrammar as grammar;
-ghost use Rattle.xp_syntax.specs.SheetView.{space_rule_of};
-ghost use Rattle.xp_syntax.specs.View.{test_of};
+ghost use Rattle.xt_syntax.specs.SheetView.{space_rule_of};
+ghost use Rattle.xt_syntax.specs.View.{test_of};
 ghost use Rattle.xt_compile.specs.Space.{space_rule};
 
 use std::alloc::Global;
-use xp_syntax::{SpaceRule, Test};
+use xt_syntax::{SpaceRule, Test};
 use xt_text::Memory;
 
 /// Adds a rule for each of the tests.

@@ -5,7 +5,7 @@ ghost use Rattle.spec_compile.specs.Sheet as spec;
 ghost use Rattle.xt_compile.specs.Stock.{IsStock, Says, in_slot, is_said};
 ghost use Rattle.xt_compile.specs.View.{said_in};
 ghost use Rattle.xt_import.specs.View.{is_name, modules_in};
-ghost use Rattle.xt_units.specs.View.{top_levels_in};
+ghost use Rattle.xt_top_level.specs.View.{top_levels_in};
 
 use crate::read::{Said, says};
 use indexmap::IndexMap;
@@ -13,8 +13,8 @@ use spec_expression::one_answer;
 use spec_static::{one_pattern, one_template};
 use std::alloc::Global;
 use xt_text::{Memory, Text};
+use xt_top_level::TopLevel;
 use xt_tree::Doc;
-use xt_units::TopLevel;
 
 /// What each module says, by its name; None where it was taken.
 pub(crate) type Stock = IndexMap<String, Option<Vec<TopLevel>>>;

@@ -4,21 +4,21 @@ use Rattle.std.specs.Option.{option_map}
 use Rattle.std.specs.declared.rc.Rc.{Rc}
 use Rattle.spec_document.specs.Name.{Expanded}
 use Rattle.spec_stylesheet.specs.Instruction as tree
-use Rattle.xp_syntax.specs.View.{expr_of}
-use Rattle.xp_syntax.specs.PartView.{site_of, sort_key_of, without_content_of, with_content_of}
-use Rattle.xp_syntax.specs.InstrView.{binding_of, branch_of, control_of, form_of, instr_of, selection_of}
-use Rattle.xp_syntax.specs.declared.expr.Expr.{Expr}
-use Rattle.xp_syntax.specs.declared.instr.Binding.{Binding, roll-Binding}
-use Rattle.xp_syntax.specs.declared.instr.Branch.{Branch, roll-Branch}
-use Rattle.xp_syntax.specs.declared.instr.Control.{Control, ForEach, If, Choose, ApplyTemplates, CallTemplate, the_lemmas}
-use Rattle.xp_syntax.specs.declared.instr.Form.{Form, WithoutContent, WithContent}
-use Rattle.xp_syntax.specs.declared.instr.Form as form
-use Rattle.xp_syntax.specs.declared.instr.Instr.{Instr, roll-Instr}
-use Rattle.xp_syntax.specs.declared.instr.Selection.{Selection}
-use Rattle.xp_syntax.specs.declared.site.Site.{Site}
-use Rattle.xp_syntax.specs.declared.sort_key.SortKey.{SortKey}
-use Rattle.xp_syntax.specs.declared.with_content.WithContent as with
-use Rattle.xp_syntax.specs.declared.without_content.WithoutContent as without
+use Rattle.xt_syntax.specs.View.{expr_of}
+use Rattle.xt_syntax.specs.PartView.{site_of, sort_key_of, without_content_of, with_content_of}
+use Rattle.xt_syntax.specs.InstrView.{binding_of, branch_of, control_of, form_of, instr_of, selection_of}
+use Rattle.xt_syntax.specs.declared.expr.Expr.{Expr}
+use Rattle.xt_syntax.specs.declared.instr.Binding.{Binding, roll-Binding}
+use Rattle.xt_syntax.specs.declared.instr.Branch.{Branch, roll-Branch}
+use Rattle.xt_syntax.specs.declared.instr.Control.{Control, ForEach, If, Choose, ApplyTemplates, CallTemplate, the_lemmas}
+use Rattle.xt_syntax.specs.declared.instr.Form.{Form, WithoutContent, WithContent}
+use Rattle.xt_syntax.specs.declared.instr.Form as form
+use Rattle.xt_syntax.specs.declared.instr.Instr.{Instr, roll-Instr}
+use Rattle.xt_syntax.specs.declared.instr.Selection.{Selection}
+use Rattle.xt_syntax.specs.declared.site.Site.{Site}
+use Rattle.xt_syntax.specs.declared.sort_key.SortKey.{SortKey}
+use Rattle.xt_syntax.specs.declared.with_content.WithContent as with
+use Rattle.xt_syntax.specs.declared.without_content.WithoutContent as without
 
 abbrev Shared : Type 0 → Type 0
 Shared T = Rc (Vec T Global) Global

@@ -9,8 +9,8 @@ use Rattle.spec_structure.specs.declared.value.ValueKind.TheVariants as kind
 use Rattle.spec_compile.specs.Content.{literal_attribute}
 use Rattle.spec_compile.specs.Reading.{Reading, Done, lesser, reading_on}
 use Rattle.spec_compile.specs.Value.{value_of}
-use Rattle.xp_syntax.specs.PartView.{literal_attribute_of}
-use Rattle.xp_syntax.specs.declared.literal.LiteralAttribute.{LiteralAttribute}
+use Rattle.xt_syntax.specs.PartView.{literal_attribute_of}
+use Rattle.xt_syntax.specs.declared.literal.LiteralAttribute.{LiteralAttribute}
 use Rattle.xt_attributes.specs.declared.fault.AttributeFault.{AttributeFault}
 use Rattle.xt_attributes.specs.declared.fault.AttributeFault.TheVariants as attribute
 

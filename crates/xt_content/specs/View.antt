@@ -19,10 +19,10 @@ use Rattle.xt_content.specs.declared.child.Parts.{Parts}
 use Rattle.std.specs.declared.alloc.Global.{Global}
 use Rattle.std.specs.declared.vec.Vec.{Vec}
 use Rattle.spec_stylesheet.specs.Instruction as made
-use Rattle.xp_syntax.specs.declared.literal.LiteralAttribute.{LiteralAttribute}
-use Rattle.xp_syntax.specs.PartView.{literal_attribute_of, literal_tag_of, site_of, sort_key_of}
-use Rattle.xp_syntax.specs.InstrView.{instr_of, binding_of, branch_of}
-use Rattle.xt_sheet.specs.View.{fault_in, in_force}
+use Rattle.xt_syntax.specs.declared.literal.LiteralAttribute.{LiteralAttribute}
+use Rattle.xt_syntax.specs.PartView.{literal_attribute_of, literal_tag_of, site_of, sort_key_of}
+use Rattle.xt_syntax.specs.InstrView.{instr_of, binding_of, branch_of}
+use Rattle.xt_structure.specs.View.{fault_in, in_force}
 use Rattle.xt_content.specs.declared.around.Around.{Around}
 use Rattle.xt_content.specs.declared.child.Child.{Child}
 use Rattle.xt_content.specs.declared.child.Child.TheVariants as child

@@ -3,16 +3,16 @@ ghost use Rattle.std.specs.Prelude.{◌≡◌, IfOk, false, map};
 ghost use Rattle.std.specs.Option.{option_copied};
 ghost use Rattle.spec_compile.specs.Content as spec;
 ghost use Rattle.spec_structure.specs.Inside as scopes;
-ghost use Rattle.xp_syntax.specs.PartView as trees;
+ghost use Rattle.xt_syntax.specs.PartView as trees;
 ghost use Rattle.xt_content.specs.Sibling.{exclude_name};
 ghost use Rattle.xt_content.specs.View.{around_in};
-ghost use Rattle.xt_sheet.specs.View.{in_force};
+ghost use Rattle.xt_structure.specs.View.{in_force};
 ghost use Rattle.xt_tree.specs.View.{written_of};
 
 use std::alloc::Global;
-use xp_syntax::{Place, Site};
 use xt_names::{Scope, XSLT_URI};
-use xt_sheet::{Inside, copies, inside_of, push_uris, value_of};
+use xt_structure::{Inside, copies, inside_of, push_uris, value_of};
+use xt_syntax::{Place, Site};
 use xt_text::{Memory, Path, Text};
 use xt_tree::Written;
 

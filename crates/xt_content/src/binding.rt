@@ -2,17 +2,17 @@
 ghost use Rattle.std.specs.Prelude.{◌≡◌, ◌∷◌, [], IfOk};
 ghost use Rattle.std.specs.Option.{option_map};
 ghost use Rattle.spec_compile.specs.Content as spec;
-ghost use Rattle.xp_syntax.specs.InstrView as trees;
-ghost use Rattle.xp_syntax.specs.PartView.{site_of};
-ghost use Rattle.xp_syntax.specs.View.{expr_of};
+ghost use Rattle.xt_syntax.specs.InstrView as trees;
+ghost use Rattle.xt_syntax.specs.PartView.{site_of};
+ghost use Rattle.xt_syntax.specs.View.{expr_of};
 ghost use Rattle.xt_attributes.specs.View.{entries_in};
 ghost use Rattle.xt_content.specs.View.{child_if, children_in};
 
 use crate::child::{Child, content_in};
 use crate::value::{avt_at, expr_at, name_at, take_expr};
 use std::alloc::Global;
-use xp_syntax::{Binding, Branch, Expr, Site, SortKey};
 use xt_attributes::Entries;
+use xt_syntax::{Binding, Branch, Expr, Site, SortKey};
 use xt_text::Memory;
 
 /// The variable or parameter that an element binds: its name, what it selects, and its content (XSLT 1.0, section

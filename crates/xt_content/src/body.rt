@@ -7,7 +7,7 @@ ghost use Rattle.spec_structure.specs.declared.content.ContentKind.TheVariants a
 ghost use Rattle.xt_content.specs.Sibling.{alone};
 ghost use Rattle.xt_content.specs.View.{IsAnswer, around_in, below_in, child_if, child_in, visit_in};
 ghost use Rattle.xt_content.specs.Visit as visits;
-ghost use Rattle.xt_sheet.specs.View.{in_force, role_in};
+ghost use Rattle.xt_structure.specs.View.{in_force, role_in};
 ghost use Rattle.xt_tree.specs.View.{forest_of, tree_of, written_of};
 
 use crate::around::{Around, around_of, site_of};
@@ -18,10 +18,10 @@ use crate::met::{content_by, element_of, meet};
 use spec_structure::{ContentKind, XsltElement};
 use std::alloc::Global;
 use std::rc::Rc;
-use xp_syntax::{Form, WithoutContent};
-use xt_sheet::{
+use xt_structure::{
     Inside, Role, after_other, after_role, below, inside_of, is_white, role_of, takes_literals,
 };
+use xt_syntax::{Form, WithoutContent};
 use xt_text::{Memory, Path, Text};
 use xt_tree::{Content, Node, Written};
 

@@ -3,7 +3,7 @@ ghost use Rattle.std.specs.Prelude.{◌≡◌, ◌++◌, [], IfOk, OnOk};
 ghost use Rattle.spec_compile.specs.Content as spec;
 ghost use Rattle.spec_stylesheet.specs.Instruction.{instrs};
 ghost use Rattle.std.specs.Prelude.{map};
-ghost use Rattle.xp_syntax.specs.InstrView.{instr_of};
+ghost use Rattle.xt_syntax.specs.InstrView.{instr_of};
 ghost use Rattle.xt_content.specs.Kind.{parted};
 ghost use Rattle.xt_content.specs.View.{added, below_in, child_if, child_in, children_in, element_if, one_in, outline_in, outlines, parts_in, parts_of};
 ghost use Rattle.xt_content.specs.Visit.{before, followed};
@@ -11,7 +11,7 @@ ghost use Rattle.xt_content.specs.Visit.{before, followed};
 use crate::outline::{Outline, Outlined};
 use std::alloc::Global;
 use std::rc::Rc;
-use xp_syntax::{Binding, Branch, Instr, SortKey};
+use xt_syntax::{Binding, Branch, Instr, SortKey};
 use xt_text::Memory;
 
 /// What a child is to the element that holds it.

@@ -1,6 +1,6 @@
 // Why there is no content.
 use std::alloc::{AllocError, AllocFailed};
-use xt_sheet::Fault;
+use xt_structure::Fault;
 use xt_text::Memory;
 
 /// Why there is no content.

@@ -1,8 +1,8 @@
 // Instructions, by their attributes and their children.
 ghost use Rattle.std.specs.Prelude.{◌≡◌, ◌∷◌, [], IfOk};
 ghost use Rattle.spec_compile.specs.Content as spec;
-ghost use Rattle.xp_syntax.specs.InstrView as trees;
-ghost use Rattle.xp_syntax.specs.PartView.{made_name_of, site_of, with_content_of, without_content_of};
+ghost use Rattle.xt_syntax.specs.InstrView as trees;
+ghost use Rattle.xt_syntax.specs.PartView.{made_name_of, site_of, with_content_of, without_content_of};
 ghost use Rattle.xt_attributes.specs.View.{entries_in};
 ghost use Rattle.xt_content.specs.Kind as kinds;
 ghost use Rattle.xt_content.specs.View.{child_in, child_if, children_in, parts_in};
@@ -19,8 +19,8 @@ use crate::value::{
 use spec_structure::XsltElement;
 use std::alloc::Global;
 use std::rc::Rc;
-use xp_syntax::{Control, Form, Instr, MadeName, Selection, Site, WithContent, WithoutContent};
 use xt_attributes::Entries;
+use xt_syntax::{Control, Form, Instr, MadeName, Selection, Site, WithContent, WithoutContent};
 use xt_text::Memory;
 use xt_tree::Node;
 

@@ -10,7 +10,7 @@ ghost use Rattle.spec_structure.specs.declared.value.ValueKind.TheVariants as ki
 ghost use Rattle.spec_compile.specs.Content as spec;
 ghost use Rattle.spec_compile.specs.Reading.{Done, joined, lesser};
 ghost use Rattle.spec_compile.specs.Value as values;
-ghost use Rattle.xp_syntax.specs.PartView.{literal_attribute_of, literal_tag_of};
+ghost use Rattle.xt_syntax.specs.PartView.{literal_attribute_of, literal_tag_of};
 ghost use Rattle.xt_attributes.specs.Answers.{Finds};
 ghost use Rattle.xt_attributes.specs.Gathering.{appended, gathered_in, seen};
 ghost use Rattle.xt_attributes.specs.View.{IsAnswer, entries_in, template_in};
@@ -24,10 +24,10 @@ use crate::value::names_at;
 use spec_expression::StaticCode;
 use std::alloc::Global;
 use std::rc::Rc;
-use xp_syntax::{Avt, LiteralAttribute, LiteralTag, Namespace};
 use xt_attributes::{AttributeFault, Entries, Gathered, template_of, xslt_attributes_of};
 use xt_names::{Expanded, QName, Scope, XSLT_URI};
-use xt_sheet::{Meaning, expanded_of, is_among, literal_rows};
+use xt_structure::{Meaning, expanded_of, is_among, literal_rows};
+use xt_syntax::{Avt, LiteralAttribute, LiteralTag, Namespace};
 use xt_text::{Memory, Text};
 use xt_tree::Written;
 

@@ -2,11 +2,11 @@
 ghost use Rattle.std.specs.Prelude.{◌≡◌, [], IfOk, None, map};
 ghost use Rattle.spec_structure.specs.Inside as scopes;
 ghost use Rattle.spec_compile.specs.Content as spec;
-ghost use Rattle.xp_syntax.specs.PartView.{literal_tag_of};
+ghost use Rattle.xt_syntax.specs.PartView.{literal_tag_of};
 ghost use Rattle.xt_attributes.specs.View.{entries_in};
 ghost use Rattle.xt_content.specs.View.{IsAnswer, IsStanding, around_in, below_in, met_in, one_in, outline_in, outlined_in};
 ghost use Rattle.xt_content.specs.Visit.{ALiteral, OfLanguage, content_by, element_by, met_by, met_extension, met_language, met_other};
-ghost use Rattle.xt_sheet.specs.View.{in_force, role_in, row_of};
+ghost use Rattle.xt_structure.specs.View.{in_force, role_in, row_of};
 ghost use Rattle.xt_tree.specs.View.{forest_of, written_of};
 
 use crate::around::{Around, site_of};
@@ -18,9 +18,9 @@ use crate::outline::{Outline, Outlined, bound_by, tag_uses, uses_of};
 use spec_structure::{ContentKind, ValueKind, XsltElement};
 use std::alloc::Global;
 use std::rc::Rc;
-use xp_syntax::{Form, LiteralTag, WithContent};
 use xt_attributes::{AttributeFault, Entries, attributes_of, xslt_attributes_of};
-use xt_sheet::{Fault, Role, Row, content_of, role_of};
+use xt_structure::{Fault, Role, Row, content_of, role_of};
+use xt_syntax::{Form, LiteralTag, WithContent};
 use xt_text::{Memory, Path, Text};
 use xt_tree::{Node, Written};
 

@@ -1,14 +1,14 @@
 // How xsl:number numbers (XSLT 1.0, section 7.7).
 ghost use Rattle.std.specs.Prelude.{◌≡◌, IfOk};
 ghost use Rattle.spec_compile.specs.Content as spec;
-ghost use Rattle.xp_syntax.specs.PartView.{count_of, number_source_of, numbering_of};
+ghost use Rattle.xt_syntax.specs.PartView.{count_of, number_source_of, numbering_of};
 ghost use Rattle.xt_attributes.specs.View.{entries_in};
 ghost use Rattle.xt_content.specs.Kind.{counting};
 
 use crate::value::{avt_at, is_text_at, take_avt, take_expr, take_pattern};
 use std::alloc::Global;
-use xp_syntax::{Count, NumberLevel, NumberSource, Numbering};
 use xt_attributes::Entries;
+use xt_syntax::{Count, NumberLevel, NumberSource, Numbering};
 use xt_text::Memory;
 
 /// How an xsl:number with these attributes numbers.

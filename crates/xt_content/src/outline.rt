@@ -5,16 +5,16 @@ ghost use Rattle.std.specs.Str.{chars};
 ghost use Rattle.spec_compile.specs.Content as spec;
 ghost use Rattle.spec_compile.specs.Value.{at, name_in};
 ghost use Rattle.spec_compile.specs.Walk.{variables_in_template};
-ghost use Rattle.xp_syntax.specs.PartView.{literal_attribute_of, literal_tag_of};
+ghost use Rattle.xt_syntax.specs.PartView.{literal_attribute_of, literal_tag_of};
 ghost use Rattle.xt_attributes.specs.View.{entries_in};
 ghost use Rattle.xt_content.specs.View.{uses_in};
 
 use crate::value::or_nowhere;
 use spec_structure::XsltElement;
 use std::alloc::Global;
-use xp_syntax::{LiteralAttribute, LiteralTag, Site};
 use xt_attributes::{Entries, add_template_variables};
 use xt_names::Expanded;
+use xt_syntax::{LiteralAttribute, LiteralTag, Site};
 use xt_text::Memory;
 
 /// What an element names by its attributes.

@@ -5,17 +5,17 @@ ghost use Rattle.std.specs.Str.{chars};
 ghost use Rattle.spec_expression.specs.Syntax as tree;
 ghost use Rattle.spec_compile.specs.Content as spec;
 ghost use Rattle.spec_compile.specs.Value.{at, avt_in, expr_in, name_in, pattern_in};
-ghost use Rattle.xp_syntax.specs.PartView.{avt_of, pattern_of};
-ghost use Rattle.xp_syntax.specs.View.{expr_of};
+ghost use Rattle.xt_syntax.specs.PartView.{avt_of, pattern_of};
+ghost use Rattle.xt_syntax.specs.View.{expr_of};
 ghost use Rattle.xt_attributes.specs.View.{entries_in};
 ghost use Rattle.xt_content.specs.View.{Keeps};
 
 use spec_document::Axis;
 use spec_expression::NodeType;
 use std::alloc::Global;
-use xp_syntax::{Avt, AvtPart, Expr, Pattern, Step, Test};
 use xt_attributes::{Entries, into_avt, into_expr, into_name, into_names, into_pattern};
 use xt_names::Expanded;
+use xt_syntax::{Avt, AvtPart, Expr, Pattern, Step, Test};
 use xt_text::{Memory, Text};
 
 // ---- What stands for an attribute that is missing

@@ -1,5 +1,0 @@
-mod Nexts
-mod Starts
-mod Passed
-mod Globals
-mod Onwards

@@ -1,3 +1,3 @@
-pub mod Start
-pub mod Parameter
-pub mod Onward
+pub mod View
+pub mod Progress
+pub mod Advances

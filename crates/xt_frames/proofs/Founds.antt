@@ -12,12 +12,12 @@ use Rattle.spec_run.specs.Plan.{Plan, lift, Refused}
 use Rattle.spec_run.specs.Going.{Going, closed}
 use Rattle.spec_run.specs.Passes.{Passes}
 use Rattle.xt_tree.specs.declared.node_ref.NodeRef.{NodeRef}
-use Rattle.xt_ask.specs.declared.read.Read.{Read}
-use Rattle.xt_ask.specs.declared.fault.EvalFault.{EvalFault}
-use Rattle.xt_ask.specs.declared.fault.EvalFault.TheVariants as faults
-use Rattle.xt_ask.specs.View.{read_of}
-use Rattle.xt_ask.specs.Runs.{Runs}
-use Rattle.xt_run.specs.Advances.{Stops, Misses}
+use Rattle.xt_questions.specs.declared.read.Read.{Read}
+use Rattle.xt_questions.specs.declared.fault.EvalFault.{EvalFault}
+use Rattle.xt_questions.specs.declared.fault.EvalFault.TheVariants as faults
+use Rattle.xt_questions.specs.View.{read_of}
+use Rattle.xt_questions.specs.Runs.{Runs}
+use Rattle.xt_engine.specs.Advances.{Stops, Misses}
 use Rattle.xt_frames.specs.declared.run.Came.{Came}
 use Rattle.xt_frames.specs.declared.run.Came.TheVariants as came
 use Rattle.xt_frames.specs.Noted.{noted_in, traced, read_in, Settled, SettledSo}

@@ -2,9 +2,9 @@
 use Rattle.std.proofs.Common.{◌≡◌, ℕ, List, [], ◌∷◌, Global, rules, sym, ap, ◌∙◌}
 use Rattle.std.specs.declared.rc.Rc.{Rc}
 use Rattle.spec_meaning.specs.Stream.{Stream, Ended, Text, Attribute, holes}
-use Rattle.xt_ask.specs.declared.context.Bindings as bindings
-use Rattle.xt_ask.specs.declared.context.Binding.{Binding}
-use Rattle.xt_ask.specs.View.{bindings_of}
+use Rattle.xt_questions.specs.declared.context.Bindings as bindings
+use Rattle.xt_questions.specs.declared.context.Binding.{Binding}
+use Rattle.xt_questions.specs.View.{bindings_of}
 use Rattle.xt_tree.specs.ValueView.{value_of}
 use Rattle.xt_tree.specs.StreamView.{item_step, items_step, single_of, stream_of}
 use Rattle.xt_tree.specs.declared.items.Items.{Items}

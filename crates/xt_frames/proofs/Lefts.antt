@@ -16,16 +16,16 @@ use Rattle.spec_run.specs.Direct.{too_deep}
 use Rattle.spec_run.specs.Going.{Going, begun, deepened}
 use Rattle.spec_run.specs.Content.{Here, deeper, planned, is_empty}
 use Rattle.spec_run.specs.Passes.{Passes, stays, begins, goes_deep, is_too_deep}
-use Rattle.xp_syntax.specs.declared.instr.Instr.{Instr}
-use Rattle.xp_syntax.specs.InstrView.{instr_of}
-use Rattle.xp_syntax.specs.PartView.{place_of}
+use Rattle.xt_syntax.specs.declared.instr.Instr.{Instr}
+use Rattle.xt_syntax.specs.InstrView.{instr_of}
+use Rattle.xt_syntax.specs.PartView.{place_of}
 use Rattle.xt_tree.specs.declared.node_ref.NodeRef.{NodeRef}
-use Rattle.xt_ask.specs.declared.context.Supplies.{Supplies}
-use Rattle.xt_ask.specs.View.{supplies_of}
-use Rattle.xt_run.specs.declared.call.Refused as declared
-use Rattle.xt_run.specs.View.{refused_of}
-use Rattle.xt_run.specs.Advances.{Stops, Misses}
-use Rattle.xt_going.specs.View.{going_of}
+use Rattle.xt_questions.specs.declared.context.Supplies.{Supplies}
+use Rattle.xt_questions.specs.View.{supplies_of}
+use Rattle.xt_engine.specs.declared.call.Refused as declared
+use Rattle.xt_engine.specs.View.{refused_of}
+use Rattle.xt_engine.specs.Advances.{Stops, Misses}
+use Rattle.xt_progress.specs.View.{going_of}
 use Rattle.xt_frames.specs.declared.standing.Standing.{Standing}
 use Rattle.xt_frames.specs.declared.frame.Frame.{Frame}
 use Rattle.xt_frames.specs.declared.frame.Frame.TheVariants as frames

@@ -8,13 +8,13 @@ use Rattle.spec_meaning.specs.Program.{Supply}
 use Rattle.spec_run.specs.Plan.{Plan, End, Put, Take, Inquire}
 use Rattle.spec_run.specs.Going.{Going, Asked, noted, put, taken, aside, closed}
 use Rattle.spec_run.specs.Passes.{Passes, stays, asks, uses, puts, begins, wraps, takes, goes_deep, is_too_deep}
-use Rattle.xp_syntax.specs.PartView.{place_of}
+use Rattle.xt_syntax.specs.PartView.{place_of}
 use Rattle.xt_tree.specs.declared.node_ref.NodeRef.{NodeRef}
 use Rattle.xt_tree.proofs.Streams.{followed-Ended}
-use Rattle.xt_run.specs.declared.call.Refused.{Refused}
-use Rattle.xt_run.specs.View.{refused_of}
-use Rattle.xt_run.specs.Advances.{Stops, Misses}
-use Rattle.xt_going.specs.View.{going_of}
+use Rattle.xt_engine.specs.declared.call.Refused.{Refused}
+use Rattle.xt_engine.specs.View.{refused_of}
+use Rattle.xt_engine.specs.Advances.{Stops, Misses}
+use Rattle.xt_progress.specs.View.{going_of}
 use Rattle.xt_frames.specs.declared.frame.Frame.{Frame}
 use Rattle.xt_frames.specs.declared.run.Run.{Run}
 use Rattle.xt_frames.specs.declared.run.Next.{Next}

@@ -11,15 +11,15 @@ use Rattle.spec_run.specs.Direct.{Known}
 use Rattle.spec_run.specs.Going as plain
 use Rattle.spec_run.specs.Going.{Asked, Saw, noted, put, begun, wrap, taken, aside, deepened, closed}
 use Rattle.spec_run.specs.Passes.{Passes}
-use Rattle.xp_syntax.specs.PartView.{place_of}
+use Rattle.xt_syntax.specs.PartView.{place_of}
 use Rattle.xt_tree.specs.declared.node_ref.NodeRef.{NodeRef}
 use Rattle.xt_tree.specs.ValueView.{value_of}
-use Rattle.xt_ask.specs.View.{supplies_of}
-use Rattle.xt_run.specs.View.{call_of, refused_of}
-use Rattle.xt_run.specs.Progress as progress
-use Rattle.xt_run.specs.Progress.{Progress}
-use Rattle.xt_run.specs.Advances.{Stops, Misses}
-use Rattle.xt_going.specs.View.{going_of}
+use Rattle.xt_questions.specs.View.{supplies_of}
+use Rattle.xt_engine.specs.View.{call_of, refused_of}
+use Rattle.xt_engine.specs.Progress as progress
+use Rattle.xt_engine.specs.Progress.{Progress}
+use Rattle.xt_engine.specs.Advances.{Stops, Misses}
+use Rattle.xt_progress.specs.View.{going_of}
 use Rattle.xt_frames.specs.declared.frame.Frame.{Frame}
 use Rattle.xt_frames.specs.declared.run.Waiting.{Waiting}
 use Rattle.xt_frames.specs.declared.run.Waiting.TheVariants as waits

@@ -8,11 +8,11 @@ use Rattle.spec_run.specs.Plan.{located}
 use Rattle.spec_run.specs.Direct.{Known}
 use Rattle.spec_run.specs.Going.{Event, Asked, Saw, Going}
 use Rattle.xt_tree.specs.declared.node_ref.NodeRef.{NodeRef}
-use Rattle.xt_ask.specs.declared.read.Read.{Read}
-use Rattle.xt_ask.specs.declared.fault.EvalFault.{EvalFault}
-use Rattle.xt_ask.specs.declared.fault.EvalFault.TheVariants as faults
-use Rattle.xt_ask.specs.View.{read_of, refusal_of}
-use Rattle.xt_run.specs.View.{refused_of}
+use Rattle.xt_questions.specs.declared.read.Read.{Read}
+use Rattle.xt_questions.specs.declared.fault.EvalFault.{EvalFault}
+use Rattle.xt_questions.specs.declared.fault.EvalFault.TheVariants as faults
+use Rattle.xt_questions.specs.View.{read_of, refusal_of}
+use Rattle.xt_engine.specs.View.{refused_of}
 use Rattle.xt_frames.specs.declared.run.Came.{Came}
 use Rattle.xt_frames.specs.declared.run.Came.TheVariants as came
 

@@ -13,14 +13,14 @@ use Rattle.spec_transform.specs.Sorted as sorts
 use Rattle.spec_transform.specs.Sorted.{nodes_in_order}
 use Rattle.spec_run.specs.Plan.{Call, Plan, End, Stop, Inquire, Put, Wrap, Take, Deep, Enter}
 use Rattle.spec_run.specs.Content.{Here, deeper, at, with_variable, each, applied, applied_to, sets_entered, criteria_asked, keys_asked, rows_asked, sorted, nodes_copied, attributes_put, terminated, planned, passed, planned_branches, with_parameters, held, plan_of}
-use Rattle.xp_syntax.specs.PartView.{place_of, sort_key_of}
-use Rattle.xp_syntax.specs.InstrView.{instr_of, branch_of, binding_of}
-use Rattle.xp_syntax.specs.SheetView.{alias_of, declared_of}
+use Rattle.xt_syntax.specs.PartView.{place_of, sort_key_of}
+use Rattle.xt_syntax.specs.InstrView.{instr_of, branch_of, binding_of}
+use Rattle.xt_syntax.specs.SheetView.{alias_of, declared_of}
 use Rattle.xp_axes.specs.View.{same_ref}
 use Rattle.xt_tree.specs.declared.node_ref.NodeRef.{NodeRef}
-use Rattle.xt_ask.specs.View.{bindings_of, template_of, sets_of}
-use Rattle.xt_run.specs.declared.call.Target.{Target}
-use Rattle.xt_run.specs.View.{target_of, call_of, wrapping_of}
+use Rattle.xt_questions.specs.View.{bindings_of, template_of, sets_of}
+use Rattle.xt_engine.specs.declared.call.Target.{Target}
+use Rattle.xt_engine.specs.View.{target_of, call_of, wrapping_of}
 use Rattle.xt_sort.specs.View.{criterion_of, key_of, row_of}
 use Rattle.xt_frames.specs.declared.standing.Standing.{Standing}
 use Rattle.xt_frames.specs.declared.frame.Body.{Body}

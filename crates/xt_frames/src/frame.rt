@@ -1,12 +1,12 @@
 // What is left of contents.
 use crate::Standing;
 use std::rc::Rc;
-use xp_syntax::{Binding, Branch, Instr, SortKey};
-use xt_ask::Bindings;
 use xt_base::Place;
+use xt_engine::{Call, Target, Wrapping};
 use xt_names::Expanded;
-use xt_run::{Call, Target, Wrapping};
+use xt_questions::Bindings;
 use xt_sort::{Criterion, KeyValue, Row};
+use xt_syntax::{Binding, Branch, Instr, SortKey};
 use xt_tree::NodeRef;
 
 /// A content from the next of its instructions on.

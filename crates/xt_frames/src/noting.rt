@@ -2,17 +2,17 @@
 ghost use Rattle.std.specs.Prelude.{◌≡◌, [], ◌∷◌, ◌++◌, map, OnOk};
 ghost use Rattle.spec_meaning.specs.Program.{Asked};
 ghost use Rattle.spec_meaning.specs.Supplies.{at_hand};
-ghost use Rattle.xt_ask.specs.View.{context_of, supplies_of, question_of, answer_of, read_of};
-ghost use Rattle.xt_ask.specs.Runs.{Runs};
+ghost use Rattle.xt_questions.specs.View.{context_of, supplies_of, question_of, answer_of, read_of};
+ghost use Rattle.xt_questions.specs.Runs.{Runs};
 ghost use Rattle.xt_frames.specs.Noted.{noted_in};
 
 use crate::meant::Operand;
 use std::alloc::Global;
 use xp_eval::eval;
-use xp_syntax::Expr;
-use xt_ask::{
+use xt_questions::{
     Answer, Context, EvalFault, Evaluate, Focus, Given, Question, Read, Supplies, Wanted, World,
 };
+use xt_syntax::Expr;
 use xt_text::Memory;
 use xt_tree::Value;
 

@@ -2,20 +2,20 @@
 ghost use Rattle.std.specs.Prelude.{◌≡◌, List, map, IfOk, OnOk};
 ghost use Rattle.spec_run.specs.Plan.{located};
 ghost use Rattle.spec_run.specs.Going as plain;
-ghost use Rattle.xp_syntax.specs.PartView.{place_of};
+ghost use Rattle.xt_syntax.specs.PartView.{place_of};
 ghost use Rattle.xt_tree.specs.declared.node_ref.NodeRef.{NodeRef};
-ghost use Rattle.xt_ask.specs.declared.read.Read as declared;
-ghost use Rattle.xt_ask.specs.View.{read_of, refusal_of};
-ghost use Rattle.xt_run.specs.View.{refused_of, event_of};
-ghost use Rattle.xt_going.specs.View.{going_of};
+ghost use Rattle.xt_questions.specs.declared.read.Read as declared;
+ghost use Rattle.xt_questions.specs.View.{read_of, refusal_of};
+ghost use Rattle.xt_engine.specs.View.{refused_of, event_of};
+ghost use Rattle.xt_progress.specs.View.{going_of};
 ghost use Rattle.xt_frames.specs.Noted.{event_at, read_in, Settled};
 
 use crate::Came;
 use std::alloc::Global;
-use xt_ask::{EvalFault, Read, Refusal, copy_place};
 use xt_base::Place;
-use xt_going::Going;
-use xt_run::{Event, Refused};
+use xt_engine::{Event, Refused};
+use xt_progress::Going;
+use xt_questions::{EvalFault, Read, Refusal, copy_place};
 use xt_text::Memory;
 
 /// What was evaluated at an element, in a run: where it has a value its reads are noted.

@@ -1,13 +1,13 @@
 // Where instructions stand.
 ghost use Rattle.std.specs.Prelude.{◌≡◌, ◌∷◌, map, IfOk};
 ghost use Rattle.xt_tree.specs.ValueView.{value_of};
-ghost use Rattle.xt_ask.specs.View.{bindings_of};
+ghost use Rattle.xt_questions.specs.View.{bindings_of};
 
 use std::alloc::Global;
 use std::rc::Rc;
-use xp_syntax::{Instr, Site, SortKey};
-use xt_ask::{Binding, Bindings, Context, Focus, ResolvedUnit};
 use xt_names::Expanded;
+use xt_questions::{Binding, Bindings, Context, Focus, ResolvedUnit};
+use xt_syntax::{Instr, Site, SortKey};
 use xt_text::Memory;
 use xt_tree::{NodeRef, Value};
 
@@ -27,9 +27,9 @@ pub struct Standing {
 impl Standing {
     ghost use Rattle.std.specs.Prelude.{◌≡◌, IfOk};
     ghost use Rattle.spec_run.specs.Content.{at, context_at, with_variable};
-    ghost use Rattle.xp_syntax.specs.PartView.{site_of};
+    ghost use Rattle.xt_syntax.specs.PartView.{site_of};
     ghost use Rattle.xt_tree.specs.ValueView.{value_of};
-    ghost use Rattle.xt_ask.specs.View.{context_of};
+    ghost use Rattle.xt_questions.specs.View.{context_of};
     ghost use Rattle.xt_frames.specs.View.{here_of};
 
     /// The same, shared.
@@ -131,8 +131,8 @@ pub fn share_keys(keys: &Rc<Vec<SortKey>>) -> Result<Rc<Vec<SortKey>>, Memory>
 
 /// The same bindings, shared.
 pub fn share_bindings(
-    bindings: &Rc<Vec<xp_syntax::Binding>>,
-) -> Result<Rc<Vec<xp_syntax::Binding>>, Memory>
+    bindings: &Rc<Vec<xt_syntax::Binding>>,
+) -> Result<Rc<Vec<xt_syntax::Binding>>, Memory>
     ensures { IfOk result (λ b. b.value ≡ bindings.now.value) }
 {
     Ok(bindings.clone()?)

@@ -10,9 +10,9 @@ use borrow.Author.Tests.{ltb-true}
 use Rattle.spec_structure.specs.Modules as spec
 use Rattle.spec_structure.specs.Modules.{Modules, Reads, Reaches, itself, through, is_among, FirstFault}
 use Rattle.spec_structure.specs.Structure.{Link}
-use Rattle.xt_sheet.specs.declared.links.Link as sheet
-use Rattle.xt_sheet.specs.declared.fault.Fault as found
-use Rattle.xt_sheet.specs.View.{faults_in, link_in, links_in}
+use Rattle.xt_structure.specs.declared.links.Link as sheet
+use Rattle.xt_structure.specs.declared.fault.Fault as found
+use Rattle.xt_structure.specs.View.{faults_in, link_in, links_in}
 use Rattle.xt_import.specs.declared.listed.ListedModule.{ListedModule}
 use Rattle.xt_import.specs.Tree.{IsJudged, names_in}
 use Rattle.xt_import.specs.View.{is_name}

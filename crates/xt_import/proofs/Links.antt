@@ -1,8 +1,8 @@
 -- The names that links have, seen as the program's and as the definition's.
 use Rattle.std.proofs.Common.{◌≡◌, List, [], ◌∷◌, refl, ap, ◌∙◌}
 use Rattle.spec_structure.specs.Structure.{Link}
-use Rattle.xt_sheet.specs.declared.links.Link as sheet
-use Rattle.xt_sheet.specs.View.{links_in}
+use Rattle.xt_structure.specs.declared.links.Link as sheet
+use Rattle.xt_structure.specs.View.{links_in}
 use Rattle.xt_import.specs.View.{hrefs_of, hrefs_in}
 
 same_hrefs : (links : List sheet.Link) → hrefs_in links ≡ hrefs_of (links_in links)

@@ -14,8 +14,8 @@ use Rattle.spec_structure.specs.Modules as spec
 use Rattle.spec_structure.specs.Modules.{Modules, is_among}
 use Rattle.spec_structure.specs.Structure.{Link}
 use Rattle.xt_text.proofs.Chars.{same_chars}
-use Rattle.xt_sheet.specs.declared.links.Link as sheet
-use Rattle.xt_sheet.specs.View.{links_in}
+use Rattle.xt_structure.specs.declared.links.Link as sheet
+use Rattle.xt_structure.specs.View.{links_in}
 use Rattle.xt_import.specs.Table.{Entry, name_of, names_of, lists_of}
 use Rattle.xt_import.specs.View.{is_name}
 use Rattle.xt_import.proofs.Keys.{by_characters, equal}

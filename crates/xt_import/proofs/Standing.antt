@@ -10,8 +10,8 @@ use Rattle.spec_expression.specs.declared.code.StaticCode.{StaticCode}
 use Rattle.spec_structure.specs.Modules as spec
 use Rattle.spec_structure.specs.Modules.{Modules, Reaches, HasCode, FirstFault, no_fault, later, first}
 use Rattle.spec_structure.specs.Structure.{Fault, Link}
-use Rattle.xt_sheet.specs.declared.links.Link as sheet
-use Rattle.xt_sheet.specs.View.{link_in, links_in}
+use Rattle.xt_structure.specs.declared.links.Link as sheet
+use Rattle.xt_structure.specs.View.{link_in, links_in}
 use Rattle.xt_import.specs.Table.{LeadsBack}
 use denote.Ref.{Bor}
 

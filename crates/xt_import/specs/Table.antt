@@ -8,8 +8,8 @@ use Rattle.std.specs.declared.vec.Vec.{Vec}
 use Rattle.spec_structure.specs.Modules as spec
 use Rattle.spec_structure.specs.Modules.{Modules, Reaches}
 use Rattle.spec_structure.specs.Structure.{Link}
-use Rattle.xt_sheet.specs.declared.links.Link as sheet
-use Rattle.xt_sheet.specs.View.{links_in}
+use Rattle.xt_structure.specs.declared.links.Link as sheet
+use Rattle.xt_structure.specs.View.{links_in}
 use Rattle.xt_import.specs.View.{is_name}
 
 abbrev pub Entry : Type 0

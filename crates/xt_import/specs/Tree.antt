@@ -1,7 +1,7 @@
 -- What is said of the modules of a stylesheet.
 use Rattle.std.specs.Prelude.{ℕ, List, map}
 use Rattle.spec_structure.specs.Modules.{Modules, FirstFault, links_in}
-use Rattle.xt_sheet.specs.View.{faults_in}
+use Rattle.xt_structure.specs.View.{faults_in}
 use Rattle.xt_import.specs.declared.listed.ListedModule.{ListedModule}
 
 abbrev pub names_in : List ListedModule → List (List ℕ)

@@ -8,7 +8,7 @@ use Rattle.std.specs.declared.string.String.{String}
 use Rattle.spec_document.specs.Forest.{Plain, Document, plain}
 use Rattle.spec_structure.specs.Modules.{Modules}
 use Rattle.spec_structure.specs.Structure.{Link}
-use Rattle.xt_sheet.specs.declared.links.Link as sheet
+use Rattle.xt_structure.specs.declared.links.Link as sheet
 
 abbrev pub plain_of : Document ℕ → Plain
 plain_of document = plain document.nodes

@@ -4,7 +4,7 @@ ghost use Rattle.std.specs.Bool.{Decides};
 ghost use Rattle.spec_structure.specs.Modules as spec;
 ghost use Rattle.xt_import.specs.Table.{HasNumbers, LeadsBack, NoneLeadsBack, lists_of, names_of};
 ghost use Rattle.xt_import.specs.View.{modules_in};
-ghost use Rattle.xt_sheet.specs.View.{faults_in, link_in, links_in};
+ghost use Rattle.xt_structure.specs.View.{faults_in, link_in, links_in};
 
 use crate::numbers::is_acyclic;
 use crate::order::{is_among, link_table, reading_order};
@@ -12,7 +12,7 @@ use crate::table::LinkTable;
 use indexmap::IndexMap;
 use spec_expression::StaticCode;
 use std::alloc::Global;
-use xt_sheet::{Fault, Link};
+use xt_structure::{Fault, Link};
 use xt_text::{Memory, Text};
 use xt_tree::Doc;
 

@@ -6,7 +6,7 @@ ghost use Rattle.spec_structure.specs.Modules as spec;
 ghost use Rattle.xt_import.specs.Table.{AreKnown, IsKnown, names_of};
 ghost use Rattle.xt_import.specs.Tree.{IsJudged, names_in};
 ghost use Rattle.xt_import.specs.View.{modules_in};
-ghost use Rattle.xt_sheet.specs.View.{links_in};
+ghost use Rattle.xt_structure.specs.View.{links_in};
 
 use crate::fault::first_fault;
 use crate::numbers::is_acyclic;
@@ -14,7 +14,7 @@ use crate::order::link_table;
 use crate::table::LinkTable;
 use indexmap::IndexMap;
 use std::alloc::Global;
-use xt_sheet::{Fault, Link};
+use xt_structure::{Fault, Link};
 use xt_text::{Memory, Text};
 use xt_tree::Doc;
 

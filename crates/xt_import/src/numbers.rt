@@ -7,7 +7,7 @@ ghost use Rattle.xt_import.specs.Walk.{links_left};
 
 use crate::table::{LinkTable, number_of};
 use std::alloc::Global;
-use xt_sheet::Link;
+use xt_structure::Link;
 use xt_text::Memory;
 
 /// Whether it is certain that no module of these leads back to itself, where the first leads to all. That is so where

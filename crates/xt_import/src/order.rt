@@ -7,12 +7,12 @@ ghost use Rattle.spec_structure.specs.Structure.{links_of};
 ghost use Rattle.xt_import.specs.Pending.{GoesOn, unread};
 ghost use Rattle.xt_import.specs.Table.{lists_of, names_of};
 ghost use Rattle.xt_import.specs.View.{hrefs_in, modules_in};
-ghost use Rattle.xt_sheet.specs.View.{links_in};
+ghost use Rattle.xt_structure.specs.View.{links_in};
 
 use crate::table::{LinkTable, add_module, is_read, names_in};
 use indexmap::IndexMap;
 use std::alloc::Global;
-use xt_sheet::{Link, check};
+use xt_structure::{Link, check};
 use xt_text::{Memory, Text};
 use xt_tree::Doc;
 

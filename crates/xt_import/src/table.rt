@@ -3,11 +3,11 @@ ghost use Rattle.std.specs.Prelude.{◌≡◌, ◌++◌, ◌∷◌, [], IfOk, On
 ghost use Rattle.std.specs.Str.{chars};
 ghost use Rattle.spec_structure.specs.Modules as spec;
 ghost use Rattle.xt_import.specs.Table.{lists_of, names_of, number_in};
-ghost use Rattle.xt_sheet.specs.View.{links_in};
+ghost use Rattle.xt_structure.specs.View.{links_in};
 
 use indexmap::IndexMap;
 use std::alloc::Global;
-use xt_sheet::Link;
+use xt_structure::Link;
 use xt_text::{Memory, Text};
 
 /// The links of each module that was read, by its name, in the order of reading.

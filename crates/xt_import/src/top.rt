@@ -7,7 +7,7 @@ ghost use Rattle.spec_structure.specs.Inside as roles;
 ghost use Rattle.spec_structure.specs.Modules as spec;
 ghost use Rattle.spec_structure.specs.Structure as structure;
 ghost use Rattle.xt_import.specs.Levels.{level_at, levels_at_top, levels_by, top_level_in, top_levels_in};
-ghost use Rattle.xt_sheet.specs.View.{in_force, role_in};
+ghost use Rattle.xt_structure.specs.View.{in_force, role_in};
 ghost use Rattle.xt_tree.specs.View as nodes;
 ghost use Rattle.xt_tree.specs.View.{forest_of, tree_of, written_of};
 
@@ -15,7 +15,7 @@ use spec_structure::XsltElement;
 use std::alloc::Global;
 use std::rc::Rc;
 use xt_names::Scope;
-use xt_sheet::{Inside, Role, inside_of, role_of, value_of};
+use xt_structure::{Inside, Role, inside_of, role_of, value_of};
 use xt_text::{Memory, Path, Text};
 use xt_tree::{Content, Doc, Node, Written};
 

@@ -8,7 +8,7 @@ use Rattle.spec_meaning.specs.Naming.{AllDiffer}
 use Rattle.spec_transform.specs.Key.{Entry, entry}
 use Rattle.xt_tree.specs.declared.node_ref.NodeRef.{NodeRef}
 use Rattle.xp_axes.specs.View.{same_ref}
-use Rattle.xt_ask.specs.Runs.{itself, items}
+use Rattle.xt_questions.specs.Runs.{itself, items}
 use Rattle.xt_keys.specs.View.{AreNodesApart, texts_at, all_texts}
 
 -- ---- The entries of one node

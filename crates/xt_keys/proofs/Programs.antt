@@ -6,14 +6,14 @@ use Rattle.spec_meaning.specs.Program.{Wanted, Supply, Program, Give, Refuse, As
 use Rattle.spec_transform.specs.Key.{KeyAt, Entry, entry, indexed, indexed_by, key_in, values_at}
 use Rattle.xt_tree.specs.declared.node_ref.NodeRef.{NodeRef}
 use Rattle.xp_axes.specs.View.{same_ref}
-use Rattle.xp_syntax.specs.SheetView.{declared_of, unit_of}
-use Rattle.xp_syntax.specs.declared.unit.Key.{Key}
-use Rattle.xp_syntax.specs.declared.unit.Unit.{Unit}
-use Rattle.xp_syntax.specs.declared.unit.Declared.TheVariants as forms
-use Rattle.xt_ask.specs.declared.fault.EvalFault.{EvalFault}
-use Rattle.xt_ask.specs.declared.fault.EvalFault.TheVariants.{Memory, Refused, Wants}
-use Rattle.xt_ask.specs.Runs.{Runs, Continues, itself}
-use Rattle.xt_ask.proofs.Steps.{follow, run-then, runs_gives, goes_on, next_turn}
+use Rattle.xt_syntax.specs.SheetView.{declared_of, unit_of}
+use Rattle.xt_syntax.specs.declared.unit.Key.{Key}
+use Rattle.xt_syntax.specs.declared.unit.Unit.{Unit}
+use Rattle.xt_syntax.specs.declared.unit.Declared.TheVariants as forms
+use Rattle.xt_questions.specs.declared.fault.EvalFault.{EvalFault}
+use Rattle.xt_questions.specs.declared.fault.EvalFault.TheVariants.{Memory, Refused, Wants}
+use Rattle.xt_questions.specs.Runs.{Runs, Continues, itself}
+use Rattle.xt_questions.proofs.Steps.{follow, run-then, runs_gives, goes_on, next_turn}
 use Rattle.xt_match.proofs.Together.{then_then, continues_as, runs_as}
 use Rattle.xt_keys.specs.View.{Fills, all_texts, key_at}
 

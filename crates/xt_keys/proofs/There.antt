@@ -4,12 +4,12 @@ use Rattle.spec_stylesheet.specs.Place as places
 use Rattle.spec_meaning.specs.Program.{Given, Supply, Saw, Program, Give, Refuse, Ask, Need, State, asked, noted, Said, Gives, Refuses, Lacks, Ending, if_given, run}
 use Rattle.spec_transform.specs.Key.{refusal_there, refused_there}
 use Rattle.xt_base.specs.declared.place.Place.{Place}
-use Rattle.xp_syntax.specs.PartView.{place_of}
+use Rattle.xt_syntax.specs.PartView.{place_of}
 use Rattle.xt_tree.specs.declared.node_ref.NodeRef.{NodeRef}
-use Rattle.xt_ask.specs.declared.fault.EvalFault.{EvalFault}
-use Rattle.xt_ask.specs.declared.fault.EvalFault.TheVariants.{Memory, Refused, Wants}
-use Rattle.xt_ask.specs.declared.fault.Refusal.TheVariants.{Here, At}
-use Rattle.xt_ask.specs.Runs.{Runs, RunsSo}
+use Rattle.xt_questions.specs.declared.fault.EvalFault.{EvalFault}
+use Rattle.xt_questions.specs.declared.fault.EvalFault.TheVariants.{Memory, Refused, Wants}
+use Rattle.xt_questions.specs.declared.fault.Refusal.TheVariants.{Here, At}
+use Rattle.xt_questions.specs.Runs.{Runs, RunsSo}
 
 abbrev there_said : {A : Type 0} → places.Place → Said A → Said A
 there_said place (Gives v) = Gives v

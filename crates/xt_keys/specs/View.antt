@@ -10,15 +10,15 @@ use Rattle.spec_meaning.specs.Program.{Program, Give, Supply, State, then}
 use Rattle.spec_transform.specs.Key.{KeyAt, Entry}
 use Rattle.xt_tree.specs.declared.node_ref.NodeRef.{NodeRef}
 use Rattle.xp_axes.specs.View.{same_ref}
-use Rattle.xp_syntax.specs.PartView.{site_of}
-use Rattle.xp_syntax.specs.SheetView.{key_of}
-use Rattle.xp_syntax.specs.declared.site.Site.{Site}
-use Rattle.xp_syntax.specs.declared.unit.Key.{Key}
-use Rattle.xt_ask.specs.Runs.{Runs, itself}
-use Rattle.xt_ask.specs.View.{context_of}
-use Rattle.xt_ask.specs.declared.context.Context.{Context}
-use Rattle.xt_ask.specs.declared.context.Focus.{Focus}
-use Rattle.xt_ask.specs.declared.fault.EvalFault.{EvalFault}
+use Rattle.xt_syntax.specs.PartView.{site_of}
+use Rattle.xt_syntax.specs.SheetView.{key_of}
+use Rattle.xt_syntax.specs.declared.site.Site.{Site}
+use Rattle.xt_syntax.specs.declared.unit.Key.{Key}
+use Rattle.xt_questions.specs.Runs.{Runs, itself}
+use Rattle.xt_questions.specs.View.{context_of}
+use Rattle.xt_questions.specs.declared.context.Context.{Context}
+use Rattle.xt_questions.specs.declared.context.Focus.{Focus}
+use Rattle.xt_questions.specs.declared.fault.EvalFault.{EvalFault}
 use Rattle.xt_match.specs.Context.{at}
 use Rattle.xt_keys.specs.declared.groups.KeyIndex.{KeyIndex}
 

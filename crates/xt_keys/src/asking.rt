@@ -5,7 +5,7 @@ ghost use Rattle.spec_meaning.specs.Program.{Give, then as and_then};
 ghost use Rattle.spec_transform.specs.Key as definition;
 ghost use Rattle.spec_transform.specs.Key.{no_globals};
 ghost use Rattle.xp_axes.specs.View.{same_ref};
-ghost use Rattle.xt_ask.specs.Runs.{Runs};
+ghost use Rattle.xt_questions.specs.Runs.{Runs};
 ghost use Rattle.xt_keys.specs.View.{AreNodesApart, nodes_found};
 ghost use Rattle.xt_match.specs.Context.{units_in};
 
@@ -13,8 +13,8 @@ use crate::filling::all_values;
 use crate::groups::{KeyIndex, grouped};
 use std::alloc::Global;
 use std::rc::Rc;
-use xt_ask::{EvalFault, Evaluate, ResolvedUnit, Supplies};
 use xt_names::Expanded;
+use xt_questions::{EvalFault, Evaluate, ResolvedUnit, Supplies};
 use xt_tree::NodeRef;
 
 /// The index of these nodes by their values in the keys of this name, which stand among the units of a

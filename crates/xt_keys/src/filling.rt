@@ -4,18 +4,18 @@ ghost use Rattle.spec_meaning.specs.Program.{Give, then as and_then};
 ghost use Rattle.spec_meaning.specs.Supplies.{at_hand};
 ghost use Rattle.spec_transform.specs.Key as definition;
 ghost use Rattle.xp_axes.specs.View.{same_ref};
-ghost use Rattle.xp_syntax.specs.SheetView.{unit_of};
-ghost use Rattle.xt_ask.specs.Runs.{Runs};
-ghost use Rattle.xt_ask.specs.View.{supplies_of};
+ghost use Rattle.xt_syntax.specs.SheetView.{unit_of};
+ghost use Rattle.xt_questions.specs.Runs.{Runs};
+ghost use Rattle.xt_questions.specs.View.{supplies_of};
 ghost use Rattle.xt_keys.specs.View.{AreNodesApart, Fills, all_texts, key_at, texts_in};
 ghost use Rattle.xt_match.specs.Context.{units_in};
 
 use crate::values::values_at;
 use std::alloc::Global;
 use std::rc::Rc;
-use xp_syntax::{Declared, Key, Site, Unit};
-use xt_ask::{EvalFault, Evaluate, ResolvedUnit, Supplies};
 use xt_names::Expanded;
+use xt_questions::{EvalFault, Evaluate, ResolvedUnit, Supplies};
+use xt_syntax::{Declared, Key, Site, Unit};
 use xt_text::{Memory, Text};
 use xt_tree::NodeRef;
 

@@ -6,22 +6,22 @@ ghost use Rattle.spec_meaning.specs.Program.{Give, Program, State, Supply, then 
 ghost use Rattle.spec_meaning.specs.Supplies.{at_hand};
 ghost use Rattle.spec_transform.specs.Key as definition;
 ghost use Rattle.xp_axes.specs.View.{same_ref};
-ghost use Rattle.xp_syntax.specs.PartView.{place_of};
-ghost use Rattle.xp_syntax.specs.View.{expr_of};
-ghost use Rattle.xt_ask.specs.Runs.{Runs, items, itself};
-ghost use Rattle.xt_ask.specs.View.{context_of, supplies_of};
+ghost use Rattle.xt_syntax.specs.PartView.{place_of};
+ghost use Rattle.xt_syntax.specs.View.{expr_of};
+ghost use Rattle.xt_questions.specs.Runs.{Runs, items, itself};
+ghost use Rattle.xt_questions.specs.View.{context_of, supplies_of};
 ghost use Rattle.xt_keys.specs.View.{IsContextOf, alone, key_at};
 ghost use Rattle.xt_tree.specs.ValueView.{value_of};
 ghost use Rattle.xt_tree.specs.declared.node_ref.NodeRef.{NodeRef};
 
 use std::alloc::Global;
-use xp_syntax::{Key, Site};
 use xp_values::to_text;
-use xt_ask::{
-    Bindings, Context, EvalFault, Evaluate, Focus, Refusal, Supplies, World, ask_text, copy_place,
-};
 use xt_base::Place;
 use xt_match::matches;
+use xt_questions::{
+    Bindings, Context, EvalFault, Evaluate, Focus, Refusal, Supplies, World, ask_text, copy_place,
+};
+use xt_syntax::{Key, Site};
 use xt_text::{Memory, Text};
 use xt_tree::{NodeRef, Value};
 

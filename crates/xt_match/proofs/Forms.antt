@@ -5,9 +5,9 @@ use Rattle.spec_expression.specs.declared.code.StaticCode.{StaticCode}
 use Rattle.spec_meaning.specs.declared.function.Function.{Function}
 use Rattle.spec_transform.specs.Position.{count_of, counts_after, is_arithmetic}
 use Rattle.xp_functions.specs.Found.{found_or_refused}
-use Rattle.xp_syntax.specs.View.{expr_of, link_of}
-use Rattle.xp_syntax.specs.declared.expr.Expr.{Expr}
-use Rattle.xp_syntax.specs.declared.expr.Link.{Link, the_lemmas}
+use Rattle.xt_syntax.specs.View.{expr_of, link_of}
+use Rattle.xt_syntax.specs.declared.expr.Expr.{Expr}
+use Rattle.xt_syntax.specs.declared.expr.Link.{Link, the_lemmas}
 
 pub count_is : (es : List Expr) → length es ≡ count_of (exprs (map expr_of es))
 count_is [] = refl

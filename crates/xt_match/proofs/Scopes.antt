@@ -9,7 +9,7 @@ use Rattle.spec_transform.specs.Choice.{scope_for}
 use Rattle.xt_match.specs.Context.{unit_in, units_in}
 use Rattle.std.specs.declared.rc.Rc.{Rc}
 use Rattle.std.specs.Global.{Global}
-use Rattle.xt_ask.specs.declared.answer.ResolvedUnit.{ResolvedUnit}
+use Rattle.xt_questions.specs.declared.answer.ResolvedUnit.{ResolvedUnit}
 
 abbrev scope_in : Option sheet.Unit → Scope
 scope_in o = elim o [ None ↦ root_scope | Some unit ↦ unit.site.scope ]

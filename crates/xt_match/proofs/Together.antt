@@ -9,10 +9,10 @@ use Rattle.spec_meaning.specs.Question.{Question, Answer, Step, Key, nodes_in}
 use Rattle.spec_meaning.specs.Program.{Given, Supply, Saw, Program, Give, Refuse, Ask, Need, State, asked, noted, Ending, Said, Gives, Refuses, Lacks, if_given, then, run}
 use Rattle.spec_transform.specs.Match.{caught, axis_above, holds_of_one, when_called}
 use Rattle.xt_tree.specs.declared.node_ref.NodeRef.{NodeRef}
-use Rattle.xt_ask.specs.declared.fault.EvalFault.{EvalFault}
-use Rattle.xt_ask.specs.declared.fault.EvalFault.TheVariants.{Memory, Refused, Wants}
-use Rattle.xt_ask.specs.Runs.{Runs, RunsSo, Continues, itself}
-use Rattle.xt_ask.proofs.Steps.{runs_from}
+use Rattle.xt_questions.specs.declared.fault.EvalFault.{EvalFault}
+use Rattle.xt_questions.specs.declared.fault.EvalFault.TheVariants.{Memory, Refused, Wants}
+use Rattle.xt_questions.specs.Runs.{Runs, RunsSo, Continues, itself}
+use Rattle.xt_questions.proofs.Steps.{runs_from}
 
 pub then_then : {N A B C : Type 0} (p : Program N A) (f : A → Program N B) (k : B → Program N C) → then (then p f) k ≡ then p (λ x. then (f x) k)
 unfolding then

@@ -8,9 +8,9 @@ use Rattle.spec_meaning.specs.Question as question
 use Rattle.spec_meaning.specs.Question.{Answer, nodes_in}
 use Rattle.spec_meaning.specs.Program.{Program, Give, Ask, then}
 use Rattle.spec_transform.specs.Match.{all_kept, keep, is_given_below, holds_of_one, when_called}
-use Rattle.xp_syntax.specs.declared.expr.Expr.{Expr}
-use Rattle.xp_syntax.specs.declared.expr.Step.{Step}
-use Rattle.xp_syntax.specs.View.{expr_of, step_of, test_of}
+use Rattle.xt_syntax.specs.declared.expr.Expr.{Expr}
+use Rattle.xt_syntax.specs.declared.expr.Step.{Step}
+use Rattle.xt_syntax.specs.View.{expr_of, step_of, test_of}
 use Rattle.xt_match.proofs.Together.{ask_then}
 use Rattle.xt_match.proofs.Views.{view-Step}
 

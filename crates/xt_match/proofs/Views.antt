@@ -13,11 +13,11 @@ use Rattle.spec_meaning.specs.Program.{Program, Give, Ask}
 use Rattle.spec_meaning.specs.Context.{Context}
 use Rattle.spec_transform.specs.Match.{passes, passes_predicates, passes_step, keep_alone, holds_of_one, is_given_below}
 use Rattle.spec_transform.specs.Position.{read_no_position}
-use Rattle.xp_syntax.specs.declared.expr.Expr.{Expr, the_lemmas}
-use Rattle.xp_syntax.specs.declared.expr.Step.{Step}
-use Rattle.xp_syntax.specs.declared.pattern.PatternStep.{PatternStep}
-use Rattle.xp_syntax.specs.View.{expr_of, step_of, test_of}
-use Rattle.xp_syntax.specs.PartView.{pattern_step_of}
+use Rattle.xt_syntax.specs.declared.expr.Expr.{Expr, the_lemmas}
+use Rattle.xt_syntax.specs.declared.expr.Step.{Step}
+use Rattle.xt_syntax.specs.declared.pattern.PatternStep.{PatternStep}
+use Rattle.xt_syntax.specs.View.{expr_of, step_of, test_of}
+use Rattle.xt_syntax.specs.PartView.{pattern_step_of}
 
 pub view-Step : (s : Step) → step_of s ≡ record { axis = s.axis; test = test_of s.test; predicates = exprs (map expr_of s.predicates.items) }
 view-Step s = search (rules, the_lemmas)

@@ -5,11 +5,11 @@ use Rattle.std.specs.Global.{Global}
 use Rattle.spec_stylesheet.specs.Sheet as sheet
 use Rattle.spec_transform.specs.Choice.{context_for}
 use Rattle.xt_tree.specs.declared.node_ref.NodeRef.{NodeRef}
-use Rattle.xp_syntax.specs.SheetView.{unit_of}
-use Rattle.xt_ask.specs.declared.answer.ResolvedUnit.{ResolvedUnit}
-use Rattle.xt_ask.specs.declared.context.Context.{Context}
-use Rattle.xt_ask.specs.declared.context.Focus.{Focus}
-use Rattle.xt_ask.specs.View.{context_of}
+use Rattle.xt_syntax.specs.SheetView.{unit_of}
+use Rattle.xt_questions.specs.declared.answer.ResolvedUnit.{ResolvedUnit}
+use Rattle.xt_questions.specs.declared.context.Context.{Context}
+use Rattle.xt_questions.specs.declared.context.Focus.{Focus}
+use Rattle.xt_questions.specs.View.{context_of}
 
 -- the units of a stylesheet, whatever they are resolved to
 abbrev pub unit_in : Rc ResolvedUnit Global → sheet.Unit

@@ -3,17 +3,19 @@ ghost use Rattle.std.specs.Prelude.{◌≡◌, IfOk, map};
 ghost use Rattle.spec_meaning.specs.Supplies.{at_hand};
 ghost use Rattle.spec_transform.specs.Choice as definition;
 ghost use Rattle.xp_axes.specs.View.{same_ref};
-ghost use Rattle.xp_syntax.specs.SheetView.{rule_of, rules_of};
-ghost use Rattle.xt_ask.specs.View.{answer_of, candidates_of, context_of, supplies_of};
-ghost use Rattle.xt_ask.specs.Runs.{Runs, itself};
+ghost use Rattle.xt_syntax.specs.SheetView.{rule_of, rules_of};
+ghost use Rattle.xt_questions.specs.View.{answer_of, candidates_of, context_of, supplies_of};
+ghost use Rattle.xt_questions.specs.Runs.{Runs, itself};
 ghost use Rattle.xt_match.specs.Context.{IsContextOf, units_in};
 
 use crate::pattern::{ask_called, matches_one};
 use std::alloc::Global;
 use std::rc::Rc;
-use xp_syntax::{Rule, Rules};
-use xt_ask::{Answer, Bindings, Candidates, Context, EvalFault, Evaluate, ResolvedUnit, Supplies};
 use xt_names::{Expanded, Scope};
+use xt_questions::{
+    Answer, Bindings, Candidates, Context, EvalFault, Evaluate, ResolvedUnit, Supplies,
+};
+use xt_syntax::{Rule, Rules};
 use xt_text::Memory;
 use xt_tree::NodeRef;
 

@@ -1,6 +1,6 @@
 //! Which nodes match a pattern (XSLT 1.0, section 5.2), and which template rule is chosen for a node (sections
 //! 5.5 and 5.6), in a world that evaluates expressions. Every function that asks has the clause `Runs`
-//! (`xt_ask`). Matching is never refused: a predicate that is refused is false.
+//! (`xt_questions`). Matching is never refused: a predicate that is refused is false.
 //!
 //! ```text
 //! let is_counted = matches(alloc, &count, node, &context, &supplies, world)?;

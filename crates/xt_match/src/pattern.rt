@@ -8,11 +8,11 @@ ghost use Rattle.spec_meaning.specs.Question as question;
 ghost use Rattle.spec_meaning.specs.Supplies.{at_hand};
 ghost use Rattle.spec_transform.specs.Match as definition;
 ghost use Rattle.xp_axes.specs.View.{same_ref};
-ghost use Rattle.xp_syntax.specs.PartView.{alternative_of, pattern_of, pattern_step_of};
+ghost use Rattle.xt_syntax.specs.PartView.{alternative_of, pattern_of, pattern_step_of};
 ghost use Rattle.xt_tree.specs.declared.node_ref.NodeRef.{NodeRef};
-ghost use Rattle.xt_ask.specs.View.{answer_of, context_of, supplies_of};
-ghost use Rattle.xt_ask.specs.Runs.{Runs, itself};
-ghost use Rattle.xt_ask.specs.declared.context.Focus as code;
+ghost use Rattle.xt_questions.specs.View.{answer_of, context_of, supplies_of};
+ghost use Rattle.xt_questions.specs.Runs.{Runs, itself};
+ghost use Rattle.xt_questions.specs.declared.context.Focus as code;
 
 use crate::same::is_one;
 use crate::step::passes_step;
@@ -20,11 +20,11 @@ use crate::test::is_root;
 use spec_document::Axis;
 use spec_stylesheet::Separator;
 use std::alloc::Global;
-use xp_syntax::{Alternative, NodeType, Pattern, PatternStep, Start, Test};
-use xt_ask::{
+use xt_names::Expanded;
+use xt_questions::{
     Answer, Context, EvalFault, Evaluate, Question, Supplies, World, ask_nodes, copy_name,
 };
-use xt_names::Expanded;
+use xt_syntax::{Alternative, NodeType, Pattern, PatternStep, Start, Test};
 use xt_text::Text;
 use xt_tree::NodeRef;
 

@@ -5,12 +5,12 @@ ghost use Rattle.spec_expression.specs.Syntax.{exprs, steps};
 ghost use Rattle.spec_meaning.specs.Function.{function_of};
 ghost use Rattle.spec_meaning.specs.declared.function.Function.TheVariants.{OfContext, OfNodes, OfText, OfValue};
 ghost use Rattle.spec_transform.specs.Position as definition;
-ghost use Rattle.xp_syntax.specs.View.{expr_of, link_of, step_of};
+ghost use Rattle.xt_syntax.specs.View.{expr_of, link_of, step_of};
 
 use spec_meaning::{ContextFunction, NodesFunction, TextFunction, ValueFunction};
 use xp_functions::{Function, find};
-use xp_syntax::{Expr, Link, Operator, Step};
 use xt_names::Expanded;
+use xt_syntax::{Expr, Link, Operator, Step};
 
 /// Whether none of these predicates reads a position. Takes no memory.
 pub(crate) fn read_no_position(predicates: &[Expr]) -> bool

@@ -9,19 +9,19 @@ ghost use Rattle.spec_meaning.specs.Supplies.{at_hand};
 ghost use Rattle.spec_meaning.specs.Value as plain;
 ghost use Rattle.spec_transform.specs.Match as definition;
 ghost use Rattle.xp_axes.specs.View.{same_ref};
-ghost use Rattle.xp_syntax.specs.View.{expr_of};
+ghost use Rattle.xt_syntax.specs.View.{expr_of};
 ghost use Rattle.xt_tree.specs.ValueView.{value_of};
 ghost use Rattle.xt_tree.specs.declared.node_ref.NodeRef.{NodeRef};
-ghost use Rattle.xt_ask.specs.View.{context_of, supplies_of};
-ghost use Rattle.xt_ask.specs.Runs.{Runs, itself, items};
-ghost use Rattle.xt_ask.specs.declared.context.Focus as code;
+ghost use Rattle.xt_questions.specs.View.{context_of, supplies_of};
+ghost use Rattle.xt_questions.specs.Runs.{Runs, itself, items};
+ghost use Rattle.xt_questions.specs.declared.context.Focus as code;
 
 use crate::same::same_ref;
 use std::alloc::Global;
-use xp_syntax::Expr;
 use xp_values::to_boolean;
-use xt_ask::{Context, EvalFault, Evaluate, Focus, Supplies};
 use xt_base::Num;
+use xt_questions::{Context, EvalFault, Evaluate, Focus, Supplies};
+use xt_syntax::Expr;
 use xt_text::Memory;
 use xt_tree::{NodeRef, Value};
 

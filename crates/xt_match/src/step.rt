@@ -8,18 +8,18 @@ ghost use Rattle.spec_meaning.specs.Question as question;
 ghost use Rattle.spec_meaning.specs.Supplies.{at_hand};
 ghost use Rattle.spec_transform.specs.Match as definition;
 ghost use Rattle.xp_axes.specs.View.{same_ref};
-ghost use Rattle.xp_syntax.specs.View.{step_of};
-ghost use Rattle.xt_ask.specs.View.{answer_of, context_of, supplies_of};
-ghost use Rattle.xt_ask.specs.Runs.{Runs, itself};
-ghost use Rattle.xt_ask.specs.declared.context.Focus as code;
+ghost use Rattle.xt_syntax.specs.View.{step_of};
+ghost use Rattle.xt_questions.specs.View.{answer_of, context_of, supplies_of};
+ghost use Rattle.xt_questions.specs.Runs.{Runs, itself};
+ghost use Rattle.xt_questions.specs.declared.context.Focus as code;
 
 use crate::position::read_no_position;
 use crate::predicate::{keep, keep_alone};
 use crate::test::passes;
 use spec_document::Axis;
 use std::alloc::Global;
-use xp_syntax::{NodeType, Step, Test};
-use xt_ask::{Answer, Context, EvalFault, Evaluate, Supplies, ask_nodes, copy_test};
+use xt_questions::{Answer, Context, EvalFault, Evaluate, Supplies, ask_nodes, copy_test};
+use xt_syntax::{NodeType, Step, Test};
 use xt_tree::NodeRef;
 
 // Whether a step from this parent gives the node.

@@ -3,14 +3,14 @@ ghost use Rattle.std.specs.Prelude.{◌≡◌, Some};
 ghost use Rattle.spec_document.specs.Name.{same_expanded};
 ghost use Rattle.spec_meaning.specs.Step as spec;
 ghost use Rattle.spec_transform.specs.Match as definition;
-ghost use Rattle.xp_syntax.specs.View.{test_of};
-ghost use Rattle.xt_ask.specs.View.{answer_of};
+ghost use Rattle.xt_syntax.specs.View.{test_of};
+ghost use Rattle.xt_questions.specs.View.{answer_of};
 
 use spec_document::{Axis, Kind};
 use spec_expression::NodeType;
-use xp_syntax::Test;
-use xt_ask::Answer;
 use xt_names::Expanded;
+use xt_questions::Answer;
+use xt_syntax::Test;
 use xt_text::Text;
 
 // Whether nodes of this kind are children.

@@ -8,13 +8,13 @@ use Rattle.spec_meaning.specs.Context.{Context}
 use Rattle.spec_meaning.specs.Meaning.{meaning}
 use Rattle.spec_meaning.specs.Program.{then}
 use Rattle.spec_transform.specs.Numbering.{names_in, names_in_all, names_in_links, names_in_steps, names_in_alternative, referred_to}
-use Rattle.xp_syntax.specs.declared.expr.Expr.{Expr}
-use Rattle.xp_syntax.specs.declared.expr.Link.{Link}
-use Rattle.xp_syntax.specs.declared.expr.Step.{Step}
-use Rattle.xp_syntax.specs.declared.pattern.Alternative.{Alternative}
-use Rattle.xp_syntax.specs.declared.pattern.PatternStep.{PatternStep}
-use Rattle.xp_syntax.specs.PartView.{alternative_of, pattern_step_of}
-use Rattle.xp_syntax.specs.View.{expr_of, link_of, step_of}
+use Rattle.xt_syntax.specs.declared.expr.Expr.{Expr}
+use Rattle.xt_syntax.specs.declared.expr.Link.{Link}
+use Rattle.xt_syntax.specs.declared.expr.Step.{Step}
+use Rattle.xt_syntax.specs.declared.pattern.Alternative.{Alternative}
+use Rattle.xt_syntax.specs.declared.pattern.PatternStep.{PatternStep}
+use Rattle.xt_syntax.specs.PartView.{alternative_of, pattern_step_of}
+use Rattle.xt_syntax.specs.View.{expr_of, link_of, step_of}
 use Rattle.xt_match.proofs.Together.{then_then}
 use Rattle.xt_number.proofs.Views.{operand-of, predicates-of}
 

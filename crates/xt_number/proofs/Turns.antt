@@ -10,7 +10,7 @@ use Rattle.spec_meaning.specs.Program.{Program, Give, then}
 use Rattle.spec_transform.specs.Numbering.{on_axis, nearest_first, cut_by, backward}
 use Rattle.xt_tree.specs.declared.node_ref.NodeRef.{NodeRef}
 use Rattle.xt_tree.specs.declared.node_ref.Part.TheVariants as part
-use Rattle.xt_ask.specs.declared.context.Focus.{Focus}
+use Rattle.xt_questions.specs.declared.context.Focus.{Focus}
 
 -- a node, for a place in a list that has none
 abbrev none : NodeRef

@@ -3,10 +3,10 @@ use Rattle.std.proofs.Common.{◌≡◌, ℕ, List, Box, Vec, Global, map, ap, r
 use Rattle.spec_document.specs.Name.{Expanded}
 use Rattle.spec_expression.specs.Syntax as plain
 use Rattle.spec_expression.specs.Syntax.{exprs, links, steps}
-use Rattle.xp_syntax.specs.declared.expr.Expr.{Expr, Number, Literal, Variable, Call, Chain, Negation, Filter, Root, Here, Path, the_lemmas}
-use Rattle.xp_syntax.specs.declared.expr.Link.{Link}
-use Rattle.xp_syntax.specs.declared.expr.Step.{Step}
-use Rattle.xp_syntax.specs.View.{expr_of, link_of, step_of, test_of}
+use Rattle.xt_syntax.specs.declared.expr.Expr.{Expr, Number, Literal, Variable, Call, Chain, Negation, Filter, Root, Here, Path, the_lemmas}
+use Rattle.xt_syntax.specs.declared.expr.Link.{Link}
+use Rattle.xt_syntax.specs.declared.expr.Step.{Step}
+use Rattle.xt_syntax.specs.View.{expr_of, link_of, step_of, test_of}
 
 pub view-Number : (n : ℕ) → expr_of (Number n) ≡ plain.number n
 view-Number n = search (rules, the_lemmas)

@@ -1,8 +1,8 @@
 -- What is counted, as the program has it.
 use Rattle.spec_transform.specs.Numbering as plain
-use Rattle.xp_syntax.specs.PartView.{pattern_of}
+use Rattle.xt_syntax.specs.PartView.{pattern_of}
 use Rattle.xt_tree.specs.declared.node_ref.NodeRef.{NodeRef}
-use Rattle.xt_ask.specs.View.{answer_of}
+use Rattle.xt_questions.specs.View.{answer_of}
 use Rattle.xt_number.specs.declared.counted.Counted.{Counted}
 use Rattle.xt_number.specs.declared.counted.Counted.TheVariants as counted
 

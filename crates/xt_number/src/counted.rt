@@ -6,20 +6,20 @@ ghost use Rattle.spec_meaning.specs.Question as question;
 ghost use Rattle.spec_meaning.specs.Supplies.{at_hand};
 ghost use Rattle.spec_transform.specs.Numbering as definition;
 ghost use Rattle.xp_axes.specs.View.{same_ref};
-ghost use Rattle.xp_syntax.specs.PartView.{pattern_of};
+ghost use Rattle.xt_syntax.specs.PartView.{pattern_of};
 ghost use Rattle.xt_tree.specs.declared.node_ref.NodeRef.{NodeRef};
-ghost use Rattle.xt_ask.specs.View.{answer_of, context_of, supplies_of};
-ghost use Rattle.xt_ask.specs.Runs.{Runs, itself};
+ghost use Rattle.xt_questions.specs.View.{answer_of, context_of, supplies_of};
+ghost use Rattle.xt_questions.specs.Runs.{Runs, itself};
 ghost use Rattle.xt_number.specs.View.{counted_of};
-ghost use Rattle.xt_ask.specs.declared.context.Context as around;
-ghost use Rattle.xt_ask.specs.declared.context.Focus as code;
+ghost use Rattle.xt_questions.specs.declared.context.Context as around;
+ghost use Rattle.xt_questions.specs.declared.context.Focus as code;
 
 use spec_document::Kind;
 use std::alloc::Global;
-use xp_syntax::Pattern;
-use xt_ask::{Answer, Context, EvalFault, Evaluate, Focus, Question, Supplies, World};
 use xt_match::matches;
 use xt_names::Expanded;
+use xt_questions::{Answer, Context, EvalFault, Evaluate, Focus, Question, Supplies, World};
+use xt_syntax::Pattern;
 use xt_text::Memory;
 use xt_tree::NodeRef;
 

@@ -6,17 +6,17 @@ ghost use Rattle.spec_meaning.specs.Program.{Give, Supply, then as and_then};
 ghost use Rattle.spec_meaning.specs.Supplies.{at_hand};
 ghost use Rattle.spec_transform.specs.Numbering as definition;
 ghost use Rattle.xp_axes.specs.View.{same_ref};
-ghost use Rattle.xp_syntax.specs.PartView.{pattern_of};
+ghost use Rattle.xt_syntax.specs.PartView.{pattern_of};
 ghost use Rattle.xt_tree.specs.declared.node_ref.NodeRef.{NodeRef};
-ghost use Rattle.xt_ask.specs.View.{context_of, supplies_of};
-ghost use Rattle.xt_ask.specs.Runs.{Runs, items};
-ghost use Rattle.xt_ask.specs.declared.context.Focus as code;
+ghost use Rattle.xt_questions.specs.View.{context_of, supplies_of};
+ghost use Rattle.xt_questions.specs.Runs.{Runs, items};
+ghost use Rattle.xt_questions.specs.declared.context.Focus as code;
 
 use spec_document::Axis;
 use std::alloc::Global;
-use xp_syntax::{NodeType, Pattern, Test};
-use xt_ask::{Context, EvalFault, Evaluate, Focus, Supplies, World, ask_nodes, ask_order};
 use xt_match::matches;
+use xt_questions::{Context, EvalFault, Evaluate, Focus, Supplies, World, ask_nodes, ask_order};
+use xt_syntax::{NodeType, Pattern, Test};
 use xt_text::Memory;
 use xt_tree::NodeRef;
 

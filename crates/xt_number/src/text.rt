@@ -8,22 +8,22 @@ ghost use Rattle.spec_meaning.specs.Program.{Supply};
 ghost use Rattle.spec_meaning.specs.Supplies.{at_hand};
 ghost use Rattle.spec_transform.specs.Numbering as definition;
 ghost use Rattle.xp_axes.specs.View.{same_ref};
-ghost use Rattle.xp_syntax.specs.PartView.{avt_of, number_source_of, numbering_of};
-ghost use Rattle.xp_syntax.specs.View.{expr_of};
+ghost use Rattle.xt_syntax.specs.PartView.{avt_of, number_source_of, numbering_of};
+ghost use Rattle.xt_syntax.specs.View.{expr_of};
 ghost use Rattle.xt_tree.specs.ValueView.{value_of};
 ghost use Rattle.xt_tree.specs.declared.node_ref.NodeRef.{NodeRef};
-ghost use Rattle.xt_ask.specs.View.{context_of, supplies_of};
-ghost use Rattle.xt_ask.specs.Runs.{Runs, itself, items};
+ghost use Rattle.xt_questions.specs.View.{context_of, supplies_of};
+ghost use Rattle.xt_questions.specs.Runs.{Runs, itself, items};
 
 use crate::levels::{numbers, only};
 use std::alloc::Global;
-use xp_syntax::{Avt, Expr, NumberSource, Numbering};
 use xp_values::to_number;
-use xt_ask::{Context, EvalFault, Evaluate, Focus, Supplies, World};
 use xt_avt::expand;
 use xt_base::Num;
+use xt_number_format::{Format, Grouping, grouping_size, split, write};
+use xt_questions::{Context, EvalFault, Evaluate, Focus, Supplies, World};
+use xt_syntax::{Avt, Expr, NumberSource, Numbering};
 use xt_text::{Memory, Text};
-use xt_tokens::{Format, Grouping, grouping_size, split, write};
 use xt_tree::Value;
 
 // The number of a value, which is let go.

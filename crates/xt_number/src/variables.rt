@@ -7,14 +7,14 @@ ghost use Rattle.spec_meaning.specs.Meaning.{meaning};
 ghost use Rattle.spec_meaning.specs.Program.{Give, then as and_then};
 ghost use Rattle.spec_meaning.specs.Supplies.{at_hand};
 ghost use Rattle.spec_transform.specs.Numbering as definition;
-ghost use Rattle.xp_syntax.specs.PartView.{alternative_of, pattern_of, pattern_step_of};
-ghost use Rattle.xp_syntax.specs.View.{expr_of, link_of, step_of};
-ghost use Rattle.xt_ask.specs.View.{context_of, supplies_of};
-ghost use Rattle.xt_ask.specs.Runs.{Runs, itself};
+ghost use Rattle.xt_syntax.specs.PartView.{alternative_of, pattern_of, pattern_step_of};
+ghost use Rattle.xt_syntax.specs.View.{expr_of, link_of, step_of};
+ghost use Rattle.xt_questions.specs.View.{context_of, supplies_of};
+ghost use Rattle.xt_questions.specs.Runs.{Runs, itself};
 
 use std::alloc::Global;
-use xp_syntax::{Alternative, Count, Expr, Link, Pattern, PatternStep, Step};
-use xt_ask::{Context, EvalFault, Evaluate, Focus, Supplies};
+use xt_questions::{Context, EvalFault, Evaluate, Focus, Supplies};
+use xt_syntax::{Alternative, Count, Expr, Link, Pattern, PatternStep, Step};
 
 // Evaluates an expression, whose value is of no matter.
 fn evaluate<W: Evaluate>(

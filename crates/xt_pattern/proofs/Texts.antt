@@ -6,8 +6,8 @@ use Rattle.spec_expression.specs.declared.ExpressionRefusal.TheVariants.{Syntax}
 use Rattle.spec_expression.specs.Token.{Token, tokens, is_deep}
 use Rattle.spec_stylesheet.specs.Pattern as trees
 use Rattle.spec_static.specs.PatternGrammar.{Gives, Uncut, HasTree, ReadsAlternatives}
-use Rattle.xp_syntax.specs.declared.pattern.Pattern.{Pattern}
-use Rattle.xp_syntax.specs.PartView.{pattern_of}
+use Rattle.xt_syntax.specs.declared.pattern.Pattern.{Pattern}
+use Rattle.xt_syntax.specs.PartView.{pattern_of}
 use Rattle.xt_pattern.specs.declared.fault.PatternFault.{PatternFault}
 use Rattle.xt_pattern.specs.declared.fault.PatternFault.TheVariants.{Memory, Refused}
 use Rattle.xt_pattern.specs.Parsed.{Given, Parsed}

@@ -4,9 +4,9 @@ use Rattle.std.specs.Prelude.{◌==◌}
 use Rattle.spec_static.specs.PatternGrammar.{step_priority, half}
 use Rattle.spec_expression.specs.Syntax as plain
 use Rattle.spec_expression.specs.Syntax.{exprs}
-use Rattle.xp_syntax.specs.declared.expr.Expr.{Expr, the_lemmas}
-use Rattle.xp_syntax.specs.declared.expr.Step.{Step}
-use Rattle.xp_syntax.specs.View.{expr_of, step_of, test_of}
+use Rattle.xt_syntax.specs.declared.expr.Expr.{Expr, the_lemmas}
+use Rattle.xt_syntax.specs.declared.expr.Step.{Step}
+use Rattle.xt_syntax.specs.View.{expr_of, step_of, test_of}
 
 pub view-Step : (s : Step) → step_of s ≡ record { axis = s.axis; test = test_of s.test; predicates = exprs (map expr_of s.predicates.items) }
 view-Step s = search (rules, the_lemmas)

@@ -3,8 +3,8 @@ use Rattle.std.specs.Prelude.{ℕ, List, Result, Ok, Err}
 use Rattle.spec_document.specs.Scope.{Scope}
 use Rattle.spec_expression.specs.Token.{Token}
 use Rattle.spec_static.specs.PatternGrammar.{Gives, ParsesPattern}
-use Rattle.xp_syntax.specs.declared.pattern.Pattern.{Pattern}
-use Rattle.xp_syntax.specs.PartView.{pattern_of}
+use Rattle.xt_syntax.specs.declared.pattern.Pattern.{Pattern}
+use Rattle.xt_syntax.specs.PartView.{pattern_of}
 use Rattle.xt_pattern.specs.declared.fault.PatternFault.{PatternFault}
 use Rattle.xt_pattern.specs.declared.fault.PatternFault.TheVariants.{Memory, Refused}
 

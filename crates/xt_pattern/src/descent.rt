@@ -2,8 +2,8 @@
 ghost use Rattle.std.specs.Prelude.{◌≡◌, ◌≤◌, ◌<◌, length, map, MatchBool, MatchOption, OnOk};
 ghost use Rattle.spec_expression.specs.Token as plain;
 ghost use Rattle.spec_static.specs.PatternGrammar as grammar;
-ghost use Rattle.xp_syntax.specs.View.{step_of};
-ghost use Rattle.xp_syntax.specs.PartView.{pattern_step_of, alternative_of};
+ghost use Rattle.xt_syntax.specs.View.{step_of};
+ghost use Rattle.xt_syntax.specs.PartView.{pattern_step_of, alternative_of};
 ghost use Rattle.xp_parse.specs.Reading.{left, IsNext, IsNotNext, Returns, Behind};
 ghost use Rattle.xt_pattern.specs.Reading.{token_of_separator, NoSeparator};
 
@@ -12,7 +12,7 @@ use spec_document::Axis;
 use spec_expression::{ExpressionRefusal, Operator};
 use spec_stylesheet::Separator;
 use xp_parse::{ParseFault, Parser, Sign, Token};
-use xp_syntax::{Alternative, PatternStep, Start, Step};
+use xt_syntax::{Alternative, PatternStep, Start, Step};
 
 /// Whether patterns have this axis.
 fn is_pattern_axis(axis: Axis) -> bool

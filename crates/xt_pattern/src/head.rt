@@ -11,8 +11,8 @@ ghost use Rattle.xt_pattern.specs.Reading as reading;
 use spec_expression::ExpressionRefusal;
 use std::alloc::Global;
 use xp_parse::{Name, ParseFault, Parser, Sign, Token};
-use xp_syntax::Start;
 use xt_names::{Expanded, QName, Scope};
+use xt_syntax::Start;
 use xt_text::{Memory, Text};
 
 /// The words that a pattern may begin with before `(`.

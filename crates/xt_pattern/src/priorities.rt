@@ -1,11 +1,11 @@
 // Default priorities (XSLT 1.0, section 5.5).
 ghost use Rattle.std.specs.Prelude.{◌≡◌};
 ghost use Rattle.spec_static.specs.PatternGrammar as grammar;
-ghost use Rattle.xp_syntax.specs.View.{step_of, test_of};
-ghost use Rattle.xp_syntax.specs.PartView.{pattern_step_of, alternative_of};
+ghost use Rattle.xt_syntax.specs.View.{step_of, test_of};
+ghost use Rattle.xt_syntax.specs.PartView.{pattern_step_of, alternative_of};
 
 use spec_stylesheet::Separator;
-use xp_syntax::{Alternative, PatternStep, Start, Step, Test};
+use xt_syntax::{Alternative, PatternStep, Start, Step, Test};
 
 /// The priority of whatever is no lone test, in millionths.
 const HALF: i64 = 500_000;

@@ -9,8 +9,8 @@ use crate::fault::PatternFault;
 use spec_expression::ExpressionRefusal;
 use std::alloc::Global;
 use xp_parse::{Parser, Token, has_bad_number, has_undeclared, is_deep, tokens};
-use xp_syntax::Pattern;
 use xt_names::Scope;
+use xt_syntax::Pattern;
 
 /// The tree of tokens, or their least refusal.
 fn tree(alloc: Global, scope: &Scope, tokens: &[Token<'_>]) -> Result<Pattern, PatternFault>

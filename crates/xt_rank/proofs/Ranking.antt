@@ -10,8 +10,8 @@ use Rattle.std.proofs.lemmas.Cmp.{int_cmp_total}
 use Rattle.std.proofs.lemmas.Bool.Decides.{nat_tests}
 use Rattle.spec_stylesheet.specs.Sheet as sheet
 use Rattle.spec_compile.specs.Sheet.{is_greater, put_rule, in_rank}
-use Rattle.xp_syntax.specs.SheetView.{rule_of}
-use Rattle.xp_syntax.specs.declared.rule.Rule.{Rule}
+use Rattle.xt_syntax.specs.SheetView.{rule_of}
+use Rattle.xt_syntax.specs.declared.rule.Rule.{Rule}
 use Rattle.xt_rank.specs.Rank.{AreNumbered, AreRanked, IsRanked, Rank, ranked_rules}
 
 abbrev pub rank_cmp : Rank → Rank → Ordering

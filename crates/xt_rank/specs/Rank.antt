@@ -3,8 +3,8 @@ use Rattle.std.specs.Prelude.{◌≡◌, ℕ, ℤ, ◌+◌, ◌≤◌, List, [],
 use Rattle.std.specs.Map.{values_of}
 use Rattle.std.specs.declared.cmp.Reverse.{Reverse}
 use Rattle.spec_stylesheet.specs.Sheet as sheet
-use Rattle.xp_syntax.specs.SheetView.{rule_of}
-use Rattle.xp_syntax.specs.declared.rule.Rule.{Rule}
+use Rattle.xt_syntax.specs.SheetView.{rule_of}
+use Rattle.xt_syntax.specs.declared.rule.Rule.{Rule}
 
 -- each has the number of its place, from this one on
 abbrev pub AreNumbered : ℕ → List sheet.Rule → Type 0

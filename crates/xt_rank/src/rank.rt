@@ -1,13 +1,13 @@
 // Template rules in the order in which they count.
 ghost use Rattle.std.specs.Prelude.{◌≡◌, ◌+◌, map, IfOk, OnOk};
 ghost use Rattle.spec_compile.specs.Sheet as spec;
-ghost use Rattle.xp_syntax.specs.SheetView.{rule_of};
+ghost use Rattle.xt_syntax.specs.SheetView.{rule_of};
 ghost use Rattle.xt_rank.specs.Rank.{AreNumbered, AreRanked, ranked_rules};
 
 use std::alloc::Global;
 use std::cmp::Reverse;
 use std::collections::BTreeMap;
-use xp_syntax::Rule;
+use xt_syntax::Rule;
 use xt_text::Memory;
 
 // What comes before what: the greater precedence, then the greater priority, then the later rule.

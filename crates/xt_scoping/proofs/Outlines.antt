@@ -5,7 +5,7 @@ use Rattle.spec_document.specs.Name.{Expanded}
 use Rattle.spec_expression.specs.declared.code.StaticCode.TheVariants as code
 use Rattle.spec_compile.specs.Content as spec
 use Rattle.spec_compile.specs.Scoping.{Violation, if_so, in_list, is_named}
-use Rattle.xp_syntax.specs.PartView.{site_of}
+use Rattle.xt_syntax.specs.PartView.{site_of}
 use Rattle.xt_content.specs.View.{Element, outline_in, outlined_in, outlines, outline_step, outlined_step, uses_in}
 use Rattle.xt_content.specs.declared.outline.Outline.{Outline, out-Outline, fold_out-Outline}
 use Rattle.xt_content.specs.declared.outline.Outlined.{Outlined, out-Outlined, fold_out-Outlined}

@@ -12,7 +12,7 @@ use Rattle.spec_compile.specs.Content.{Uses, Outline, Nothing, AnElement}
 use Rattle.spec_compile.specs.Scoping as spec
 use Rattle.spec_compile.specs.Scoping.{global_name, if_so, in_list, is_named, outline_violations, reached, set_in, template_name, top_level_violations, use_violations, used_by, uses_itself}
 use Rattle.spec_compile.specs.Unit.{Declaration, TopLevel}
-use Rattle.xt_units.specs.View.{declaration_in}
+use Rattle.xt_top_level.specs.View.{declaration_in}
 use Rattle.xt_scoping.specs.Distinct.{with_names}
 use Rattle.xt_scoping.specs.Reach.{reached_by, sets_in, used_in}
 use Rattle.xt_scoping.specs.Steps.{declared_in, outline_at, set_name, uses_at}

@@ -11,7 +11,7 @@ use Rattle.spec_expression.specs.declared.code.StaticCode.TheVariants as code
 use Rattle.spec_compile.specs.Scoping as spec
 use Rattle.spec_compile.specs.Scoping.{Violation, doubled, global_name, has_earlier, if_so, is_named, template_name, violations_from, violations_of}
 use Rattle.spec_compile.specs.Unit.{Declaration}
-use Rattle.xt_units.specs.View.{declaration_in, top_level_in}
+use Rattle.xt_top_level.specs.View.{declaration_in, top_level_in}
 use Rattle.xt_scoping.specs.Precedences.{is_declared}
 use Rattle.xt_scoping.specs.Told.{IsTold, doubles_at, top_at}
 use Rattle.xt_scoping.specs.View.{ranked_in}

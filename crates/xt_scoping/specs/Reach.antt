@@ -8,8 +8,8 @@ use Rattle.std.specs.declared.vec.Vec.{Vec}
 use Rattle.spec_document.specs.Name.{Expanded, same_name}
 use Rattle.spec_stylesheet.specs.Sheet as spec
 use Rattle.spec_compile.specs.Scoping.{is_named, set_in}
-use Rattle.xp_syntax.specs.SheetView.{attribute_set_of}
-use Rattle.xp_syntax.specs.declared.unit.AttributeSet.{AttributeSet}
+use Rattle.xt_syntax.specs.SheetView.{attribute_set_of}
+use Rattle.xt_syntax.specs.declared.unit.AttributeSet.{AttributeSet}
 use Rattle.xt_scoping.specs.declared.graph.Graph.{Graph}
 use Rattle.xt_scoping.specs.declared.key.Key.{Key}
 use Rattle.xt_scoping.specs.declared.violation.Ranked.{Ranked}

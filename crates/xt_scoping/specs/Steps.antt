@@ -8,7 +8,7 @@ use Rattle.spec_compile.specs.Content.{Uses, Outline, Nothing, AnElement}
 use Rattle.spec_compile.specs.Scoping.{Violation, if_so, in_list, is_named, set_in}
 use Rattle.spec_compile.specs.Unit.{Declaration}
 use Rattle.xt_content.specs.View.{Element}
-use Rattle.xt_units.specs.View.{declaration_in}
+use Rattle.xt_top_level.specs.View.{declaration_in}
 use Rattle.xt_scoping.specs.declared.known.Known.{Known}
 use Rattle.xt_scoping.specs.declared.violation.Ranked.{Ranked}
 use Rattle.xt_scoping.specs.Distinct.{with_names}

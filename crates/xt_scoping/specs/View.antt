@@ -1,8 +1,8 @@
 -- What the types of the program stand for.
 use Rattle.std.specs.Prelude.{List, map}
 use Rattle.spec_compile.specs.Scoping as spec
-use Rattle.xp_syntax.specs.PartView.{place_of}
-use Rattle.xt_units.specs.View.{top_level_in}
+use Rattle.xt_syntax.specs.PartView.{place_of}
+use Rattle.xt_top_level.specs.View.{top_level_in}
 use Rattle.xt_scoping.specs.declared.violation.Ranked.{Ranked}
 use Rattle.xt_scoping.specs.declared.violation.Violation.{Violation}
 

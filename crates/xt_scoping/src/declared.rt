@@ -4,7 +4,7 @@ ghost use Rattle.std.specs.List.{flat_map};
 ghost use Rattle.std.specs.Option.{option_copied};
 ghost use Rattle.spec_document.specs.Name as spec;
 ghost use Rattle.spec_compile.specs.Scoping.{if_so, in_list, is_named};
-ghost use Rattle.xp_syntax.specs.PartView.{site_of};
+ghost use Rattle.xt_syntax.specs.PartView.{site_of};
 ghost use Rattle.xt_scoping.specs.Precedences.{is_declared};
 ghost use Rattle.xt_scoping.specs.View.{found_in};
 
@@ -15,8 +15,8 @@ use indexmap::IndexSet;
 use spec_expression::StaticCode;
 use std::alloc::Global;
 use std::marker::Model;
-use xp_syntax::Site;
 use xt_names::Expanded;
+use xt_syntax::Site;
 use xt_text::Memory;
 
 /// Names with the precedences at which they are declared.

@@ -4,8 +4,8 @@ ghost use Rattle.std.specs.List.{flat_map};
 ghost use Rattle.std.specs.Option.{option_copied};
 ghost use Rattle.spec_document.specs.Name as spec;
 ghost use Rattle.spec_compile.specs.Scoping.{global_name, if_so, in_list, is_named, template_name};
-ghost use Rattle.xp_syntax.specs.PartView.{site_of};
-ghost use Rattle.xt_units.specs.View.{declaration_in};
+ghost use Rattle.xt_syntax.specs.PartView.{site_of};
+ghost use Rattle.xt_top_level.specs.View.{declaration_in};
 ghost use Rattle.xt_scoping.specs.Precedences.{is_declared};
 ghost use Rattle.xt_scoping.specs.Told.{doubles_at};
 ghost use Rattle.xt_scoping.specs.View.{found_in, ranked_in};
@@ -16,7 +16,7 @@ use spec_expression::StaticCode;
 use std::alloc::Global;
 use xt_names::Expanded;
 use xt_text::Memory;
-use xt_units::Declaration;
+use xt_top_level::Declaration;
 
 /// What was declared before an element at the top.
 #[derive(Drop)]

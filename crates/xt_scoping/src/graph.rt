@@ -4,7 +4,7 @@ ghost use Rattle.std.specs.List.{flat_map};
 ghost use Rattle.spec_document.specs.Name as spec;
 ghost use Rattle.spec_document.specs.Name.{same_name};
 ghost use Rattle.spec_compile.specs.Scoping.{set_in, used_by};
-ghost use Rattle.xt_units.specs.View.{declaration_in};
+ghost use Rattle.xt_top_level.specs.View.{declaration_in};
 ghost use Rattle.xt_scoping.specs.Distinct.{AreAdded, with_name, with_names};
 ghost use Rattle.xt_scoping.specs.Reach.{all_in, names_at, sets_at, sets_in, used_in};
 
@@ -13,10 +13,10 @@ use crate::names::Names;
 use crate::violation::Ranked;
 use indexmap::IndexMap;
 use std::alloc::Global;
-use xp_syntax::AttributeSet;
 use xt_names::Expanded;
+use xt_syntax::AttributeSet;
 use xt_text::Memory;
-use xt_units::Declaration;
+use xt_top_level::Declaration;
 
 /// The names that attribute sets use, by their names: all declarations of a name are one set (XSLT 1.0, section
 /// 7.1.4).

@@ -4,7 +4,7 @@ ghost use Rattle.std.specs.List.{flat_map};
 ghost use Rattle.std.specs.Option.{option_copied};
 ghost use Rattle.spec_compile.specs.Scoping as spec;
 ghost use Rattle.spec_compile.specs.Scoping.{global_name, template_name, in_list};
-ghost use Rattle.xt_units.specs.View.{declaration_in};
+ghost use Rattle.xt_top_level.specs.View.{declaration_in};
 ghost use Rattle.xt_scoping.specs.Distinct.{with_names};
 ghost use Rattle.xt_scoping.specs.Steps.{declared_in, set_name};
 
@@ -13,7 +13,7 @@ use crate::violation::Ranked;
 use std::alloc::Global;
 use xt_names::Expanded;
 use xt_text::Memory;
-use xt_units::Declaration;
+use xt_top_level::Declaration;
 
 /// The names that are declared at the top of a stylesheet.
 #[derive(Drop)]

@@ -3,7 +3,7 @@ ghost use Rattle.std.specs.Prelude.{◌≡◌, ◌++◌, OnOk, map};
 ghost use Rattle.std.specs.List.{flat_map};
 ghost use Rattle.std.specs.Option.{option_copied};
 ghost use Rattle.spec_compile.specs.Scoping.{if_so, is_named, in_list};
-ghost use Rattle.xp_syntax.specs.PartView.{site_of};
+ghost use Rattle.xt_syntax.specs.PartView.{site_of};
 ghost use Rattle.xt_content.specs.View.{outlined_in, outlines, uses_in};
 ghost use Rattle.xt_scoping.specs.Distinct.{with_names};
 ghost use Rattle.xt_scoping.specs.Steps.{uses_at, outline_at, element_at};
@@ -15,9 +15,9 @@ use crate::report::{report_if, report_missing, report_unbound};
 use crate::violation::Violation;
 use spec_expression::StaticCode;
 use std::alloc::Global;
-use xp_syntax::Site;
 use xt_content::{Outlined, Uses};
 use xt_names::Expanded;
+use xt_syntax::Site;
 use xt_text::Memory;
 
 /// Adds the violations of elements that are siblings, and of those below them, where these local variables are in

@@ -6,7 +6,7 @@ ghost use Rattle.xt_scoping.specs.Reach.{reached_by, used_in};
 use crate::graph::{Graph, see};
 use crate::names::Names;
 use std::alloc::Global;
-use xp_syntax::AttributeSet;
+use xt_syntax::AttributeSet;
 use xt_text::Memory;
 
 /// Whether the names that the set uses lead back to its own in at most so many steps. In each round what is new is

@@ -2,16 +2,16 @@
 ghost use Rattle.std.specs.Prelude.{◌≡◌, ◌++◌, ◌&&◌, ◌||◌, not, map, IfOk, OnOk};
 ghost use Rattle.std.specs.List.{flat_map};
 ghost use Rattle.spec_compile.specs.Scoping.{if_so, is_named};
-ghost use Rattle.xp_syntax.specs.PartView.{place_of, site_of};
+ghost use Rattle.xt_syntax.specs.PartView.{place_of, site_of};
 ghost use Rattle.xt_scoping.specs.View.{found_in};
 
 use crate::names::Names;
 use crate::violation::Violation;
 use spec_expression::StaticCode;
 use std::alloc::Global;
-use xp_syntax::Site;
 use xt_base::Place;
 use xt_names::Expanded;
+use xt_syntax::Site;
 use xt_text::Memory;
 
 /// Adds a violation at the element where it stands.

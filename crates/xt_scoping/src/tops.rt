@@ -3,8 +3,8 @@ ghost use Rattle.std.specs.Prelude.{◌≡◌, ◌++◌, map, IfOk, OnOk};
 ghost use Rattle.std.specs.List.{flat_map};
 ghost use Rattle.spec_compile.specs.Scoping as spec;
 ghost use Rattle.spec_compile.specs.Scoping.{set_in};
-ghost use Rattle.xp_syntax.specs.PartView.{site_of};
-ghost use Rattle.xt_units.specs.View.{declaration_in, top_level_in};
+ghost use Rattle.xt_syntax.specs.PartView.{site_of};
+ghost use Rattle.xt_top_level.specs.View.{declaration_in, top_level_in};
 ghost use Rattle.xt_scoping.specs.Told.{IsTold, itself_at, top_at, top_with};
 ghost use Rattle.xt_scoping.specs.View.{found_in, ranked_in};
 
@@ -17,9 +17,9 @@ use crate::report::report_if;
 use crate::violation::{Ranked, Violation};
 use spec_expression::StaticCode;
 use std::alloc::Global;
-use xp_syntax::Site;
+use xt_syntax::Site;
 use xt_text::Memory;
-use xt_units::{Declaration, TopLevel};
+use xt_top_level::{Declaration, TopLevel};
 
 /// What is declared at the top of a stylesheet.
 #[derive(Drop)]

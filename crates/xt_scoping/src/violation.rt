@@ -11,7 +11,7 @@ use spec_expression::StaticCode;
 use std::alloc::Global;
 use xt_base::Place;
 use xt_text::Memory;
-use xt_units::TopLevel;
+use xt_top_level::TopLevel;
 
 /// An element at the top of a stylesheet, with the precedence of the stylesheet that it stands in (XSLT 1.0, section
 /// 2.6.2).

@@ -20,11 +20,11 @@ use Rattle.xt_base.specs.Code.{edit_number}
 use Rattle.xt_wire.specs.View.{Reads, code_of_fault}
 use Rattle.xt_wire.specs.declared.fault.WireFault.{WireFault}
 use Rattle.xt_wire.specs.declared.fault.WireFault.TheVariants as variant
-use Rattle.xt_repair.specs.View as repair
-use Rattle.xt_repair.specs.View.{IsKept}
-use Rattle.xt_repair.specs.declared.held.Held.{Held}
-use Rattle.xt_repair.specs.declared.name.DocName.{DocName}
-use Rattle.xt_repair.specs.declared.name.DocName.TheVariants as names
+use Rattle.xt_held.specs.View as repair
+use Rattle.xt_held.specs.View.{IsKept}
+use Rattle.xt_held.specs.declared.held.Held.{Held}
+use Rattle.xt_held.specs.declared.name.DocName.{DocName}
+use Rattle.xt_held.specs.declared.name.DocName.TheVariants as names
 use Rattle.xt_session.specs.State.{is_text, name_in, state_of}
 use Rattle.xt_session.specs.Turn.{GivesReply, GivesText}
 

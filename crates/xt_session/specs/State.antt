@@ -5,10 +5,10 @@ use Rattle.spec_stylesheet.specs.declared.method.Method.{Method}
 use Rattle.spec_stylesheet.specs.declared.method.Method.TheVariants as method
 use Rattle.spec_session.specs.Machine.{State}
 use Rattle.spec_session.specs.Request.{DocumentName, SourceName, ModuleName}
-use Rattle.xt_repair.specs.View.{documents_of, made_of}
-use Rattle.xt_repair.specs.declared.held.Held.{Held}
-use Rattle.xt_repair.specs.declared.name.DocName.{DocName}
-use Rattle.xt_repair.specs.declared.name.DocName.TheVariants as names
+use Rattle.xt_held.specs.View.{documents_of, made_of}
+use Rattle.xt_held.specs.declared.held.Held.{Held}
+use Rattle.xt_held.specs.declared.name.DocName.{DocName}
+use Rattle.xt_held.specs.declared.name.DocName.TheVariants as names
 
 abbrev pub state_of : Held → State
 state_of held = record { documents = documents_of held; made = made_of held }

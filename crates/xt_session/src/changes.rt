@@ -6,7 +6,7 @@ ghost use Rattle.spec_run.specs.Documents.{parameter_fault, with_module, with_so
 ghost use Rattle.spec_session.specs.Machine.{answer_to, dropped_by, edited_in, given_by, kept_by, Changes};
 ghost use Rattle.spec_session.specs.Request.{Move};
 ghost use Rattle.xt_edit.specs.View.{edit_of};
-ghost use Rattle.xt_repair.specs.View.{IsCurrent, IsMadeFrom, next_documents, next_made};
+ghost use Rattle.xt_held.specs.View.{IsCurrent, IsMadeFrom, next_documents, next_made};
 ghost use Rattle.xt_wire.specs.View.{name_of};
 ghost use Rattle.xt_session.specs.State.{state_of};
 ghost use Rattle.xt_session.specs.Turn.{GivesText};
@@ -14,8 +14,8 @@ ghost use Rattle.xt_session.specs.Turn.{GivesText};
 use crate::names::doc_name;
 use crate::replies::{change_text, text_of};
 use std::alloc::Global;
+use xt_held::{Edit, EditFault, Held, Ready};
 use xt_io::Line;
-use xt_repair::{Edit, EditFault, Held, Ready};
 use xt_text::{Memory, Path, Text};
 use xt_wire::{DocumentName, Reply};
 

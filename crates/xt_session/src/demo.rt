@@ -3,7 +3,7 @@ ghost use Rattle.std.specs.Prelude.{◌≡◌, ◌≢◌, ◌≤◌, ◌<◌, �
 ghost use Rattle.spec_lines.specs.Outside.{Appends, HasRisen};
 ghost use Rattle.spec_run.specs.Documents.{no_documents};
 ghost use Rattle.spec_session.specs.Served.{Demonstrates};
-ghost use Rattle.xt_repair.specs.View.{IsCurrent, documents_of, made_of};
+ghost use Rattle.xt_held.specs.View.{IsCurrent, documents_of, made_of};
 ghost use Rattle.xt_session.specs.State.{state_of};
 ghost use Rattle.xt_session.specs.Counting.{HasAnswered, IsSmall, Turns};
 
@@ -13,9 +13,9 @@ use crate::counts::Counts;
 use crate::session::NO_MEMORY;
 use crate::summary::summary;
 use std::alloc::Global;
-use xt_gen::{Gen, GeneratedCommand};
+use xt_demo::{Gen, GeneratedCommand};
+use xt_held::Held;
 use xt_io::{Sink, write_all};
-use xt_repair::Held;
 use xt_text::Memory;
 
 /// Answers the commands of the generated session of this size, and writes the summary of the replies.

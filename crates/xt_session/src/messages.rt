@@ -3,12 +3,12 @@ ghost use Rattle.std.specs.Prelude.{◌≡◌, IfOk, map};
 ghost use Rattle.spec_document.specs.Pyx.{line_of};
 ghost use Rattle.spec_document.specs.declared.event.Event.TheVariants.{Data};
 ghost use Rattle.spec_session.specs.Machine as machine;
-ghost use Rattle.xt_repair.specs.OutcomeView.{outcome_of};
+ghost use Rattle.xt_held.specs.OutcomeView.{outcome_of};
 ghost use Rattle.xt_wire.specs.View.{reply_of};
 
 use std::alloc::Global;
+use xt_held::Outcome;
 use xt_pyx::write_data;
-use xt_repair::Outcome;
 use xt_text::{Memory, Text};
 use xt_wire::Reply;
 

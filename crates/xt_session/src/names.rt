@@ -3,7 +3,7 @@ ghost use Rattle.std.specs.Prelude.{◌≡◌};
 ghost use Rattle.xt_wire.specs.View.{name_of};
 ghost use Rattle.xt_session.specs.State.{name_in};
 
-use xt_repair::DocName;
+use xt_held::DocName;
 use xt_wire::DocumentName;
 
 /// The name that a command gives, as that of what is held.

@@ -9,8 +9,8 @@ use crate::demo::demonstrate;
 use crate::session::serve;
 use spec_session::Asked;
 use std::alloc::Global;
+use xt_arguments::read_words;
 use xt_io::{Sink, Source, write_all};
-use xt_words::read_words;
 
 const USAGE: &str = "usage: xt session | demo N\n";
 

@@ -3,15 +3,15 @@ ghost use Rattle.std.specs.Prelude.{◌≡◌, ◌≢◌};
 ghost use Rattle.spec_lines.specs.Outside.{Appends, HasRisen};
 ghost use Rattle.spec_session.specs.Served.{Serves};
 ghost use Rattle.xt_session.specs.Turn.{Turns, Writes, HasInputCause, HasOutputCause};
-ghost use Rattle.xt_repair.specs.View.{IsCurrent};
+ghost use Rattle.xt_held.specs.View.{IsCurrent};
 ghost use Rattle.xt_session.specs.State.{state_of};
 
 use crate::answer::answer;
 use crate::command::Taken;
 use crate::take::take_command;
 use std::alloc::Global;
+use xt_held::Held;
 use xt_io::{Lines, Sink, Source, write_all};
-use xt_repair::Held;
 
 /// The bytes of the reply for want of memory.
 pub(crate) const NO_MEMORY: &[u8] = b"no 1\n";

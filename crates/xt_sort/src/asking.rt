@@ -4,20 +4,20 @@ ghost use Rattle.std.specs.Str.{chars};
 ghost use Rattle.spec_meaning.specs.Program.{State, Supply};
 ghost use Rattle.spec_meaning.specs.Supplies.{at_hand};
 ghost use Rattle.spec_transform.specs.Sorted as plain;
-ghost use Rattle.xp_syntax.specs.PartView.{sort_key_of};
+ghost use Rattle.xt_syntax.specs.PartView.{sort_key_of};
 ghost use Rattle.xt_tree.specs.declared.node_ref.NodeRef.{NodeRef};
-ghost use Rattle.xt_ask.specs.View.{context_of, supplies_of};
-ghost use Rattle.xt_ask.specs.Runs.{Runs, itself};
+ghost use Rattle.xt_questions.specs.View.{context_of, supplies_of};
+ghost use Rattle.xt_questions.specs.Runs.{Runs, itself};
 ghost use Rattle.xt_sort.specs.View.{criterion_of, key_of};
 
 use crate::row::{Criterion, KeyValue};
 use spec_expression::DynCode;
 use std::alloc::Global;
-use xp_syntax::SortKey;
 use xp_values::{given, to_text};
-use xt_ask::{Context, EvalFault, Evaluate, Focus, Refusal, Supplies};
 use xt_avt::expand;
 use xt_base::Num;
+use xt_questions::{Context, EvalFault, Evaluate, Focus, Refusal, Supplies};
+use xt_syntax::SortKey;
 use xt_text::Text;
 
 /// How the keys of an xsl:sort compare (XSLT 1.0, section 10). D09 where its data type is neither `text` nor

@@ -1,6 +1,6 @@
 //! Sorting (XSLT 1.0, section 10), in a world that evaluates expressions: how the keys of an xsl:sort compare,
 //! the key of a node, and nodes in the order of their keys. Every function that asks has the clause `Runs`
-//! (`xt_ask`).
+//! (`xt_questions`).
 //!
 //! ```text
 //! let by = criterion(alloc, &key, focus, &context, &supplies, world)?;                // numbers, descending

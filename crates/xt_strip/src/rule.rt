@@ -6,12 +6,12 @@ ghost use Rattle.std.specs.Str.{chars};
 ghost use Rattle.spec_document.specs.Declaration.{element_name};
 ghost use Rattle.spec_document.specs.Name.{qname_of, same_name};
 ghost use Rattle.spec_seen.specs.Seen as spec;
-ghost use Rattle.xp_syntax.specs.SheetView.{space_rule_of};
-ghost use Rattle.xp_syntax.specs.View.{test_of};
+ghost use Rattle.xt_syntax.specs.SheetView.{space_rule_of};
+ghost use Rattle.xt_syntax.specs.View.{test_of};
 
-use xp_syntax::{SpaceRule, Test};
 use xt_names::{Expanded, Scope};
-use xt_sheet::{Meaning, meaning_of};
+use xt_structure::{Meaning, meaning_of};
+use xt_syntax::{SpaceRule, Test};
 
 /// Whether one of the rules strips.
 pub(crate) fn any_strips(rules: &[SpaceRule]) -> bool

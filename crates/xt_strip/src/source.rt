@@ -1,13 +1,13 @@
 // What is seen of a document.
 ghost use Rattle.std.specs.Prelude.{◌≡◌, IfOk, map};
 ghost use Rattle.spec_seen.specs.Seen as spec;
-ghost use Rattle.xp_syntax.specs.SheetView.{space_rule_of};
+ghost use Rattle.xt_syntax.specs.SheetView.{space_rule_of};
 
 use crate::rule::any_strips;
 use crate::walk::{Around, seen_among};
 use spec_seen::{nothing_but_texts_is_lost, where_no_rule_strips_all_is_seen};
 use std::alloc::Global;
-use xp_syntax::SpaceRule;
+use xt_syntax::SpaceRule;
 use xt_text::Memory;
 use xt_tree::Doc;
 

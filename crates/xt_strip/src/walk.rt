@@ -6,16 +6,16 @@ ghost use Rattle.spec_document.specs.Forest as forest;
 ghost use Rattle.spec_document.specs.Forest.{Forest, followed};
 ghost use Rattle.spec_seen.specs.Seen as spec;
 ghost use Rattle.spec_structure.specs.Inside.{is_white};
-ghost use Rattle.xp_syntax.specs.SheetView.{space_rule_of};
+ghost use Rattle.xt_syntax.specs.SheetView.{space_rule_of};
 ghost use Rattle.xt_strip.specs.View.{around_of, before};
 ghost use Rattle.xt_tree.specs.View.{Tree, forest_of, tree_of, written_of};
 
 use crate::rule::strips;
 use std::alloc::Global;
 use std::rc::Rc;
-use xp_syntax::SpaceRule;
 use xt_names::Scope;
-use xt_sheet::{is_white, preserves_within, scope_within};
+use xt_structure::{is_white, preserves_within, scope_within};
+use xt_syntax::SpaceRule;
 use xt_text::{Memory, Text};
 use xt_tree::{Content, Node, Nodes, Written};
 

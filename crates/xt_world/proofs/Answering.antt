@@ -21,11 +21,11 @@ use Rattle.spec_run.specs.World as definition
 use Rattle.spec_run.specs.World.{rule_by, rule_at, source_by}
 use Rattle.xt_tree.specs.declared.node_ref.NodeRef.{NodeRef}
 use Rattle.xp_axes.specs.View.{ref_of, same_ref}
-use Rattle.xp_syntax.specs.SheetView.{rules_of}
-use Rattle.xt_ask.specs.View.{question_of, resolved_of}
-use Rattle.xt_ask.specs.declared.question.Question as code
-use Rattle.xt_ask.specs.declared.question.Question.TheVariants as questions
-use Rattle.xt_ask.specs.declared.answer.ResolvedUnit.{ResolvedUnit}
+use Rattle.xt_syntax.specs.SheetView.{rules_of}
+use Rattle.xt_questions.specs.View.{question_of, resolved_of}
+use Rattle.xt_questions.specs.declared.question.Question as code
+use Rattle.xt_questions.specs.declared.question.Question.TheVariants as questions
+use Rattle.xt_questions.specs.declared.answer.ResolvedUnit.{ResolvedUnit}
 use Rattle.xt_match.specs.Context.{unit_in, units_in}
 use Rattle.xt_world.specs.Numbered.{element_called, truth_by_numbers}
 use Rattle.xt_world.specs.Units.{called_among, resolved_among}

@@ -7,9 +7,9 @@ use Rattle.spec_meaning.specs.Supplies.{Supplies, at_hand}
 use Rattle.spec_meaning.proofs.Runs.{run_is}
 use Rattle.spec_transform.specs.Key.{no_globals}
 use Rattle.xt_tree.specs.declared.node_ref.NodeRef.{NodeRef}
-use Rattle.xt_ask.specs.Runs.{Runs, itself}
-use Rattle.xt_ask.specs.declared.fault.EvalFault.{EvalFault}
-use Rattle.xt_ask.specs.declared.fault.EvalFault.TheVariants as faults
+use Rattle.xt_questions.specs.Runs.{Runs, itself}
+use Rattle.xt_questions.specs.declared.fault.EvalFault.{EvalFault}
+use Rattle.xt_questions.specs.declared.fault.EvalFault.TheVariants as faults
 use Rattle.xt_world.specs.View.{rule_held, GivesNumber}
 use Rattle.xt_world.specs.declared.stylesheet.Stylesheet.{Stylesheet}
 

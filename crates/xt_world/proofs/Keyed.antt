@@ -9,9 +9,9 @@ use Rattle.spec_meaning.specs.Program.{Program, Give, Refuse, Ask, Need, Wanted,
 use Rattle.spec_transform.specs.Key.{Entry, has, indexed, keyed, keys_named, no_globals}
 use Rattle.xt_tree.specs.declared.node_ref.NodeRef.{NodeRef}
 use Rattle.xp_axes.specs.View.{same_ref}
-use Rattle.xt_ask.specs.Runs.{Runs}
-use Rattle.xt_ask.specs.declared.fault.EvalFault.{EvalFault}
-use Rattle.xt_ask.specs.declared.fault.EvalFault.TheVariants as faults
+use Rattle.xt_questions.specs.Runs.{Runs}
+use Rattle.xt_questions.specs.declared.fault.EvalFault.{EvalFault}
+use Rattle.xt_questions.specs.declared.fault.EvalFault.TheVariants as faults
 use Rattle.xt_keys.specs.View.{nodes_found}
 use Rattle.xt_keys.specs.declared.groups.KeyIndex.{KeyIndex}
 use Rattle.xt_world.specs.KeyView.{IsFoundBy, answer_found}

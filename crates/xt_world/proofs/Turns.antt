@@ -15,8 +15,8 @@ use Rattle.spec_run.specs.World.{same_element, unit_at, unit_by}
 use Rattle.xt_tree.specs.declared.node_ref.NodeRef.{NodeRef}
 use Rattle.xt_tree.specs.declared.node_ref.Part.TheVariants as part
 use Rattle.xp_axes.specs.View.{same_ref, same_part}
-use Rattle.xt_ask.specs.View.{resolved_of}
-use Rattle.xt_ask.specs.declared.answer.ResolvedUnit.{ResolvedUnit}
+use Rattle.xt_questions.specs.View.{resolved_of}
+use Rattle.xt_questions.specs.declared.answer.ResolvedUnit.{ResolvedUnit}
 use Rattle.xt_world.specs.Numbered.{index_from, element_called}
 use Rattle.xt_world.specs.Units.{called_among, resolved_by, resolved_among}
 use Rattle.xt_world.specs.View.{unit_called}

@@ -9,10 +9,10 @@ use Rattle.spec_meaning.specs.Question as question
 use Rattle.spec_run.specs.World.{keyed_at}
 use Rattle.xt_tree.specs.declared.node_ref.NodeRef.{NodeRef}
 use Rattle.xp_axes.specs.View.{ref_of, same_ref}
-use Rattle.xt_ask.specs.View.{refusal_of}
-use Rattle.xt_ask.specs.declared.fault.EvalFault.{EvalFault}
-use Rattle.xt_ask.specs.declared.fault.EvalFault.TheVariants as faults
-use Rattle.xt_plain.specs.View.{truth_of}
+use Rattle.xt_questions.specs.View.{refusal_of}
+use Rattle.xt_questions.specs.declared.fault.EvalFault.{EvalFault}
+use Rattle.xt_questions.specs.declared.fault.EvalFault.TheVariants as faults
+use Rattle.xt_document_world.specs.View.{truth_of}
 use Rattle.xt_keys.specs.View.{nodes_found}
 use Rattle.xt_keys.specs.declared.groups.KeyIndex.{KeyIndex}
 use Rattle.xt_world.specs.declared.found.Found.{Found}

@@ -12,10 +12,10 @@ use Rattle.spec_meaning.specs.Question as question
 use Rattle.spec_run.specs.Meaning.{NamedGlobal}
 use Rattle.spec_run.specs.World.{global_by, global_in, globals_of, is_set, resolved_in}
 use Rattle.xt_tree.specs.declared.node_ref.NodeRef.{NodeRef}
-use Rattle.xp_syntax.specs.SheetView.{alias_of, unit_of}
-use Rattle.xp_syntax.specs.PartView.{place_of}
-use Rattle.xp_syntax.specs.declared.sheet.Alias.{Alias}
-use Rattle.xp_syntax.specs.declared.unit.Unit.{Unit}
+use Rattle.xt_syntax.specs.SheetView.{alias_of, unit_of}
+use Rattle.xt_syntax.specs.PartView.{place_of}
+use Rattle.xt_syntax.specs.declared.sheet.Alias.{Alias}
+use Rattle.xt_syntax.specs.declared.unit.Unit.{Unit}
 use Rattle.xt_base.specs.declared.place.Place.{Place}
 use Rattle.xt_world.specs.Numbered.{element_called}
 

@@ -16,11 +16,11 @@ use Rattle.spec_run.specs.Documents.{Parameters}
 use Rattle.spec_run.specs.Copy.{copy_of}
 use Rattle.xt_tree.specs.declared.node_ref.NodeRef.{NodeRef}
 use Rattle.xp_axes.specs.View.{ref_of, same_ref}
-use Rattle.xp_syntax.specs.SheetView.{rules_of}
-use Rattle.xt_ask.specs.View.{resolved_of}
-use Rattle.xt_ask.specs.declared.answer.ResolvedUnit.{ResolvedUnit}
-use Rattle.xt_ask.specs.declared.fault.EvalFault.{EvalFault}
-use Rattle.xt_ask.specs.declared.fault.EvalFault.TheVariants as faults
+use Rattle.xt_syntax.specs.SheetView.{rules_of}
+use Rattle.xt_questions.specs.View.{resolved_of}
+use Rattle.xt_questions.specs.declared.answer.ResolvedUnit.{ResolvedUnit}
+use Rattle.xt_questions.specs.declared.fault.EvalFault.{EvalFault}
+use Rattle.xt_questions.specs.declared.fault.EvalFault.TheVariants as faults
 use Rattle.xt_match.specs.Context.{units_in}
 use Rattle.xt_world.specs.SourceView.{source_in}
 use Rattle.xt_world.specs.declared.stylesheet.Stylesheet.{Stylesheet}

@@ -2,7 +2,7 @@
 ghost use Rattle.std.specs.Prelude.{◌≡◌, ℕ, List, IfOk};
 ghost use Rattle.std.specs.Option.{option_copied};
 ghost use Rattle.spec_meaning.specs.Question as question;
-ghost use Rattle.xt_ask.specs.View.{answer_of};
+ghost use Rattle.xt_questions.specs.View.{answer_of};
 ghost use Rattle.xt_keys.specs.View.{nodes_found};
 ghost use Rattle.xt_match.specs.Context.{units_in};
 ghost use Rattle.xt_world.specs.KeyView.{IsFoundBy, answer_found, found_for, keyed_in};
@@ -10,10 +10,10 @@ ghost use Rattle.xt_world.specs.KeyView.{IsFoundBy, answer_found, found_for, key
 use std::alloc::Global;
 use std::rc::Rc;
 use xp_eval::Eval;
-use xt_ask::{Answer, EvalFault, Refusal, ResolvedUnit};
+use xt_document_world::PlainWorld;
 use xt_keys::{KeyIndex, all_nodes, index};
 use xt_names::Expanded;
-use xt_plain::PlainWorld;
+use xt_questions::{Answer, EvalFault, Refusal, ResolvedUnit};
 use xt_text::{Memory, Text};
 use xt_tree::Doc;
 

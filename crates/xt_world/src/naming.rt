@@ -3,14 +3,14 @@
 ghost use Rattle.std.specs.Prelude.{◌≡◌, ◌++◌, ◌∷◌, [], map, IfOk, OnOk};
 ghost use Rattle.spec_stylesheet.specs.Instruction.{instrs, branches, bindings};
 ghost use Rattle.spec_run.specs.World as definition;
-ghost use Rattle.xp_syntax.specs.InstrView.{instr_of, form_of, control_of, branch_of, binding_of};
-ghost use Rattle.xp_syntax.specs.PartView.{with_content_of};
-ghost use Rattle.xp_syntax.specs.SheetView.{declared_of};
+ghost use Rattle.xt_syntax.specs.InstrView.{instr_of, form_of, control_of, branch_of, binding_of};
+ghost use Rattle.xt_syntax.specs.PartView.{with_content_of};
+ghost use Rattle.xt_syntax.specs.SheetView.{declared_of};
 
 use std::alloc::Global;
-use xp_syntax::{Binding, Branch, Control, Declared, Form, Instr, WithContent};
-use xt_ask::copy_name;
 use xt_names::Expanded;
+use xt_questions::copy_name;
+use xt_syntax::{Binding, Branch, Control, Declared, Form, Instr, WithContent};
 use xt_text::Memory;
 
 /// Names that stand in a unit.

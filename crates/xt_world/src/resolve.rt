@@ -3,19 +3,19 @@ ghost use Rattle.std.specs.Prelude.{◌≡◌, ◌++◌, None, map, IfOk, OnOk};
 ghost use Rattle.std.specs.List.{list_any};
 ghost use Rattle.std.specs.Option.{option_map};
 ghost use Rattle.spec_run.specs.World as definition;
-ghost use Rattle.xp_syntax.specs.PartView.{place_of};
-ghost use Rattle.xp_syntax.specs.SheetView.{declared_of, global_of, unit_of};
-ghost use Rattle.xt_ask.specs.View.{template_of, sets_of, resolved_of};
+ghost use Rattle.xt_syntax.specs.PartView.{place_of};
+ghost use Rattle.xt_syntax.specs.SheetView.{declared_of, global_of, unit_of};
+ghost use Rattle.xt_questions.specs.View.{template_of, sets_of, resolved_of};
 ghost use Rattle.xt_world.specs.Numbered.{element_called, index_from};
 ghost use Rattle.xt_world.specs.Units.{elements_named, place_in, plain_aliases, plain_units, resolved_by};
 
 use crate::naming::{Names, names_in};
 use std::alloc::Global;
 use std::rc::Rc;
-use xp_syntax::{Alias, Declared, GlobalBinding, Unit};
-use xt_ask::{NamedSets, NamedTemplate, ResolvedUnit, copy_name};
 use xt_base::Place;
 use xt_names::Expanded;
+use xt_questions::{NamedSets, NamedTemplate, ResolvedUnit, copy_name};
+use xt_syntax::{Alias, Declared, GlobalBinding, Unit};
 use xt_text::Memory;
 use xt_tree::{NodeId, NodeRef, Part};
 

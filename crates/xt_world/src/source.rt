@@ -1,9 +1,9 @@
 // A source with the keys of a stylesheet.
 ghost use Rattle.std.specs.Prelude.{◌≡◌, ◌++◌, ◌∷◌, [], IfOk, OnErr, OnOk};
-ghost use Rattle.xp_syntax.specs.View.{expr_of};
-ghost use Rattle.xt_ask.specs.View.{answer_of, question_of};
+ghost use Rattle.xt_syntax.specs.View.{expr_of};
+ghost use Rattle.xt_questions.specs.View.{answer_of, question_of};
 ghost use Rattle.xt_match.specs.Context.{units_in};
-ghost use Rattle.xt_plain.specs.View.{truth_of};
+ghost use Rattle.xt_document_world.specs.View.{truth_of};
 ghost use Rattle.xt_world.specs.KeyView.{keyed_in};
 ghost use Rattle.xt_world.specs.SourceView.{keyed_by, source_in};
 
@@ -11,13 +11,13 @@ use crate::Stylesheet;
 use crate::found::{Found, FoundKeys, answer_found, find, found_for};
 use std::alloc::Global;
 use xp_eval::eval;
-use xp_syntax::Expr;
-use xt_ask::{
+use xt_document_world::PlainWorld;
+use xt_names::Expanded;
+use xt_questions::{
     Answer, Context, EvalFault, Evaluate, Focus, Given, Question, Supplies, Wanted, World,
     copy_name,
 };
-use xt_names::Expanded;
-use xt_plain::PlainWorld;
+use xt_syntax::Expr;
 use xt_text::{Memory, Text};
 use xt_tree::{Doc, Value};
 

@@ -3,7 +3,7 @@ ghost use Rattle.std.specs.Prelude.{◌≡◌, IfOk};
 ghost use Rattle.std.specs.Option.{option_map};
 ghost use Rattle.spec_meaning.specs.Program.{Gives};
 ghost use Rattle.spec_meaning.specs.Question as question;
-ghost use Rattle.xt_ask.specs.View.{answer_of, candidates_of, chosen_of, question_of};
+ghost use Rattle.xt_questions.specs.View.{answer_of, candidates_of, chosen_of, question_of};
 ghost use Rattle.xt_world.specs.ParameterView.{parameters_of};
 ghost use Rattle.xt_world.specs.SourceView.{source_of};
 ghost use Rattle.xt_world.specs.View.{GivesNumber, choice_by, copy_in, rule_held, rule_numbered, said_of, truth_over, unit_held};
@@ -11,10 +11,12 @@ ghost use Rattle.xt_world.specs.View.{GivesNumber, choice_by, copy_in, rule_held
 use crate::source::Source;
 use crate::{Parameters, Stylesheet};
 use std::alloc::Global;
-use xt_ask::{Answer, Candidates, ChosenRule, EvalFault, Given, Question, Supplies, Wanted, World};
 use xt_copy::copy_of;
 use xt_match::choose;
 use xt_names::Expanded;
+use xt_questions::{
+    Answer, Candidates, ChosenRule, EvalFault, Given, Question, Supplies, Wanted, World,
+};
 use xt_text::{Memory, Text};
 use xt_tree::{Doc, NodeRef};
 

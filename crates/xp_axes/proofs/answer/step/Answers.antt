@@ -1,7 +1,7 @@
 use Rattle.std.proofs.Common.{◌∙◌, sym, ap, subst}
 use Rattle.std.specs.Prelude.{filter}
 use Rattle.spec_document.specs.Axis.{in_axis_order}
-use Rattle.xp_syntax.specs.View.{test_of}
+use Rattle.xt_syntax.specs.View.{test_of}
 use Rattle.xp_axes.specs.View.{is_passing, AreNodes}
 use Rattle.xp_axes.proofs.Reached.{are_nodes, step_is}
 use Rattle.xp_axes.proofs.answer.step.Goals as goal

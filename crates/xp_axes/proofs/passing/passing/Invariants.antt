@@ -1,6 +1,6 @@
 use Rattle.std.proofs.Common.{◌≡◌, ◌++◌, drop}
 use Rattle.std.specs.Prelude.{filter}
-use Rattle.xp_syntax.specs.View.{test_of}
+use Rattle.xt_syntax.specs.View.{test_of}
 use Rattle.xp_axes.specs.View.{is_passing}
 use Rattle.xp_axes.proofs.passing.passing.Given as goal
 

@@ -2,11 +2,11 @@ use Rattle.std.proofs.Common.{◌+◌, ◌++◌, ◌∷◌, [], drop, length, ma
 use Rattle.std.proofs.lemmas.List.{map-append}
 use Rattle.spec_expression.specs.Syntax.{exprs, links, steps}
 use Rattle.spec_meaning.specs.Meaning.{meaning, values_of, chained, kept, kept_by, along, stepped}
-use Rattle.xp_syntax.specs.View.{expr_of, link_of, step_of}
+use Rattle.xt_syntax.specs.View.{expr_of, link_of, step_of}
 use Rattle.xt_tree.specs.ValueView.{value_of}
 use Rattle.spec_meaning.specs.Supplies.{at_hand}
-use Rattle.xt_ask.specs.View.{context_of, supplies_of}
-use Rattle.xt_ask.proofs.Steps.{runs_then, runs_stop, runs_gives, runs_memory, runs_from, goes_on, next_turn, exits}
+use Rattle.xt_questions.specs.View.{context_of, supplies_of}
+use Rattle.xt_questions.proofs.Steps.{runs_then, runs_stop, runs_gives, runs_memory, runs_from, goes_on, next_turn, exits}
 use Rattle.xp_eval.specs.View.{values_in}
 use Rattle.xp_eval.proofs.Views.{view-Number, view-Variable, view-Call, view-Chain, view-Negation, view-Filter, view-Root, view-Path, view-Link}
 use Rattle.xp_eval.proofs.Views.{axis-of, test-of, predicates-of}

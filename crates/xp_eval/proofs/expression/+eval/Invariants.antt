@@ -2,11 +2,11 @@ use Rattle.std.proofs.Common.{◌≡◌, ◌+◌, drop, length, map, []}
 use Rattle.spec_expression.specs.Syntax.{exprs, links, steps}
 use Rattle.spec_meaning.specs.Meaning.{meaning, values_of, chained, kept, kept_by, along, stepped}
 use Rattle.spec_meaning.specs.Supplies.{at_hand}
-use Rattle.xp_syntax.specs.View.{expr_of, link_of, step_of}
+use Rattle.xt_syntax.specs.View.{expr_of, link_of, step_of}
 use Rattle.xt_tree.specs.ValueView.{value_of}
-use Rattle.xt_ask.specs.declared.context.Focus.{Focus}
-use Rattle.xt_ask.specs.View.{context_of, supplies_of}
-use Rattle.xt_ask.specs.Runs.{Continues}
+use Rattle.xt_questions.specs.declared.context.Focus.{Focus}
+use Rattle.xt_questions.specs.View.{context_of, supplies_of}
+use Rattle.xt_questions.specs.Runs.{Continues}
 use Rattle.xp_eval.specs.View.{values_in}
 use Rattle.xp_eval.proofs.expression.+eval.Given as goal
 

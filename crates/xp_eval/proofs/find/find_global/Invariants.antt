@@ -1,6 +1,6 @@
 use Rattle.std.proofs.Common.{◌≡◌, drop, map}
 use Rattle.spec_meaning.specs.Supplies.{found}
-use Rattle.xt_ask.specs.View.{known_of}
+use Rattle.xt_questions.specs.View.{known_of}
 use Rattle.xp_eval.proofs.find.find_global.Given as goal
 
 abbrev pub invariant-loop-known : goal.invariant-loop-known

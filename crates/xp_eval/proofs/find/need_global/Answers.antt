@@ -1,6 +1,6 @@
 use Rattle.std.proofs.Common.{sym}
 use Rattle.spec_meaning.specs.Supplies.{at_hand}
-use Rattle.xt_ask.specs.View.{supplies_of}
+use Rattle.xt_questions.specs.View.{supplies_of}
 use Rattle.xp_eval.proofs.find.need_global.Goals as goal
 
 pub returns-in-Some-clause-runs : goal.returns-in-Some-clause-runs

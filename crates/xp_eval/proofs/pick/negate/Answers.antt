@@ -1,6 +1,6 @@
 use Rattle.std.proofs.Common.{ap}
 use Rattle.spec_meaning.specs.Value as plain
-use Rattle.xt_ask.proofs.Steps.{runs_then, runs_stop, runs_gives, exits}
+use Rattle.xt_questions.proofs.Steps.{runs_then, runs_stop, runs_gives, exits}
 use Rattle.xp_eval.proofs.pick.negate.Goals as goal
 
 pub returns-in_err-number-clause-runs : goal.returns-in_err-number-clause-runs

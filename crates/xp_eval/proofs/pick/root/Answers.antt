@@ -2,7 +2,7 @@ use Rattle.std.proofs.Common.{refl, ap, ◌∙◌}
 use Rattle.spec_meaning.specs.Meaning.{last_of}
 use Rattle.spec_meaning.specs.Program.{Give, then}
 use Rattle.spec_meaning.specs.Value as plain
-use Rattle.xt_ask.proofs.Steps.{runs_then, runs_stop, runs_gives, runs_memory, exits}
+use Rattle.xt_questions.proofs.Steps.{runs_then, runs_stop, runs_gives, runs_memory, exits}
 use Rattle.xp_eval.proofs.pick.root.Goals as goal
 
 pub returns-in_err-nodes-clause-runs : goal.returns-in_err-nodes-clause-runs

@@ -1,4 +1,4 @@
-use Rattle.xt_ask.proofs.Steps.{runs_refuse}
+use Rattle.xt_questions.proofs.Steps.{runs_refuse}
 use Rattle.xp_functions.proofs.call.apply.Goals as goal
 
 pub returns-in-None-clause-runs : goal.returns-in-None-clause-runs

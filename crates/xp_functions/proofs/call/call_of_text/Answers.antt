@@ -1,6 +1,6 @@
 use Rattle.std.proofs.Common.{ap}
 use Rattle.spec_meaning.specs.Convert.{to_text}
-use Rattle.xt_ask.proofs.Steps.{runs_then, runs_stop, exits}
+use Rattle.xt_questions.proofs.Steps.{runs_then, runs_stop, exits}
 use Rattle.xp_functions.proofs.Within.{runs_as}
 use Rattle.xp_functions.proofs.call.call_of_text.Goals as goal
 

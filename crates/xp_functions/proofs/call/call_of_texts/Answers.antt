@@ -1,6 +1,6 @@
 use Rattle.std.proofs.Common.{ap, ◌∙◌, List, ℕ, refl}
 use Rattle.spec_meaning.specs.Call.{of_texts}
-use Rattle.xt_ask.proofs.Steps.{runs_then, runs_stop, runs_gives, runs_memory, exits}
+use Rattle.xt_questions.proofs.Steps.{runs_then, runs_stop, runs_gives, runs_memory, exits}
 use Rattle.xp_functions.proofs.call.call_of_texts.Goals as goal
 
 pub returns-in_err-texts-clause-runs : goal.returns-in_err-texts-clause-runs

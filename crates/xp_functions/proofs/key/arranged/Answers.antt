@@ -1,6 +1,6 @@
 use Rattle.std.proofs.Common.{sym, refl}
 use Rattle.xp_functions.proofs.Within.{few, many, runs_as}
-use Rattle.xt_ask.proofs.Steps.{runs_gives}
+use Rattle.xt_questions.proofs.Steps.{runs_gives}
 use Rattle.xp_functions.proofs.key.arranged.Goals as goal
 
 pub returns-then-from-lt2-clause-runs : goal.returns-then-from-lt2-clause-runs

@@ -3,7 +3,7 @@ use Rattle.spec_meaning.specs.Convert.{to_text}
 use Rattle.spec_meaning.specs.Call.{argument, keyed, name_meant}
 use Rattle.xt_tree.specs.ValueView.{value_of}
 use Rattle.xt_tree.specs.declared.value.Value.{Value}
-use Rattle.xt_ask.proofs.Steps.{runs_then, runs_stop, runs_gives, exits}
+use Rattle.xt_questions.proofs.Steps.{runs_then, runs_stop, runs_gives, exits}
 use Rattle.xp_functions.proofs.Within.{runs_as, second_is}
 use Rattle.xp_functions.proofs.key.key_of.Goals as goal
 

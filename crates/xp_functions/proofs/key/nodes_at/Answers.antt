@@ -1,4 +1,4 @@
-use Rattle.xt_ask.proofs.Steps.{runs_then, runs_stop, exits}
+use Rattle.xt_questions.proofs.Steps.{runs_then, runs_stop, exits}
 use Rattle.xp_functions.proofs.key.nodes_at.Goals as goal
 
 pub returns-in_err-text-clause-runs : goal.returns-in_err-text-clause-runs

@@ -1,6 +1,6 @@
 use Rattle.std.proofs.Common.{◌∙◌, refl}
 use Rattle.spec_meaning.specs.Call.{nodes_of_keys}
-use Rattle.xt_ask.proofs.Steps.{runs_stop, runs_memory, runs_from, goes_on, next_turn, exits}
+use Rattle.xt_questions.proofs.Steps.{runs_stop, runs_memory, runs_from, goes_on, next_turn, exits}
 use Rattle.xp_functions.proofs.Within.{continues_as, keys_are}
 use Rattle.xp_functions.proofs.key.nodes_of_keys.Goals as goal
 

@@ -1,6 +1,6 @@
 use Rattle.spec_meaning.specs.Program.{then}
 use Rattle.spec_meaning.specs.Call.{language_of}
-use Rattle.xt_ask.proofs.Steps.{runs_then, runs_stop, exits}
+use Rattle.xt_questions.proofs.Steps.{runs_then, runs_stop, exits}
 use Rattle.xp_functions.proofs.language.lang.Goals as goal
 
 pub returns-in_err-elements-clause-runs : goal.returns-in_err-elements-clause-runs

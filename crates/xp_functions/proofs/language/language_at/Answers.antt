@@ -2,7 +2,7 @@ use Rattle.std.proofs.Common.{ap, ◌∙◌, ℕ, List}
 use Rattle.std.specs.Str.{chars}
 use Rattle.spec_expression.specs.Strings.{is_language}
 use Rattle.spec_meaning.specs.Value.{Boolean}
-use Rattle.xt_ask.proofs.Steps.{runs_then, runs_stop, runs_gives, exits}
+use Rattle.xt_questions.proofs.Steps.{runs_then, runs_stop, runs_gives, exits}
 use Rattle.xp_functions.proofs.language.language_at.Goals as goal
 
 pub returns-in_err-text-clause-runs : goal.returns-in_err-text-clause-runs

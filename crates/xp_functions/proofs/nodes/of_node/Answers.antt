@@ -3,9 +3,9 @@ use Rattle.spec_meaning.specs.Question.{Question}
 use Rattle.spec_meaning.specs.Value.{Text}
 use Rattle.spec_meaning.specs.Program.{Ask, Give}
 use Rattle.xp_functions.specs.Part.{told_by}
-use Rattle.xt_ask.specs.View.{question_of}
+use Rattle.xt_questions.specs.View.{question_of}
 use Rattle.xt_tree.specs.declared.node_ref.NodeRef.{NodeRef}
-use Rattle.xt_ask.proofs.Steps.{runs_gives}
+use Rattle.xt_questions.proofs.Steps.{runs_gives}
 use Rattle.xp_functions.proofs.Within.{runs_as, asks}
 use Rattle.xp_functions.proofs.nodes.of_node.Goals as goal
 

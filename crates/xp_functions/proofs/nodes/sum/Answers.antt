@@ -1,6 +1,6 @@
 use Rattle.std.proofs.Common.{◌∙◌}
 use Rattle.spec_meaning.specs.Call.{summed}
-use Rattle.xt_ask.proofs.Steps.{runs_stop, runs_from, goes_on, next_turn, exits}
+use Rattle.xt_questions.proofs.Steps.{runs_stop, runs_from, goes_on, next_turn, exits}
 use Rattle.xp_functions.proofs.Within.{continues_as, summed_is}
 use Rattle.xp_functions.proofs.nodes.sum.Goals as goal
 

@@ -5,7 +5,7 @@ use Rattle.spec_meaning.specs.Convert.{to_text, to_number}
 use Rattle.spec_meaning.specs.Call.{argument, length_argument}
 use Rattle.xt_tree.specs.ValueView.{value_of}
 use Rattle.xt_tree.specs.declared.value.Value.{Value}
-use Rattle.xt_ask.proofs.Steps.{runs_then, runs_stop, runs_gives, runs_memory, exits}
+use Rattle.xt_questions.proofs.Steps.{runs_then, runs_stop, runs_gives, runs_memory, exits}
 use Rattle.xp_functions.proofs.Within.{runs_as, second_is, third_is}
 use Rattle.xp_functions.proofs.substring.substring_of.Goals as goal
 

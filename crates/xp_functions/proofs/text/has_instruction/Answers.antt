@@ -1,7 +1,7 @@
 use Rattle.std.proofs.Common.{ap}
 use Rattle.spec_meaning.specs.Value.{Boolean}
 use Rattle.spec_meaning.specs.Call.{name_meant}
-use Rattle.xt_ask.proofs.Steps.{runs_then, runs_stop, runs_gives, exits}
+use Rattle.xt_questions.proofs.Steps.{runs_then, runs_stop, runs_gives, exits}
 use Rattle.xp_functions.proofs.Within.{runs_as}
 use Rattle.xp_functions.proofs.text.has_instruction.Goals as goal
 

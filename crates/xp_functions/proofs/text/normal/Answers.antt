@@ -1,7 +1,7 @@
 use Rattle.std.proofs.Common.{ap, ◌∙◌}
 use Rattle.spec_expression.specs.Strings.{normalized}
 use Rattle.spec_meaning.specs.Value.{Text}
-use Rattle.xt_ask.proofs.Steps.{runs_gives}
+use Rattle.xt_questions.proofs.Steps.{runs_gives}
 use Rattle.xp_functions.proofs.text.normal.Goals as goal
 
 pub returns : goal.returns

@@ -1,6 +1,6 @@
 use Rattle.std.proofs.Common.{ap}
 use Rattle.spec_meaning.specs.Call.{name_meant}
-use Rattle.xt_ask.proofs.Steps.{runs_then, runs_stop, runs_gives, exits}
+use Rattle.xt_questions.proofs.Steps.{runs_then, runs_stop, runs_gives, exits}
 use Rattle.xp_functions.proofs.Within.{runs_as}
 use Rattle.xp_functions.proofs.text.property.Goals as goal
 

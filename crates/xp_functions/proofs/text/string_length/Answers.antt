@@ -1,7 +1,7 @@
 use Rattle.std.proofs.Common.{ap, ◌∙◌, refl}
 use Rattle.spec_expression.specs.Strings.{length_of}
 use Rattle.spec_meaning.specs.Convert.{given}
-use Rattle.xt_ask.proofs.Steps.{runs_then, runs_stop, runs_gives, exits}
+use Rattle.xt_questions.proofs.Steps.{runs_then, runs_stop, runs_gives, exits}
 use Rattle.xp_functions.proofs.Within.{runs_as, gives_is}
 use Rattle.xp_functions.proofs.text.string_length.Goals as goal
 

@@ -1,5 +1,5 @@
 use Rattle.std.proofs.Common.{refl}
-use Rattle.xt_ask.proofs.Steps.{runs_then, runs_stop, runs_gives, exits}
+use Rattle.xt_questions.proofs.Steps.{runs_then, runs_stop, runs_gives, exits}
 use Rattle.xp_functions.proofs.value.number.Goals as goal
 
 pub returns-in_err-number-clause-runs : goal.returns-in_err-number-clause-runs

@@ -1,6 +1,6 @@
 use Rattle.std.proofs.Common.{◌∙◌, sym, refl, arith}
 use Rattle.spec_meaning.specs.Compare.{any_left}
-use Rattle.xt_ask.proofs.Steps.{runs_then, runs_stop, runs_gives, runs_from, goes_on, exits}
+use Rattle.xt_questions.proofs.Steps.{runs_then, runs_stop, runs_gives, runs_from, goes_on, exits}
 use Rattle.xp_values.proofs.Comparing.{next_operand}
 use Rattle.xp_values.proofs.comparison.any_left.Goals as goal
 

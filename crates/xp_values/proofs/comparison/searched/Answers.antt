@@ -1,7 +1,7 @@
 use Rattle.std.proofs.Common.{◌∙◌, sym, refl, arith}
 use Rattle.std.proofs.lemmas.Result.{err_from_is_err_and}
 use Rattle.spec_meaning.specs.Compare.{searched}
-use Rattle.xt_ask.proofs.Steps.{runs_then, runs_stop, runs_gives, runs_memory, runs_from, goes_on, exits}
+use Rattle.xt_questions.proofs.Steps.{runs_then, runs_stop, runs_gives, runs_memory, runs_from, goes_on, exits}
 use Rattle.xp_values.proofs.Comparing.{next_operand}
 use Rattle.xp_values.proofs.comparison.searched.Goals as goal
 

@@ -1,5 +1,5 @@
 use Rattle.std.proofs.Common.{refl}
-use Rattle.xt_ask.proofs.Steps.{runs_then, runs_stop, runs_gives, exits}
+use Rattle.xt_questions.proofs.Steps.{runs_then, runs_stop, runs_gives, exits}
 use Rattle.xp_values.proofs.Comparing.{pair_so, some_from_test, rest_is}
 use Rattle.xp_values.proofs.comparison.some_pair.Goals as goal
 

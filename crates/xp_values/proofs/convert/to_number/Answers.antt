@@ -1,4 +1,4 @@
-use Rattle.xt_ask.proofs.Steps.{runs_then, runs_stop, exits}
+use Rattle.xt_questions.proofs.Steps.{runs_then, runs_stop, exits}
 use Rattle.xp_values.proofs.convert.to_number.Goals as goal
 
 pub returns-in-Text-clause-runs : goal.returns-in-Text-clause-runs

@@ -1,5 +1,5 @@
 use Rattle.std.proofs.Common.{refl}
-use Rattle.xt_ask.proofs.Steps.{runs_then, runs_stop, runs_gives, exits}
+use Rattle.xt_questions.proofs.Steps.{runs_then, runs_stop, runs_gives, exits}
 use Rattle.xp_values.proofs.operation.unite.Goals as goal
 
 pub returns-in-Err-clause-runs : goal.returns-in-Err-clause-runs

@@ -6,7 +6,7 @@ use Rattle.spec_structure.specs.Inside.{expanded_of}
 use Rattle.xt_attributes.specs.Gathering.{gathered_in, seen}
 use Rattle.xt_attributes.specs.View.{barred_by, entry_in, listed}
 use Rattle.xt_attributes.proofs.Rest.{begins, ends, last, next, seen-seen, turn}
-use Rattle.xt_sheet.specs.View.{row_of}
+use Rattle.xt_structure.specs.View.{row_of}
 use Rattle.xt_tree.specs.View.{written_of}
 use Rattle.xt_tree.specs.declared.node.Written.{Written}
 use Rattle.xt_attributes.proofs.attributes.entries_of.Goals as goal

@@ -5,7 +5,7 @@ use Rattle.xt_attributes.specs.Answers.{Continues}
 use Rattle.xt_attributes.specs.Gathering.{gathered_in, seen}
 use Rattle.xt_attributes.specs.View.{barred_by, entry_in}
 use Rattle.xt_attributes.proofs.Rest.{Rest}
-use Rattle.xt_sheet.specs.View.{row_of}
+use Rattle.xt_structure.specs.View.{row_of}
 use Rattle.xt_tree.specs.View.{written_of}
 use Rattle.xt_attributes.proofs.attributes.entries_of.Given as goal
 

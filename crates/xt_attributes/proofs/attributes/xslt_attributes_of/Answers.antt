@@ -2,7 +2,7 @@ use Rattle.std.proofs.Common.{map}
 use Rattle.spec_compile.specs.Value.{entries_of, none_barred}
 use Rattle.xt_attributes.specs.Answers.{answers_as}
 use Rattle.xt_attributes.proofs.Uris.{xslt_uri_chars}
-use Rattle.xt_sheet.specs.View.{row_of}
+use Rattle.xt_structure.specs.View.{row_of}
 use Rattle.xt_tree.specs.View.{written_of}
 use Rattle.xt_attributes.proofs.attributes.xslt_attributes_of.Goals as goal
 

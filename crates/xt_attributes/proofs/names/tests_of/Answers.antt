@@ -1,6 +1,6 @@
 use Rattle.std.proofs.Common.{◌∙◌, ◌+◌, drop, map, ap, arith}
 use Rattle.spec_compile.specs.Value.{each, test_of}
-use Rattle.xp_syntax.specs.View as view
+use Rattle.xt_syntax.specs.View as view
 use Rattle.xt_attributes.specs.Gathering.{appended, gathered_in, seen, seen-part}
 use Rattle.xt_attributes.proofs.Parts.{all_parts, first_part, next_part}
 use Rattle.xt_attributes.proofs.Rest.{seen-seen}

@@ -1,6 +1,6 @@
 use Rattle.std.proofs.Common.{◌≡◌, drop, map}
 use Rattle.spec_compile.specs.Value.{each, test_of}
-use Rattle.xp_syntax.specs.View as view
+use Rattle.xt_syntax.specs.View as view
 use Rattle.xt_attributes.specs.Gathering.{appended, gathered_in, seen}
 use Rattle.xt_attributes.proofs.names.tests_of.Given as goal
 

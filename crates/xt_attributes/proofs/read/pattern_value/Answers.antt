@@ -1,5 +1,5 @@
 use Rattle.std.proofs.Common.{Ok, sym, ◌∙◌}
-use Rattle.xp_syntax.specs.PartView.{pattern_of}
+use Rattle.xt_syntax.specs.PartView.{pattern_of}
 use Rattle.xt_attributes.specs.Answers.{finds_done, finds_pattern}
 use Rattle.xt_attributes.proofs.Patterns.{found, refused}
 use Rattle.xt_attributes.proofs.read.pattern_value.Goals as goal

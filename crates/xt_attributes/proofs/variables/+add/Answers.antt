@@ -1,10 +1,10 @@
 use Rattle.std.proofs.Common.{List, map, refl, arith, rules}
 use Rattle.spec_compile.specs.Walk.{variables_in, variables_in_all, variables_in_links, variables_in_steps}
 use Rattle.spec_expression.specs.Syntax.{exprs, links, steps}
-use Rattle.xp_syntax.specs.View.{expr_of, link_of, step_of}
-use Rattle.xp_syntax.specs.declared.expr.Expr.{Expr}
-use Rattle.xp_syntax.specs.declared.expr.Link.{Link, fold_out-Link}
-use Rattle.xp_syntax.specs.declared.expr.Step.{Step, fold_out-Step}
+use Rattle.xt_syntax.specs.View.{expr_of, link_of, step_of}
+use Rattle.xt_syntax.specs.declared.expr.Expr.{Expr}
+use Rattle.xt_syntax.specs.declared.expr.Link.{Link, fold_out-Link}
+use Rattle.xt_syntax.specs.declared.expr.Step.{Step, fold_out-Step}
 use Rattle.xt_attributes.proofs.Adding.{next_added}
 use Rattle.xt_attributes.proofs.variables.+add.Goals as goal
 

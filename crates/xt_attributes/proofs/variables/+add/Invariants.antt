@@ -1,7 +1,7 @@
 use Rattle.std.proofs.Common.{◌≡◌, ◌++◌, drop, map}
 use Rattle.spec_compile.specs.Walk.{variables_in_all, variables_in_links, variables_in_steps}
 use Rattle.spec_expression.specs.Syntax.{exprs, links, steps}
-use Rattle.xp_syntax.specs.View.{expr_of, link_of, step_of}
+use Rattle.xt_syntax.specs.View.{expr_of, link_of, step_of}
 use Rattle.xt_attributes.proofs.variables.+add.Given as goal
 
 abbrev pub invariant-add_in_all-loop-expr : goal.invariant-add_in_all-loop-expr

@@ -1,8 +1,8 @@
 use Rattle.std.proofs.Common.{List, map, refl, arith, rules}
 use Rattle.std.specs.List.{flat_map}
 use Rattle.spec_compile.specs.Walk.{variables_in_alternative}
-use Rattle.xp_syntax.specs.PartView.{alternative_of}
-use Rattle.xp_syntax.specs.declared.pattern.Alternative.{Alternative}
+use Rattle.xt_syntax.specs.PartView.{alternative_of}
+use Rattle.xt_syntax.specs.declared.pattern.Alternative.{Alternative}
 use Rattle.xt_attributes.proofs.Adding.{next_added}
 use Rattle.xt_attributes.proofs.variables.add_in_pattern.Goals as goal
 

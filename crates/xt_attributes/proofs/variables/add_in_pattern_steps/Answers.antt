@@ -1,9 +1,9 @@
 use Rattle.std.proofs.Common.{List, map, refl, arith, rules}
 use Rattle.std.specs.List.{flat_map}
 use Rattle.spec_compile.specs.Walk.{variables_in_all}
-use Rattle.xp_syntax.specs.PartView.{pattern_step_of}
-use Rattle.xp_syntax.specs.declared.expr.Step.{fold_out-Step}
-use Rattle.xp_syntax.specs.declared.pattern.PatternStep.{PatternStep}
+use Rattle.xt_syntax.specs.PartView.{pattern_step_of}
+use Rattle.xt_syntax.specs.declared.expr.Step.{fold_out-Step}
+use Rattle.xt_syntax.specs.declared.pattern.PatternStep.{PatternStep}
 use Rattle.xt_attributes.proofs.Adding.{next_added}
 use Rattle.xt_attributes.proofs.variables.add_in_pattern_steps.Goals as goal
 

@@ -1,7 +1,7 @@
 use Rattle.std.proofs.Common.{◌≡◌, ◌++◌, drop, map}
 use Rattle.std.specs.List.{flat_map}
 use Rattle.spec_compile.specs.Walk.{variables_in_all}
-use Rattle.xp_syntax.specs.PartView.{pattern_step_of}
+use Rattle.xt_syntax.specs.PartView.{pattern_step_of}
 use Rattle.xt_attributes.proofs.variables.add_in_pattern_steps.Given as goal
 
 abbrev pub invariant-loop-step : goal.invariant-loop-step

@@ -1,8 +1,8 @@
 use Rattle.std.proofs.Common.{List, map, refl, arith}
 use Rattle.std.specs.List.{flat_map}
 use Rattle.spec_compile.specs.Walk.{variables_in_part}
-use Rattle.xp_syntax.specs.PartView.{avt_part_of}
-use Rattle.xp_syntax.specs.declared.avt.AvtPart.{AvtPart}
+use Rattle.xt_syntax.specs.PartView.{avt_part_of}
+use Rattle.xt_syntax.specs.declared.avt.AvtPart.{AvtPart}
 use Rattle.xt_attributes.proofs.Adding.{next_added}
 use Rattle.xt_attributes.proofs.variables.add_template_variables.Goals as goal
 

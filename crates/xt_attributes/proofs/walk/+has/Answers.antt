@@ -1,10 +1,10 @@
 use Rattle.std.proofs.Common.{◌∙◌, List, map, refl, sym, arith, rules}
 use Rattle.spec_compile.specs.Walk.{has, has_one, has_link, has_step}
 use Rattle.spec_expression.specs.Syntax.{exprs, links, steps}
-use Rattle.xp_syntax.specs.View.{expr_of, link_of, step_of}
-use Rattle.xp_syntax.specs.declared.expr.Expr.{Expr}
-use Rattle.xp_syntax.specs.declared.expr.Link.{Link, fold_out-Link}
-use Rattle.xp_syntax.specs.declared.expr.Step.{Step, fold_out-Step}
+use Rattle.xt_syntax.specs.View.{expr_of, link_of, step_of}
+use Rattle.xt_syntax.specs.declared.expr.Expr.{Expr}
+use Rattle.xt_syntax.specs.declared.expr.Link.{Link, fold_out-Link}
+use Rattle.xt_syntax.specs.declared.expr.Step.{Step, fold_out-Step}
 use Rattle.xt_attributes.specs.Sought.{sought_in}
 use Rattle.xt_attributes.proofs.Searching.{found_sought, next_sought}
 use Rattle.xt_attributes.proofs.walk.+has.Goals as goal

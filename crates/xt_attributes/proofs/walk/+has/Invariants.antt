@@ -1,7 +1,7 @@
 use Rattle.std.proofs.Common.{◌≡◌, map, drop}
 use Rattle.spec_compile.specs.Walk.{has_one, has_link, has_step}
 use Rattle.spec_expression.specs.Syntax.{exprs, links, steps}
-use Rattle.xp_syntax.specs.View.{expr_of, link_of, step_of}
+use Rattle.xt_syntax.specs.View.{expr_of, link_of, step_of}
 use Rattle.xt_attributes.specs.Sought.{sought_in}
 use Rattle.xt_attributes.proofs.walk.+has.Given as goal
 

@@ -1,8 +1,8 @@
 use Rattle.std.proofs.Common.{List, map, refl, arith, rules}
 use Rattle.std.specs.List.{list_any}
 use Rattle.spec_compile.specs.Walk.{has_in_alternative}
-use Rattle.xp_syntax.specs.PartView.{alternative_of}
-use Rattle.xp_syntax.specs.declared.pattern.Alternative.{Alternative}
+use Rattle.xt_syntax.specs.PartView.{alternative_of}
+use Rattle.xt_syntax.specs.declared.pattern.Alternative.{Alternative}
 use Rattle.xt_attributes.specs.Sought.{sought_in}
 use Rattle.xt_attributes.proofs.Searching.{next_sought}
 use Rattle.xt_attributes.proofs.walk.has_in_pattern.Goals as goal

@@ -1,9 +1,9 @@
 use Rattle.std.proofs.Common.{List, map, refl, arith, rules}
 use Rattle.std.specs.List.{list_any}
 use Rattle.spec_compile.specs.Walk.{has_one}
-use Rattle.xp_syntax.specs.PartView.{pattern_step_of}
-use Rattle.xp_syntax.specs.declared.expr.Step.{fold_out-Step}
-use Rattle.xp_syntax.specs.declared.pattern.PatternStep.{PatternStep}
+use Rattle.xt_syntax.specs.PartView.{pattern_step_of}
+use Rattle.xt_syntax.specs.declared.expr.Step.{fold_out-Step}
+use Rattle.xt_syntax.specs.declared.pattern.PatternStep.{PatternStep}
 use Rattle.xt_attributes.specs.Sought.{sought_in}
 use Rattle.xt_attributes.proofs.Searching.{found_sought, next_sought}
 use Rattle.xt_attributes.proofs.walk.has_in_steps.Goals as goal

@@ -1,8 +1,8 @@
 use Rattle.std.proofs.Common.{◌∙◌, List, map, refl, sym, arith}
 use Rattle.std.specs.List.{list_any}
 use Rattle.spec_compile.specs.Walk.{has_in_part}
-use Rattle.xp_syntax.specs.PartView.{avt_part_of}
-use Rattle.xp_syntax.specs.declared.avt.AvtPart.{AvtPart}
+use Rattle.xt_syntax.specs.PartView.{avt_part_of}
+use Rattle.xt_syntax.specs.declared.avt.AvtPart.{AvtPart}
 use Rattle.xt_attributes.specs.Sought.{sought_in}
 use Rattle.xt_attributes.proofs.Searching.{next_sought}
 use Rattle.xt_attributes.proofs.walk.has_in_template.Goals as goal

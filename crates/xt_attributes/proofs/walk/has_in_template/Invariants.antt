@@ -2,7 +2,7 @@ use Rattle.std.proofs.Common.{◌≡◌, drop, map}
 use Rattle.std.specs.List.{list_any}
 use Rattle.spec_compile.specs.Walk.{has_in_part}
 use Rattle.xt_attributes.specs.Sought.{sought_in}
-use Rattle.xp_syntax.specs.PartView.{avt_part_of}
+use Rattle.xt_syntax.specs.PartView.{avt_part_of}
 use Rattle.xt_attributes.proofs.walk.has_in_template.Given as goal
 
 abbrev pub invariant-loop-part : goal.invariant-loop-part

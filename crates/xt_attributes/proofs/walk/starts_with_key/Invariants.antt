@@ -1,7 +1,7 @@
 use Rattle.std.proofs.Common.{◌≡◌, drop, map}
 use Rattle.std.specs.List.{list_any}
 use Rattle.spec_compile.specs.Walk.{is_key_start}
-use Rattle.xp_syntax.specs.PartView.{alternative_of}
+use Rattle.xt_syntax.specs.PartView.{alternative_of}
 use Rattle.xt_attributes.proofs.walk.starts_with_key.Given as goal
 
 abbrev pub invariant-loop-alternative : goal.invariant-loop-alternative

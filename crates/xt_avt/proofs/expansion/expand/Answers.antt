@@ -1,8 +1,8 @@
 use Rattle.std.proofs.Common.{refl, ap, ◌∙◌, arith, map}
 use Rattle.spec_transform.specs.Expansion.{joined}
-use Rattle.xp_syntax.specs.PartView.{avt_part_of}
-use Rattle.xt_ask.specs.View.{context_of}
-use Rattle.xt_ask.proofs.Steps.{runs_then, runs_stop, runs_gives, runs_memory, runs_from, goes_on, last_turn, exits}
+use Rattle.xt_syntax.specs.PartView.{avt_part_of}
+use Rattle.xt_questions.specs.View.{context_of}
+use Rattle.xt_questions.proofs.Steps.{runs_then, runs_stop, runs_gives, runs_memory, runs_from, goes_on, last_turn, exits}
 use Rattle.xt_avt.proofs.Joining.{Behind, continues_start, ends, next_part, runs_as}
 use Rattle.xt_avt.proofs.expansion.expand.Goals as goal
 

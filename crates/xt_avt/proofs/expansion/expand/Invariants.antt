@@ -1,9 +1,9 @@
 use Rattle.std.proofs.Common.{◌≡◌, drop, map}
 use Rattle.spec_meaning.specs.Supplies.{at_hand}
 use Rattle.spec_transform.specs.Expansion.{expanded, joined}
-use Rattle.xp_syntax.specs.PartView.{avt_of, avt_part_of}
-use Rattle.xt_ask.specs.View.{context_of, supplies_of}
-use Rattle.xt_ask.specs.Runs.{Continues}
+use Rattle.xt_syntax.specs.PartView.{avt_of, avt_part_of}
+use Rattle.xt_questions.specs.View.{context_of, supplies_of}
+use Rattle.xt_questions.specs.Runs.{Continues}
 use Rattle.xt_avt.proofs.Joining.{Behind}
 use Rattle.xt_avt.proofs.expansion.expand.Given as goal
 

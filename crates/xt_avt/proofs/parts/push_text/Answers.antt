@@ -1,6 +1,6 @@
 use Rattle.std.proofs.Common.{map, ap, sym, ◌++◌, ◌∙◌}
 use Rattle.std.proofs.lemmas.List.{map-append}
-use Rattle.xp_syntax.specs.PartView.{avt_part_of}
+use Rattle.xt_syntax.specs.PartView.{avt_part_of}
 use Rattle.xt_avt.proofs.Gathering.{no_text, some_text}
 use Rattle.xt_avt.proofs.parts.push_text.Goals as goal
 

@@ -1,7 +1,7 @@
 use Rattle.std.proofs.Common.{◌≡◌, drop, map}
 use Rattle.std.specs.List.{list_any}
 use Rattle.spec_compile.specs.Sheet.{is_alias_of}
-use Rattle.xp_syntax.specs.SheetView.{alias_of}
+use Rattle.xt_syntax.specs.SheetView.{alias_of}
 use Rattle.xt_compile.proofs.aliases.is_aliased.Given as goal
 
 abbrev pub invariant-loop-other : goal.invariant-loop-other

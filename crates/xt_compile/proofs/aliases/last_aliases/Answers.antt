@@ -1,8 +1,8 @@
 use Rattle.std.proofs.Common.{List, ◌∷◌, map, ap, sym, subst, ◌∙◌}
 use Rattle.std.specs.List.{list_any}
 use Rattle.spec_compile.specs.Sheet.{is_alias_of}
-use Rattle.xp_syntax.specs.SheetView.{alias_of}
-use Rattle.xp_syntax.specs.declared.sheet.Alias.{Alias}
+use Rattle.xt_syntax.specs.SheetView.{alias_of}
+use Rattle.xt_syntax.specs.declared.sheet.Alias.{Alias}
 use Rattle.xt_compile.proofs.Lasting.{Keeps, keeps_one, keeps_none, is_later}
 use Rattle.xt_compile.proofs.aliases.last_aliases.Goals as goal
 

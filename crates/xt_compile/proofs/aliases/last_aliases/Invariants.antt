@@ -1,5 +1,5 @@
 use Rattle.std.proofs.Common.{◌≡◌, List, ◌++◌, length}
-use Rattle.xp_syntax.specs.declared.sheet.Alias.{Alias}
+use Rattle.xt_syntax.specs.declared.sheet.Alias.{Alias}
 use Rattle.xt_compile.proofs.Lasting.{Keeps}
 use Rattle.xt_compile.proofs.aliases.last_aliases.Given as goal
 

@@ -2,7 +2,7 @@ use Rattle.std.proofs.Common.{◌≡◌, ◌≤◌, length, drop, map}
 use Rattle.std.specs.List.{filter}
 use Rattle.spec_compile.specs.Sheet as spec
 use Rattle.xt_scoping.specs.View.{violation_in}
-use Rattle.xt_sheet.specs.View.{faults_in}
+use Rattle.xt_structure.specs.View.{faults_in}
 use Rattle.xt_compile.proofs.between.first_in.Given as goal
 
 abbrev pub invariant-loop-left : goal.invariant-loop-left

@@ -2,11 +2,11 @@ use Rattle.std.proofs.Common.{◌≡◌, List, ◌++◌, length, map, OnOk, sym,
 use Rattle.std.specs.Option.{option_map}
 use Rattle.spec_stylesheet.specs.Sheet as sheet
 use Rattle.spec_compile.specs.Sheet as spec
-use Rattle.xp_syntax.specs.PartView.{pattern_of}
-use Rattle.xp_syntax.specs.SheetView.{rule_of}
+use Rattle.xt_syntax.specs.PartView.{pattern_of}
+use Rattle.xt_syntax.specs.SheetView.{rule_of}
 use Rattle.xt_scoping.specs.View.{ranked_in}
-use Rattle.xt_units.specs.View.{declaration_in}
-use Rattle.xt_units.specs.declared.top_level.Declaration.{Declaration}
+use Rattle.xt_top_level.specs.View.{declaration_in}
+use Rattle.xt_top_level.specs.declared.top_level.Declaration.{Declaration}
 use Rattle.xt_compile.proofs.Declaring.{rules_for_is}
 use Rattle.xt_compile.proofs.declared.declare.Goals as goal
 

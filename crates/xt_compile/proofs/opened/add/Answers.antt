@@ -1,7 +1,7 @@
 use Rattle.std.proofs.Common.{◌≡◌, List, ◌++◌, ◌∷◌, [], ap, refl, slice_index_or, ◌∙◌}
 use Rattle.std.specs.Map.{lookup}
-use Rattle.xt_units.specs.View.{top_level_in, top_levels_in}
-use Rattle.xt_units.specs.declared.top_level.TopLevel.{TopLevel}
+use Rattle.xt_top_level.specs.View.{top_level_in, top_levels_in}
+use Rattle.xt_top_level.specs.declared.top_level.TopLevel.{TopLevel}
 use Rattle.xt_compile.specs.Opened.{is_path, kept_of}
 use Rattle.xt_compile.proofs.Places.{added, put_key}
 use Rattle.xt_compile.proofs.opened.add.Goals as goal

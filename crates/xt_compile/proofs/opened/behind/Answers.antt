@@ -1,6 +1,6 @@
 use Rattle.std.proofs.Common.{◌++◌, ap, sym, ◌∙◌}
 use Rattle.std.proofs.lemmas.List.{map-append}
-use Rattle.xt_units.specs.View.{top_level_in, top_levels_in}
+use Rattle.xt_top_level.specs.View.{top_level_in, top_levels_in}
 use Rattle.xt_compile.specs.Opened.{kept_of}
 use Rattle.xt_compile.proofs.opened.behind.Goals as goal
 

@@ -1,8 +1,8 @@
 use Rattle.std.proofs.Common.{List, [], ◌∷◌, ◌++◌, ap, sym, subst, append_assoc, ◌∙◌}
 use Rattle.std.proofs.lemmas.List.{map-append}
 use Rattle.spec_compile.specs.Unit as unit
-use Rattle.xt_units.specs.View.{top_level_in, top_levels_in}
-use Rattle.xt_units.specs.declared.top_level.TopLevel.{TopLevel}
+use Rattle.xt_top_level.specs.View.{top_level_in, top_levels_in}
+use Rattle.xt_top_level.specs.declared.top_level.TopLevel.{TopLevel}
 use Rattle.xt_compile.specs.Opened.{IsOpened}
 use Rattle.xt_compile.proofs.opened.by_path.Goals as goal
 

@@ -1,5 +1,5 @@
 use Rattle.std.proofs.Common.{[], ap}
-use Rattle.xt_units.specs.View.{top_levels_in}
+use Rattle.xt_top_level.specs.View.{top_levels_in}
 use Rattle.xt_compile.proofs.Places.{at_key, put_key}
 use Rattle.xt_compile.proofs.opened.take_at.Goals as goal
 

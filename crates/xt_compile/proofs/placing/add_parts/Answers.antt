@@ -2,7 +2,7 @@ use Rattle.std.proofs.Common.{List, map, take, subst, arith}
 use Rattle.spec_structure.specs.Modules.{Part}
 use Rattle.xt_import.specs.Parts.{part_in}
 use Rattle.xt_import.specs.View.{modules_in}
-use Rattle.xt_units.specs.View.{top_levels_in}
+use Rattle.xt_top_level.specs.View.{top_levels_in}
 use Rattle.xt_compile.specs.Placed.{Places}
 use Rattle.xt_compile.proofs.Putting.{next_part, one_more}
 use Rattle.xt_compile.proofs.placing.add_parts.Goals as goal

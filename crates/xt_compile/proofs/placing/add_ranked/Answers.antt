@@ -2,8 +2,8 @@ use Rattle.std.proofs.Common.{List, ◌++◌, map, ap, sym, refl, ◌∙◌}
 use Rattle.spec_compile.specs.Sheet as spec
 use Rattle.xt_scoping.specs.View.{ranked_in}
 use Rattle.xt_scoping.specs.declared.violation.Ranked.{Ranked}
-use Rattle.xt_units.specs.View.{top_levels_in}
-use Rattle.xt_units.specs.declared.top_level.TopLevel.{TopLevel}
+use Rattle.xt_top_level.specs.View.{top_levels_in}
+use Rattle.xt_top_level.specs.declared.top_level.TopLevel.{TopLevel}
 use Rattle.xt_compile.proofs.Putting.{one_ranked}
 use Rattle.xt_compile.proofs.placing.add_ranked.Goals as goal
 

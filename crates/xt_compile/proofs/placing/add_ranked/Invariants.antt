@@ -1,7 +1,7 @@
 use Rattle.std.proofs.Common.{◌≡◌, map, ◌++◌}
 use Rattle.spec_compile.specs.Sheet as spec
 use Rattle.xt_scoping.specs.View.{ranked_in}
-use Rattle.xt_units.specs.View.{top_levels_in}
+use Rattle.xt_top_level.specs.View.{top_levels_in}
 use Rattle.xt_compile.proofs.placing.add_ranked.Given as goal
 
 abbrev pub invariant-loop-top_level : goal.invariant-loop-top_level

@@ -1,5 +1,5 @@
 use Rattle.std.proofs.Common.{ap, sym, ◌∙◌}
-use Rattle.xt_units.specs.View.{top_levels_in}
+use Rattle.xt_top_level.specs.View.{top_levels_in}
 use Rattle.xt_compile.proofs.Places.{if_left, none_left, still_left}
 use Rattle.xt_compile.proofs.placing.left_at.Goals as goal
 

@@ -3,7 +3,7 @@ use Rattle.std.specs.List.{filter}
 use Rattle.std.specs.Str.{chars}
 use Rattle.spec_compile.specs.Unit as unit
 use Rattle.spec_compile.specs.Sheet.{is_at}
-use Rattle.xt_units.specs.View.{top_levels_in}
+use Rattle.xt_top_level.specs.View.{top_levels_in}
 use Rattle.xt_compile.specs.Opened.{IsLeft}
 use Rattle.xt_compile.proofs.Opening.{opened_more}
 use Rattle.xt_compile.proofs.Places.{all_found, all_left, still_left}

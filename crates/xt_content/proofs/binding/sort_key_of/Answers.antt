@@ -2,8 +2,8 @@ use Rattle.std.proofs.Common.{◌≡◌, ◌∙◌, ◌∷◌, [], ap, codes, re
 use Rattle.std.specs.Str.{chars}
 use Rattle.spec_compile.specs.Content.{ASortKey, avt_at, expr_at, fixed, itself}
 use Rattle.spec_compile.specs.Value.{avt_in, expr_in}
-use Rattle.xp_syntax.specs.PartView.{avt_of, site_of}
-use Rattle.xp_syntax.specs.View.{expr_of}
+use Rattle.xt_syntax.specs.PartView.{avt_of, site_of}
+use Rattle.xt_syntax.specs.View.{expr_of}
 use Rattle.xt_attributes.specs.View.{entries_in}
 use Rattle.xt_content.proofs.Kept.{kept_at}
 use Rattle.xt_content.proofs.binding.sort_key_of.Goals as goal

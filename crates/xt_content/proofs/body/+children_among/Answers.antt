@@ -5,7 +5,7 @@ use Rattle.xt_content.specs.View.{around_in, below_in, visit_in}
 use Rattle.xt_content.specs.Visit.{nothing_visited}
 use Rattle.xt_content.proofs.Siblings.{at_element, before_rest, begins, ends, holds, holds_fault, later_is, skips, stops, turn}
 use Rattle.xt_content.proofs.Steps.{Continues, answers_stop, exits, last_turn, next_turn}
-use Rattle.xt_sheet.specs.View.{in_force}
+use Rattle.xt_structure.specs.View.{in_force}
 use Rattle.xt_tree.specs.View as nodes
 use Rattle.xt_tree.specs.View.{forest_of, tree_of, written_of}
 use Rattle.xt_content.proofs.body.+children_among.Goals as goal

@@ -1,6 +1,6 @@
 use Rattle.std.proofs.Common.{◌≡◌, drop}
 use Rattle.spec_compile.specs.Content.{leads}
-use Rattle.xt_sheet.specs.View.{in_force}
+use Rattle.xt_structure.specs.View.{in_force}
 use Rattle.xt_tree.specs.View.{forest_of}
 use Rattle.xt_content.proofs.body.leads.Given as goal
 

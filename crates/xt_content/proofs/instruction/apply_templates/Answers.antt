@@ -4,9 +4,9 @@ use Rattle.std.specs.Str.{chars}
 use Rattle.spec_stylesheet.specs.Instruction as made
 use Rattle.spec_compile.specs.Content.{children_nodes}
 use Rattle.spec_compile.specs.Value.{at, expr_in, name_in}
-use Rattle.xp_syntax.specs.InstrView.{binding_of}
-use Rattle.xp_syntax.specs.PartView.{sort_key_of}
-use Rattle.xp_syntax.specs.View.{expr_of}
+use Rattle.xt_syntax.specs.InstrView.{binding_of}
+use Rattle.xt_syntax.specs.PartView.{sort_key_of}
+use Rattle.xt_syntax.specs.View.{expr_of}
 use Rattle.xt_attributes.specs.View.{entries_in}
 use Rattle.xt_content.proofs.Kept.{kept_at}
 use Rattle.xt_content.proofs.Views.{view-ApplyTemplates}

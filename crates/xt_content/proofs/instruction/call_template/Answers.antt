@@ -2,7 +2,7 @@ use Rattle.std.proofs.Common.{◌≡◌, ◌∙◌, codes, map}
 use Rattle.std.specs.Str.{chars}
 use Rattle.spec_stylesheet.specs.Instruction as made
 use Rattle.spec_compile.specs.Content.{name_at}
-use Rattle.xp_syntax.specs.InstrView.{binding_of}
+use Rattle.xt_syntax.specs.InstrView.{binding_of}
 use Rattle.xt_attributes.specs.View.{entries_in}
 use Rattle.xt_content.proofs.Views.{view-CallTemplate}
 use Rattle.xt_content.proofs.instruction.call_template.Goals as goal

@@ -3,8 +3,8 @@ use Rattle.std.specs.Option.{option_map}
 use Rattle.std.specs.Str.{chars}
 use Rattle.spec_compile.specs.Content as spec
 use Rattle.spec_compile.specs.Value.{at, expr_in}
-use Rattle.xp_syntax.specs.PartView.{site_of}
-use Rattle.xp_syntax.specs.View.{expr_of}
+use Rattle.xt_syntax.specs.PartView.{site_of}
+use Rattle.xt_syntax.specs.View.{expr_of}
 use Rattle.xt_attributes.specs.View.{entries_in}
 use Rattle.xt_content.specs.Kind.{child_by}
 use Rattle.xt_content.specs.View.{child_if, children_in}

@@ -1,6 +1,6 @@
 use Rattle.std.proofs.Common.{◌∙◌, ap}
 use Rattle.spec_compile.specs.Content.{text_among}
-use Rattle.xp_syntax.specs.PartView.{site_of}
+use Rattle.xt_syntax.specs.PartView.{site_of}
 use Rattle.xt_attributes.specs.View.{entries_in}
 use Rattle.xt_content.specs.Kind.{child_by}
 use Rattle.xt_content.specs.View.{child_if, children_in}

@@ -1,6 +1,6 @@
 use Rattle.std.proofs.Common.{◌∙◌, map}
 use Rattle.spec_stylesheet.specs.Instruction as made
-use Rattle.xp_syntax.specs.InstrView.{branch_of}
+use Rattle.xt_syntax.specs.InstrView.{branch_of}
 use Rattle.xt_content.proofs.Views.{view-Choose}
 use Rattle.xt_content.proofs.instruction.choose.Goals as goal
 

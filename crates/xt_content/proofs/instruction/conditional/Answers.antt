@@ -2,8 +2,8 @@ use Rattle.std.proofs.Common.{◌≡◌, ◌∙◌, codes, map}
 use Rattle.std.specs.Str.{chars}
 use Rattle.spec_stylesheet.specs.Instruction as made
 use Rattle.spec_compile.specs.Content.{expr_at}
-use Rattle.xp_syntax.specs.InstrView.{instr_of}
-use Rattle.xp_syntax.specs.View.{expr_of}
+use Rattle.xt_syntax.specs.InstrView.{instr_of}
+use Rattle.xt_syntax.specs.View.{expr_of}
 use Rattle.xt_attributes.specs.View.{entries_in}
 use Rattle.xt_content.proofs.Views.{view-If}
 use Rattle.xt_content.proofs.instruction.conditional.Goals as goal

@@ -2,7 +2,7 @@ use Rattle.std.proofs.Common.{◌≡◌, ◌∙◌, [], ap, codes, sym}
 use Rattle.std.specs.Str.{chars}
 use Rattle.spec_stylesheet.specs.Instruction as made
 use Rattle.spec_compile.specs.Content.{avt_at, is_text_at, sets_at}
-use Rattle.xp_syntax.specs.PartView.{avt_of}
+use Rattle.xt_syntax.specs.PartView.{avt_of}
 use Rattle.xt_attributes.specs.View.{entries_in}
 use Rattle.xt_content.specs.Kind.{container_of}
 use Rattle.xt_content.proofs.instruction.container.Goals as goal

@@ -2,7 +2,7 @@ use Rattle.std.proofs.Common.{◌≡◌, ◌∙◌, codes, refl}
 use Rattle.std.specs.Str.{chars}
 use Rattle.spec_stylesheet.specs.Instruction as made
 use Rattle.spec_compile.specs.Content as spec
-use Rattle.xp_syntax.specs.PartView.{made_name_of}
+use Rattle.xt_syntax.specs.PartView.{made_name_of}
 use Rattle.xt_attributes.specs.View.{entries_in}
 use Rattle.xt_content.proofs.Kept.{made_name_kept}
 use Rattle.xt_content.proofs.instruction.element.Goals as goal

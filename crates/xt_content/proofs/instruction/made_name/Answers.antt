@@ -3,7 +3,7 @@ use Rattle.std.specs.Option.{option_map}
 use Rattle.std.specs.Str.{chars}
 use Rattle.spec_compile.specs.Content.{avt_at}
 use Rattle.spec_compile.specs.Value.{at, avt_in}
-use Rattle.xp_syntax.specs.PartView.{avt_of}
+use Rattle.xt_syntax.specs.PartView.{avt_of}
 use Rattle.xt_attributes.specs.View.{entries_in}
 use Rattle.xt_content.proofs.Kept.{kept_at}
 use Rattle.xt_content.proofs.instruction.made_name.Goals as goal

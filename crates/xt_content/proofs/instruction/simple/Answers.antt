@@ -2,7 +2,7 @@ use Rattle.std.proofs.Common.{◌≡◌, ◌∙◌, ap, codes, sym}
 use Rattle.std.specs.Str.{chars}
 use Rattle.spec_stylesheet.specs.Instruction as made
 use Rattle.spec_compile.specs.Content.{expr_at, text_among}
-use Rattle.xp_syntax.specs.View.{expr_of}
+use Rattle.xt_syntax.specs.View.{expr_of}
 use Rattle.xt_attributes.specs.View.{entries_in}
 use Rattle.xt_tree.specs.View.{forest_of}
 use Rattle.xt_content.specs.Kind.{simple_of}

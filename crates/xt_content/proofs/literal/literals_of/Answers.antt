@@ -2,7 +2,7 @@ use Rattle.std.proofs.Common.{◌+◌, ◌∙◌, List, drop, map, sym, ap, subs
 use Rattle.spec_compile.specs.Content.{literal_attributes, literal_by}
 use Rattle.spec_compile.specs.Reading.{Reads}
 use Rattle.spec_structure.specs.Inside.{expanded_of}
-use Rattle.xp_syntax.specs.PartView.{literal_attribute_of}
+use Rattle.xt_syntax.specs.PartView.{literal_attribute_of}
 use Rattle.xt_attributes.specs.Gathering.{gathered_in, seen}
 use Rattle.xt_content.specs.Attribute.{literal_if}
 use Rattle.xt_content.proofs.Attributes.{begins, ends, last, next, seen-seen, turn}

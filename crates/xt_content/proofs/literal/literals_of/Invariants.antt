@@ -1,6 +1,6 @@
 use Rattle.std.proofs.Common.{drop, map}
 use Rattle.spec_compile.specs.Content.{literal_attributes}
-use Rattle.xp_syntax.specs.PartView.{literal_attribute_of}
+use Rattle.xt_syntax.specs.PartView.{literal_attribute_of}
 use Rattle.xt_attributes.specs.Answers.{Continues}
 use Rattle.xt_attributes.specs.Gathering.{gathered_in, seen}
 use Rattle.xt_content.proofs.Attributes.{Rest}

@@ -1,7 +1,7 @@
 use Rattle.std.proofs.Common.{◌≡◌, codes, map}
 use Rattle.std.specs.Str.{chars}
 use Rattle.spec_compile.specs.Content.{sets_at}
-use Rattle.xp_syntax.specs.PartView.{literal_attribute_of}
+use Rattle.xt_syntax.specs.PartView.{literal_attribute_of}
 use Rattle.xt_attributes.specs.View.{entries_in}
 use Rattle.xt_content.proofs.literal.tag_by.Goals as goal
 

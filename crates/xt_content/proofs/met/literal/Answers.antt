@@ -1,7 +1,7 @@
 use Rattle.std.proofs.Common.{◌≡◌, ◌∙◌, ◌∷◌, [], ap}
 use Rattle.spec_stylesheet.specs.Instruction as made
 use Rattle.spec_compile.specs.Content as spec
-use Rattle.xp_syntax.specs.PartView.{literal_tag_of}
+use Rattle.xt_syntax.specs.PartView.{literal_tag_of}
 use Rattle.xt_content.specs.View.{around_in, child_in, children_in, outlines}
 use Rattle.xt_content.proofs.Views.{view-WithContent}
 use Rattle.xt_content.proofs.met.literal.Goals as goal

@@ -2,8 +2,8 @@ use Rattle.std.proofs.Common.{◌≡◌, ◌∙◌, None, Some, ap, codes, refl,
 use Rattle.std.specs.Option.{option_map}
 use Rattle.std.specs.Str.{chars}
 use Rattle.spec_compile.specs.Value.{at, expr_in}
-use Rattle.xp_syntax.specs.View.{expr_of}
-use Rattle.xp_syntax.specs.PartView.{count_of}
+use Rattle.xt_syntax.specs.View.{expr_of}
+use Rattle.xt_syntax.specs.PartView.{count_of}
 use Rattle.xt_attributes.specs.View.{entries_in}
 use Rattle.xt_content.specs.Kind.{counting}
 use Rattle.xt_content.proofs.Kept.{counting_kept, source_by, source_is}

@@ -4,9 +4,9 @@ use Rattle.spec_expression.specs.Syntax.{Expr}
 use Rattle.spec_stylesheet.specs.Instruction.{instrs}
 use Rattle.spec_run.specs.Plan.{Plan}
 use Rattle.spec_run.specs.Content.{is_empty, valued}
-use Rattle.xp_syntax.specs.View.{expr_of}
-use Rattle.xp_syntax.specs.PartView.{site_of}
-use Rattle.xp_syntax.specs.InstrView.{instr_of}
+use Rattle.xt_syntax.specs.View.{expr_of}
+use Rattle.xt_syntax.specs.PartView.{site_of}
+use Rattle.xt_syntax.specs.InstrView.{instr_of}
 use Rattle.xt_tree.specs.declared.node_ref.NodeRef.{NodeRef}
 use Rattle.xt_frames.specs.View.{here_of, inside, left_with}
 use Rattle.xt_frames.specs.Left.{left_in, Performs}

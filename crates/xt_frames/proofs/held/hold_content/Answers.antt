@@ -1,15 +1,15 @@
 use Rattle.std.proofs.Common.{◌≡◌, ◌<◌, length, map, refl, ap, ◌∙◌, subst, arith}
 use Rattle.std.proofs.lemmas.Bool.Decides.{nat_tests}
 use Rattle.spec_stylesheet.specs.Instruction.{instrs}
-use Rattle.xp_syntax.specs.PartView.{site_of}
-use Rattle.xp_syntax.specs.InstrView.{instr_of}
+use Rattle.xt_syntax.specs.PartView.{site_of}
+use Rattle.xt_syntax.specs.InstrView.{instr_of}
 use Rattle.xt_frames.specs.declared.frame.Frame.TheVariants as frames
 use Rattle.xt_frames.specs.declared.run.Run.{Run}
 use Rattle.xt_frames.specs.View.{here_of, inside}
 use Rattle.xt_frames.specs.Left.{left_in, Does}
 use Rattle.spec_run.specs.Content.{Here}
 use Rattle.spec_run.specs.Going.{begun}
-use Rattle.xt_going.specs.View.{going_of}
+use Rattle.xt_progress.specs.View.{going_of}
 use Rattle.xt_tree.specs.declared.node_ref.NodeRef.{NodeRef}
 use Rattle.xt_frames.proofs.Lefts.{if_ok, no_content, some_content, held_in_sink}
 use Rattle.xt_frames.proofs.held.hold_content.Goals as goal

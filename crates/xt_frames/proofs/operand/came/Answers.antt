@@ -1,6 +1,6 @@
-use Rattle.xp_syntax.specs.PartView.{site_of}
-use Rattle.xt_ask.proofs.Steps.{runs_keeps}
-use Rattle.xt_going.specs.View.{going_of}
+use Rattle.xt_syntax.specs.PartView.{site_of}
+use Rattle.xt_questions.proofs.Steps.{runs_keeps}
+use Rattle.xt_progress.specs.View.{going_of}
 use Rattle.xt_frames.specs.View.{here_of}
 use Rattle.xt_frames.specs.Left.{hand}
 use Rattle.xt_frames.proofs.Lefts.{if_ok}

@@ -1,11 +1,11 @@
 use Rattle.std.proofs.Common.{refl, ap, arith, add-one, ◌+◌, map}
 use Rattle.spec_expression.specs.declared.code.DynCode.TheVariants.{TooDeep}
 use Rattle.spec_stylesheet.specs.Instruction.{instrs}
-use Rattle.xp_syntax.specs.PartView.{place_of}
-use Rattle.xp_syntax.specs.InstrView.{instr_of}
-use Rattle.xp_syntax.specs.SheetView.{alias_of}
+use Rattle.xt_syntax.specs.PartView.{place_of}
+use Rattle.xt_syntax.specs.InstrView.{instr_of}
+use Rattle.xt_syntax.specs.SheetView.{alias_of}
 use Rattle.xp_axes.specs.View.{same_ref}
-use Rattle.xt_ask.specs.View.{bindings_of, template_of, sets_of}
+use Rattle.xt_questions.specs.View.{bindings_of, template_of, sets_of}
 use Rattle.xt_frames.specs.declared.run.Run.{Run}
 use Rattle.xt_frames.specs.View.{here_of}
 use Rattle.xt_frames.specs.Left.{left_in}

@@ -1,7 +1,7 @@
 use Rattle.std.proofs.Common.{map}
 use Rattle.spec_stylesheet.specs.Instruction.{instrs}
-use Rattle.xp_syntax.specs.PartView.{place_of}
-use Rattle.xp_syntax.specs.InstrView.{instr_of}
+use Rattle.xt_syntax.specs.PartView.{place_of}
+use Rattle.xt_syntax.specs.InstrView.{instr_of}
 use Rattle.xt_frames.specs.declared.frame.Frame.TheVariants as frames
 use Rattle.xt_frames.specs.View.{here_of}
 use Rattle.xt_frames.proofs.Lefts.{sink_after, if_ok}

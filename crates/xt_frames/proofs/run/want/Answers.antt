@@ -1,7 +1,7 @@
 use Rattle.spec_run.specs.Passes.{stays}
 use Rattle.std.proofs.Common.{ap}
-use Rattle.xt_going.specs.View.{going_of}
-use Rattle.xt_run.specs.View.{call_of}
+use Rattle.xt_progress.specs.View.{going_of}
+use Rattle.xt_engine.specs.View.{call_of}
 use Rattle.spec_run.specs.Plan.{Enter}
 use Rattle.xt_frames.proofs.Lefts.{pushed, passes_at}
 use Rattle.xt_frames.proofs.run.want.Goals as goal

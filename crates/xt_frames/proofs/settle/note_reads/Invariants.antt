@@ -1,7 +1,7 @@
 use Rattle.std.proofs.Common.{◌≡◌, map}
-use Rattle.xp_syntax.specs.PartView.{place_of}
-use Rattle.xt_ask.specs.View.{read_of}
-use Rattle.xt_going.specs.View.{going_of}
+use Rattle.xt_syntax.specs.PartView.{place_of}
+use Rattle.xt_questions.specs.View.{read_of}
+use Rattle.xt_progress.specs.View.{going_of}
 use Rattle.xt_frames.specs.Noted.{read_in}
 use Rattle.xt_frames.proofs.settle.note_reads.Given as goal
 

@@ -1,5 +1,5 @@
 use Rattle.std.proofs.Common.{refl}
-use Rattle.xt_going.specs.View.{going_of}
+use Rattle.xt_progress.specs.View.{going_of}
 use Rattle.xt_frames.proofs.settle.settle.Goals as goal
 
 pub returns-in_ok-note_reads-in-Ok : goal.returns-in_ok-note_reads-in-Ok

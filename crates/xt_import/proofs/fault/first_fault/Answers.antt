@@ -3,7 +3,7 @@ use Rattle.spec_expression.specs.declared.code.StaticCode.{StaticCode}
 use Rattle.spec_structure.specs.Modules.{HasCode}
 use Rattle.xt_import.specs.View.{modules_in}
 use Rattle.xt_import.proofs.Standing.{at_end, goes_on, stands_among, stops}
-use Rattle.xt_sheet.specs.View.{link_in}
+use Rattle.xt_structure.specs.View.{link_in}
 use Rattle.xt_import.proofs.fault.first_fault.Goals as goal
 
 pub returns-in-Some : goal.returns-in-Some

@@ -3,7 +3,7 @@ use Rattle.spec_structure.specs.Modules.{FirstFault}
 use Rattle.spec_structure.specs.Structure.{Fault}
 use Rattle.xt_import.specs.Table.{NoneLeadsBack}
 use Rattle.xt_import.specs.View.{modules_in}
-use Rattle.xt_sheet.specs.View.{links_in}
+use Rattle.xt_structure.specs.View.{links_in}
 use Rattle.xt_import.proofs.fault.first_fault.Given as goal
 
 abbrev pub invariant-loop-link : goal.invariant-loop-link

@@ -4,8 +4,8 @@ use Rattle.std.specs.Map.Iter.{deref_pair}
 use Rattle.std.specs.Str.{chars}
 use Rattle.xt_import.specs.Table.{Entry, IsKnown, name_of}
 use Rattle.xt_import.specs.View.{modules_in}
-use Rattle.xt_sheet.specs.declared.links.Link as sheet
-use Rattle.xt_sheet.specs.View.{links_in}
+use Rattle.xt_structure.specs.declared.links.Link as sheet
+use Rattle.xt_structure.specs.View.{links_in}
 use Rattle.xt_import.proofs.Certified.{judged_more, named_more}
 use Rattle.xt_import.proofs.listed.judged.Goals as goal
 

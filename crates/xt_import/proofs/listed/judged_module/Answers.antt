@@ -2,7 +2,7 @@ use Rattle.std.proofs.Common.{List, subst}
 use Rattle.spec_structure.specs.Modules.{FirstFault}
 use Rattle.spec_structure.specs.Structure.{Link}
 use Rattle.xt_import.specs.View.{modules_in}
-use Rattle.xt_sheet.specs.View.{faults_in}
+use Rattle.xt_structure.specs.View.{faults_in}
 use Rattle.xt_import.proofs.listed.judged_module.Goals as goal
 
 pub returns-clause-link_fault : goal.returns-clause-link_fault

@@ -1,7 +1,7 @@
 use Rattle.std.proofs.Common.{◌≡◌, ◌+◌, ◌++◌, drop}
 use Rattle.spec_structure.specs.Modules.{top_levels_among}
 use Rattle.xt_import.specs.Levels.{top_levels_in}
-use Rattle.xt_sheet.specs.View.{in_force}
+use Rattle.xt_structure.specs.View.{in_force}
 use Rattle.xt_tree.specs.View.{forest_of}
 use Rattle.xt_import.proofs.top.levels_among.Given as goal
 

@@ -4,8 +4,8 @@ use Rattle.spec_meaning.specs.Program.{Program, Give, then}
 use Rattle.spec_transform.specs.Key.{Entry, has, indexed, keys_named}
 use Rattle.xp_axes.specs.View.{same_ref}
 use Rattle.xt_tree.specs.declared.node_ref.NodeRef.{NodeRef}
-use Rattle.xt_ask.specs.Runs.{items}
-use Rattle.xt_ask.proofs.Steps.{runs_then, runs_stop, runs_gives, runs_memory, exits}
+use Rattle.xt_questions.specs.Runs.{items}
+use Rattle.xt_questions.proofs.Steps.{runs_then, runs_stop, runs_gives, runs_memory, exits}
 use Rattle.xt_match.proofs.Together.{runs_as}
 use Rattle.xt_match.specs.Context.{units_in}
 use Rattle.xt_keys.specs.View.{all_texts, having}

@@ -2,9 +2,9 @@ use Rattle.std.proofs.Common.{◌+◌, List, drop, ap, ◌∙◌, arith}
 use Rattle.spec_meaning.specs.Program.{Give}
 use Rattle.spec_transform.specs.Key.{Entry, key_in, keys_named}
 use Rattle.xt_tree.specs.declared.node_ref.NodeRef.{NodeRef}
-use Rattle.xt_ask.specs.declared.answer.ResolvedUnit.{ResolvedUnit}
-use Rattle.xt_ask.specs.Runs.{itself}
-use Rattle.xt_ask.proofs.Steps.{runs_stop, runs_gives, runs_from, next_turn, last_turn, exits}
+use Rattle.xt_questions.specs.declared.answer.ResolvedUnit.{ResolvedUnit}
+use Rattle.xt_questions.specs.Runs.{itself}
+use Rattle.xt_questions.proofs.Steps.{runs_stop, runs_gives, runs_from, next_turn, last_turn, exits}
 use Rattle.xt_match.specs.Context.{unit_in, units_in}
 use Rattle.xt_match.proofs.Together.{continues_as}
 use Rattle.xt_keys.specs.View.{all_texts, texts_in}

@@ -1,7 +1,7 @@
 use Rattle.std.proofs.Common.{◌≡◌, [], length, drop}
 use Rattle.spec_meaning.specs.Supplies.{at_hand}
 use Rattle.spec_transform.specs.Key.{keys_named}
-use Rattle.xt_ask.specs.View.{supplies_of}
+use Rattle.xt_questions.specs.View.{supplies_of}
 use Rattle.xt_match.specs.Context.{units_in}
 use Rattle.xt_keys.specs.View.{texts_in}
 use Rattle.xt_keys.proofs.Programs.{Filled, left_of_keys}

@@ -1,6 +1,6 @@
 use Rattle.std.proofs.Common.{true, false, sym, ap, ◌∙◌}
 use Rattle.spec_transform.specs.Key.{key_in}
-use Rattle.xp_syntax.specs.SheetView.{declared_of, unit_of}
+use Rattle.xt_syntax.specs.SheetView.{declared_of, unit_of}
 use Rattle.xt_keys.specs.View.{key_at}
 use Rattle.xt_keys.proofs.Programs.{fills_none, fills_one, its_key}
 use Rattle.xt_keys.proofs.filling.fill_by.Goals as goal

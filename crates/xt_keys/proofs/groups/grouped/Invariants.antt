@@ -1,5 +1,5 @@
 use Rattle.std.proofs.Common.{◌≡◌, ℕ, List, map, take}
-use Rattle.xt_ask.specs.Runs.{items}
+use Rattle.xt_questions.specs.Runs.{items}
 use Rattle.xt_keys.specs.View.{having, nodes_found}
 use Rattle.xt_keys.proofs.groups.grouped.Given as goal
 

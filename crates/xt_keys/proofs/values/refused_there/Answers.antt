@@ -1,8 +1,8 @@
 use Rattle.std.proofs.Common.{Ok, Err, refl, ap}
 use Rattle.spec_transform.specs.Key.{refused_there}
-use Rattle.xt_ask.specs.declared.fault.EvalFault.TheVariants.{Refused, Wants}
-use Rattle.xt_ask.specs.declared.fault.Refusal.TheVariants.{Here, At}
-use Rattle.xt_ask.proofs.Steps.{runs_keeps, runs_memory, exits}
+use Rattle.xt_questions.specs.declared.fault.EvalFault.TheVariants.{Refused, Wants}
+use Rattle.xt_questions.specs.declared.fault.Refusal.TheVariants.{Here, At}
+use Rattle.xt_questions.proofs.Steps.{runs_keeps, runs_memory, exits}
 use Rattle.xt_match.proofs.Together.{runs_as}
 use Rattle.xt_keys.proofs.There.{runs_there}
 use Rattle.xt_keys.proofs.values.refused_there.Goals as goal

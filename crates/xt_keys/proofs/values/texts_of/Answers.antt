@@ -1,6 +1,6 @@
 use Rattle.std.proofs.Common.{refl, sym, ap, ◌+◌, ◌∙◌, drop, arith}
 use Rattle.spec_transform.specs.Key.{texts_of}
-use Rattle.xt_ask.proofs.Steps.{runs_stop, runs_memory, runs_from, goes_on, next_turn, exits}
+use Rattle.xt_questions.proofs.Steps.{runs_stop, runs_memory, runs_from, goes_on, next_turn, exits}
 use Rattle.xt_match.proofs.Together.{continues_as}
 use Rattle.xt_keys.proofs.values.texts_of.Goals as goal
 

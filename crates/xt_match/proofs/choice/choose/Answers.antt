@@ -3,9 +3,9 @@ use Rattle.spec_meaning.specs.Question.{Name}
 use Rattle.spec_transform.specs.Choice.{context_for, first_that_matches}
 use Rattle.xp_axes.specs.View.{same_ref}
 use Rattle.xt_match.specs.Context.{units_in}
-use Rattle.xp_syntax.specs.SheetView.{rule_of}
-use Rattle.xt_ask.specs.View.{candidates_of}
-use Rattle.xt_ask.proofs.Steps.{runs_then, runs_stop, exits}
+use Rattle.xt_syntax.specs.SheetView.{rule_of}
+use Rattle.xt_questions.specs.View.{candidates_of}
+use Rattle.xt_questions.proofs.Steps.{runs_then, runs_stop, exits}
 use Rattle.xt_match.proofs.Together.{runs_as, ask_then}
 use Rattle.xt_match.proofs.choice.choose.Goals as goal
 

@@ -2,9 +2,9 @@ use Rattle.std.proofs.Common.{refl, ◌∙◌, arith, map}
 use Rattle.spec_transform.specs.Choice.{context_for, first_that_matches}
 use Rattle.xp_axes.specs.View.{same_ref}
 use Rattle.xt_match.specs.Context.{units_in}
-use Rattle.xp_syntax.specs.SheetView.{rule_of}
-use Rattle.xt_ask.specs.View.{answer_of, candidates_of}
-use Rattle.xt_ask.proofs.Steps.{runs_then, runs_stop, runs_gives, runs_from, goes_on, next_turn, exits}
+use Rattle.xt_syntax.specs.SheetView.{rule_of}
+use Rattle.xt_questions.specs.View.{answer_of, candidates_of}
+use Rattle.xt_questions.proofs.Steps.{runs_then, runs_stop, runs_gives, runs_from, goes_on, next_turn, exits}
 use Rattle.xt_match.proofs.choice.first_that_matches.Goals as goal
 
 pub returns-in_err-is_chosen-clause-runs : goal.returns-in_err-is_chosen-clause-runs

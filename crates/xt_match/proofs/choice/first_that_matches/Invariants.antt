@@ -3,9 +3,9 @@ use Rattle.spec_meaning.specs.Supplies.{at_hand}
 use Rattle.spec_transform.specs.Choice.{context_for, first_that_matches}
 use Rattle.xp_axes.specs.View.{same_ref}
 use Rattle.xt_match.specs.Context.{units_in}
-use Rattle.xp_syntax.specs.SheetView.{rule_of}
-use Rattle.xt_ask.specs.View.{answer_of, candidates_of, supplies_of}
-use Rattle.xt_ask.specs.Runs.{Continues}
+use Rattle.xt_syntax.specs.SheetView.{rule_of}
+use Rattle.xt_questions.specs.View.{answer_of, candidates_of, supplies_of}
+use Rattle.xt_questions.specs.Runs.{Continues}
 use Rattle.xt_match.proofs.choice.first_that_matches.Given as goal
 
 abbrev pub invariant-loop-number : goal.invariant-loop-number

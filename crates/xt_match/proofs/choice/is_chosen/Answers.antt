@@ -1,5 +1,5 @@
 use Rattle.std.proofs.Common.{refl, sym, ◌∙◌}
-use Rattle.xt_ask.proofs.Steps.{runs_gives}
+use Rattle.xt_questions.proofs.Steps.{runs_gives}
 use Rattle.xt_match.specs.Context.{at}
 use Rattle.xt_match.proofs.choice.is_chosen.Goals as goal
 

@@ -1,4 +1,4 @@
-use Rattle.xp_syntax.specs.SheetView.{rule_of}
+use Rattle.xt_syntax.specs.SheetView.{rule_of}
 use Rattle.xt_match.proofs.Scopes.{scope_found, scope_missing}
 use Rattle.xt_match.proofs.choice.scope_for.Goals as goal
 

@@ -4,11 +4,11 @@ use Rattle.spec_meaning.specs.Program.{Program}
 use Rattle.spec_meaning.specs.Supplies.{at_hand}
 use Rattle.spec_transform.specs.Match.{holds_of_one, when_called, matches_steps}
 use Rattle.xp_axes.specs.View.{same_ref}
-use Rattle.xp_syntax.specs.PartView.{pattern_step_of}
+use Rattle.xt_syntax.specs.PartView.{pattern_step_of}
 use Rattle.xt_tree.specs.declared.node_ref.NodeRef.{NodeRef}
-use Rattle.xt_ask.specs.declared.context.Focus.{Focus}
-use Rattle.xt_ask.specs.View.{context_of, supplies_of}
-use Rattle.xt_ask.specs.Runs.{Continues}
+use Rattle.xt_questions.specs.declared.context.Focus.{Focus}
+use Rattle.xt_questions.specs.View.{context_of, supplies_of}
+use Rattle.xt_questions.specs.Runs.{Continues}
 use Rattle.xt_match.proofs.pattern.+matches_steps.Given as goal
 
 abbrev pub decreases-matches_steps : goal.decreases-matches_steps

@@ -1,7 +1,7 @@
 use Rattle.std.proofs.Common.{refl}
 use Rattle.spec_meaning.specs.Question.{Name}
 use Rattle.spec_meaning.specs.Program.{Give}
-use Rattle.xt_ask.proofs.Steps.{runs_gives}
+use Rattle.xt_questions.proofs.Steps.{runs_gives}
 use Rattle.xt_match.proofs.Together.{asks}
 use Rattle.xt_match.proofs.pattern.ask_called.Goals as goal
 

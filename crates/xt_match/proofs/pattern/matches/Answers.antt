@@ -2,9 +2,9 @@ use Rattle.std.proofs.Common.{map}
 use Rattle.spec_meaning.specs.Question.{Name}
 use Rattle.spec_transform.specs.Match.{matches_one}
 use Rattle.xp_axes.specs.View.{same_ref}
-use Rattle.xp_syntax.specs.PartView.{alternative_of}
-use Rattle.xt_ask.specs.View.{context_of}
-use Rattle.xt_ask.proofs.Steps.{runs_then, runs_stop, exits}
+use Rattle.xt_syntax.specs.PartView.{alternative_of}
+use Rattle.xt_questions.specs.View.{context_of}
+use Rattle.xt_questions.proofs.Steps.{runs_then, runs_stop, exits}
 use Rattle.xt_match.proofs.Together.{runs_as, ask_then}
 use Rattle.xt_match.proofs.pattern.matches.Goals as goal
 

@@ -1,9 +1,9 @@
 use Rattle.std.proofs.Common.{refl, ◌∙◌, arith, map}
 use Rattle.spec_transform.specs.Match.{matches_one}
 use Rattle.xp_axes.specs.View.{same_ref}
-use Rattle.xp_syntax.specs.PartView.{alternative_of}
-use Rattle.xt_ask.specs.View.{answer_of, context_of}
-use Rattle.xt_ask.proofs.Steps.{runs_then, runs_stop, runs_gives, runs_from, goes_on, next_turn, exits}
+use Rattle.xt_syntax.specs.PartView.{alternative_of}
+use Rattle.xt_questions.specs.View.{answer_of, context_of}
+use Rattle.xt_questions.proofs.Steps.{runs_then, runs_stop, runs_gives, runs_from, goes_on, next_turn, exits}
 use Rattle.xt_match.proofs.pattern.matches_one.Goals as goal
 
 pub returns-in_err-matches-clause-runs : goal.returns-in_err-matches-clause-runs

@@ -1,4 +1,4 @@
-use Rattle.xt_ask.proofs.Steps.{runs_gives}
+use Rattle.xt_questions.proofs.Steps.{runs_gives}
 use Rattle.xt_match.proofs.pattern.starts_at.Goals as goal
 
 pub returns-in-Root-clause-runs : goal.returns-in-Root-clause-runs

@@ -1,7 +1,7 @@
 use Rattle.std.proofs.Common.{◌≡◌, map, drop}
 use Rattle.spec_expression.specs.Syntax.{exprs, links, steps}
 use Rattle.spec_transform.specs.Position.{one_seeks, operand_seeks, step_seeks}
-use Rattle.xp_syntax.specs.View.{expr_of, link_of, step_of}
+use Rattle.xt_syntax.specs.View.{expr_of, link_of, step_of}
 use Rattle.xt_match.proofs.position.+seeks.Given as goal
 
 abbrev pub invariant-one_seeks-loop-expr : goal.invariant-one_seeks-loop-expr

@@ -1,8 +1,8 @@
 use Rattle.std.proofs.Common.{◌+◌, length, refl, ◌∙◌, arith}
 use Rattle.spec_transform.specs.Match.{all_kept}
-use Rattle.xp_syntax.specs.View.{expr_of}
-use Rattle.xt_ask.specs.View.{context_of}
-use Rattle.xt_ask.proofs.Steps.{runs_then, runs_stop, runs_memory, runs_from, goes_on, next_turn, exits}
+use Rattle.xt_syntax.specs.View.{expr_of}
+use Rattle.xt_questions.specs.View.{context_of}
+use Rattle.xt_questions.proofs.Steps.{runs_then, runs_stop, runs_memory, runs_from, goes_on, next_turn, exits}
 use Rattle.xt_match.proofs.predicate.all_kept.Goals as goal
 
 pub returns-in_err-is_kept-clause-runs : goal.returns-in_err-is_kept-clause-runs

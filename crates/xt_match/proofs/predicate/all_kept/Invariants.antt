@@ -1,10 +1,10 @@
 use Rattle.std.proofs.Common.{◌≡◌, ◌+◌, drop, length, []}
 use Rattle.spec_meaning.specs.Supplies.{at_hand}
 use Rattle.spec_transform.specs.Match.{all_kept}
-use Rattle.xp_syntax.specs.View.{expr_of}
-use Rattle.xt_ask.specs.declared.context.Focus.{Focus}
-use Rattle.xt_ask.specs.View.{context_of, supplies_of}
-use Rattle.xt_ask.specs.Runs.{Continues}
+use Rattle.xt_syntax.specs.View.{expr_of}
+use Rattle.xt_questions.specs.declared.context.Focus.{Focus}
+use Rattle.xt_questions.specs.View.{context_of, supplies_of}
+use Rattle.xt_questions.specs.Runs.{Continues}
 use Rattle.xt_match.proofs.predicate.all_kept.Given as goal
 
 abbrev pub invariant-loop-i : goal.invariant-loop-i

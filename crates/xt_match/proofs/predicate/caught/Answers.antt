@@ -1,6 +1,6 @@
 use Rattle.std.proofs.Common.{Ok, Err}
-use Rattle.xt_ask.specs.declared.fault.EvalFault.TheVariants as faults
-use Rattle.xt_ask.proofs.Steps.{runs_then, runs_stop, runs_gives}
+use Rattle.xt_questions.specs.declared.fault.EvalFault.TheVariants as faults
+use Rattle.xt_questions.proofs.Steps.{runs_then, runs_stop, runs_gives}
 use Rattle.xt_match.proofs.Together.{runs_caught}
 use Rattle.xt_match.proofs.predicate.caught.Goals as goal
 

@@ -1,5 +1,5 @@
 use Rattle.std.proofs.Common.{refl, sym}
-use Rattle.xt_ask.proofs.Steps.{runs_gives}
+use Rattle.xt_questions.proofs.Steps.{runs_gives}
 use Rattle.xt_match.proofs.predicate.is_kept_there.Goals as goal
 
 pub returns-in-None-clause-runs : goal.returns-in-None-clause-runs

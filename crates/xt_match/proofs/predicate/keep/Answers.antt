@@ -1,8 +1,8 @@
 use Rattle.std.proofs.Common.{refl, ap}
 use Rattle.spec_transform.specs.Match.{keep}
 use Rattle.xp_axes.specs.View.{same_ref}
-use Rattle.xt_ask.specs.View.{context_of}
-use Rattle.xt_ask.proofs.Steps.{runs_gives}
+use Rattle.xt_questions.specs.View.{context_of}
+use Rattle.xt_questions.proofs.Steps.{runs_gives}
 use Rattle.xt_match.proofs.Together.{runs_as}
 use Rattle.xt_match.proofs.Views.{no_exprs_left, last_expr}
 use Rattle.xt_match.proofs.predicate.keep.Goals as goal

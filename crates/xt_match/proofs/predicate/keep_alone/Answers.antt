@@ -1,9 +1,9 @@
 use Rattle.std.proofs.Common.{refl, map, ◌∙◌, arith}
 use Rattle.spec_expression.specs.Syntax.{exprs}
 use Rattle.spec_transform.specs.Match.{keep_alone}
-use Rattle.xp_syntax.specs.View.{expr_of}
-use Rattle.xt_ask.specs.View.{context_of}
-use Rattle.xt_ask.proofs.Steps.{runs_then, runs_stop, runs_gives, runs_from, goes_on, next_turn, exits}
+use Rattle.xt_syntax.specs.View.{expr_of}
+use Rattle.xt_questions.specs.View.{context_of}
+use Rattle.xt_questions.proofs.Steps.{runs_then, runs_stop, runs_gives, runs_from, goes_on, next_turn, exits}
 use Rattle.xt_match.proofs.predicate.keep_alone.Goals as goal
 
 pub returns-in_err-is_kept-clause-runs : goal.returns-in_err-is_kept-clause-runs

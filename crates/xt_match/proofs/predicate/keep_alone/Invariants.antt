@@ -2,10 +2,10 @@ use Rattle.std.proofs.Common.{◌≡◌, map, drop}
 use Rattle.spec_expression.specs.Syntax.{exprs}
 use Rattle.spec_meaning.specs.Supplies.{at_hand}
 use Rattle.spec_transform.specs.Match.{keep_alone}
-use Rattle.xp_syntax.specs.View.{expr_of}
-use Rattle.xt_ask.specs.declared.context.Focus.{Focus}
-use Rattle.xt_ask.specs.View.{context_of, supplies_of}
-use Rattle.xt_ask.specs.Runs.{Continues}
+use Rattle.xt_syntax.specs.View.{expr_of}
+use Rattle.xt_questions.specs.declared.context.Focus.{Focus}
+use Rattle.xt_questions.specs.View.{context_of, supplies_of}
+use Rattle.xt_questions.specs.Runs.{Continues}
 use Rattle.xt_match.proofs.predicate.keep_alone.Given as goal
 
 abbrev pub invariant-loop-predicate : goal.invariant-loop-predicate

@@ -2,9 +2,9 @@ use Rattle.std.proofs.Common.{◌+◌, ◌++◌, ◌∷◌, [], map, drop, ◌�
 use Rattle.spec_expression.specs.Syntax.{exprs}
 use Rattle.spec_transform.specs.Match.{keep}
 use Rattle.xp_axes.specs.View.{same_ref}
-use Rattle.xp_syntax.specs.View.{expr_of}
-use Rattle.xt_ask.specs.View.{context_of}
-use Rattle.xt_ask.proofs.Steps.{runs_stop, runs_from, goes_on, next_turn, last_turn, exits}
+use Rattle.xt_syntax.specs.View.{expr_of}
+use Rattle.xt_questions.specs.View.{context_of}
+use Rattle.xt_questions.proofs.Steps.{runs_stop, runs_from, goes_on, next_turn, last_turn, exits}
 use Rattle.xt_match.proofs.Together.{continues_as}
 use Rattle.xt_match.proofs.Turns.{keep_turn}
 use Rattle.xt_match.proofs.predicate.keep_at_last.Goals as goal

@@ -5,9 +5,9 @@ use Rattle.spec_meaning.specs.Question as question
 use Rattle.spec_meaning.specs.Question.{nodes_in}
 use Rattle.spec_transform.specs.Match.{holds_of_one, is_given_below}
 use Rattle.xp_axes.specs.View.{same_ref}
-use Rattle.xp_syntax.specs.View.{step_of}
-use Rattle.xt_ask.specs.View.{context_of}
-use Rattle.xt_ask.proofs.Steps.{runs_then, runs_stop, exits}
+use Rattle.xt_syntax.specs.View.{step_of}
+use Rattle.xt_questions.specs.View.{context_of}
+use Rattle.xt_questions.proofs.Steps.{runs_then, runs_stop, exits}
 use Rattle.xt_match.proofs.Together.{runs_as, ask_then}
 use Rattle.xt_match.proofs.step.is_given.Goals as goal
 

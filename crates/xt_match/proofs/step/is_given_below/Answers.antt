@@ -1,7 +1,7 @@
 use Rattle.std.proofs.Common.{refl}
 use Rattle.xp_axes.specs.View.{same_ref}
-use Rattle.xt_ask.specs.View.{context_of}
-use Rattle.xt_ask.proofs.Steps.{runs_then, runs_stop, runs_memory, exits}
+use Rattle.xt_questions.specs.View.{context_of}
+use Rattle.xt_questions.proofs.Steps.{runs_then, runs_stop, runs_memory, exits}
 use Rattle.xt_match.proofs.Together.{runs_as}
 use Rattle.xt_match.proofs.Turns.{given_below}
 use Rattle.xt_match.proofs.step.is_given_below.Goals as goal

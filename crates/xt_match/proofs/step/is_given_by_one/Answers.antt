@@ -1,9 +1,9 @@
 use Rattle.std.proofs.Common.{refl, ◌∙◌, arith}
 use Rattle.spec_transform.specs.Match.{holds_of_one, is_given_below}
 use Rattle.xp_axes.specs.View.{same_ref}
-use Rattle.xp_syntax.specs.View.{step_of}
-use Rattle.xt_ask.specs.View.{context_of}
-use Rattle.xt_ask.proofs.Steps.{runs_then, runs_stop, runs_gives, runs_from, goes_on, next_turn, exits}
+use Rattle.xt_syntax.specs.View.{step_of}
+use Rattle.xt_questions.specs.View.{context_of}
+use Rattle.xt_questions.proofs.Steps.{runs_then, runs_stop, runs_gives, runs_from, goes_on, next_turn, exits}
 use Rattle.xt_match.proofs.step.is_given_by_one.Goals as goal
 
 pub returns-in_err-is_given-clause-runs : goal.returns-in_err-is_given-clause-runs

@@ -2,10 +2,10 @@ use Rattle.std.proofs.Common.{◌≡◌, drop}
 use Rattle.spec_meaning.specs.Supplies.{at_hand}
 use Rattle.spec_transform.specs.Match.{holds_of_one, is_given_below}
 use Rattle.xp_axes.specs.View.{same_ref}
-use Rattle.xp_syntax.specs.View.{step_of}
-use Rattle.xt_ask.specs.declared.context.Focus.{Focus}
-use Rattle.xt_ask.specs.View.{context_of, supplies_of}
-use Rattle.xt_ask.specs.Runs.{Continues}
+use Rattle.xt_syntax.specs.View.{step_of}
+use Rattle.xt_questions.specs.declared.context.Focus.{Focus}
+use Rattle.xt_questions.specs.View.{context_of, supplies_of}
+use Rattle.xt_questions.specs.Runs.{Continues}
 use Rattle.xt_match.proofs.step.is_given_by_one.Given as goal
 
 abbrev pub invariant-loop-parent : goal.invariant-loop-parent

@@ -2,9 +2,9 @@ use Rattle.std.proofs.Common.{sym, ap, ◌∙◌, map, List}
 use Rattle.spec_expression.specs.Syntax.{exprs}
 use Rattle.spec_transform.specs.Position.{read_no_position}
 use Rattle.xp_axes.specs.View.{same_ref}
-use Rattle.xp_syntax.specs.View.{expr_of}
-use Rattle.xp_syntax.specs.declared.expr.Expr.{Expr}
-use Rattle.xt_ask.specs.View.{context_of}
+use Rattle.xt_syntax.specs.View.{expr_of}
+use Rattle.xt_syntax.specs.declared.expr.Expr.{Expr}
+use Rattle.xt_questions.specs.View.{context_of}
 use Rattle.xt_match.proofs.Together.{runs_as}
 use Rattle.xt_match.proofs.Views.{asked_alone, asked_among}
 use Rattle.xt_match.proofs.step.passes_predicates.Goals as goal

@@ -1,7 +1,7 @@
 use Rattle.std.proofs.Common.{refl, sym, ◌∙◌}
 use Rattle.xp_axes.specs.View.{same_ref}
-use Rattle.xt_ask.specs.View.{answer_of, context_of}
-use Rattle.xt_ask.proofs.Steps.{runs_gives}
+use Rattle.xt_questions.specs.View.{answer_of, context_of}
+use Rattle.xt_questions.proofs.Steps.{runs_gives}
 use Rattle.xt_match.proofs.Views.{passes_so}
 use Rattle.xt_match.proofs.step.passes_step.Goals as goal
 

@@ -2,7 +2,7 @@ use Rattle.std.proofs.Common.{refl}
 use Rattle.spec_meaning.specs.Question.{Name}
 use Rattle.spec_meaning.specs.Program.{Give}
 use Rattle.spec_transform.specs.Numbering.{CalledAs}
-use Rattle.xt_ask.proofs.Steps.{runs_gives}
+use Rattle.xt_questions.proofs.Steps.{runs_gives}
 use Rattle.xt_match.proofs.Together.{asks}
 use Rattle.xt_number.proofs.counted.counted_by.Goals as goal
 

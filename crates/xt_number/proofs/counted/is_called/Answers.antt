@@ -1,8 +1,8 @@
 use Rattle.spec_meaning.specs.Question.{Name}
 use Rattle.spec_meaning.specs.Program.{Give}
 use Rattle.spec_transform.specs.Numbering.{called_alike}
-use Rattle.xt_ask.specs.View.{answer_of}
-use Rattle.xt_ask.proofs.Steps.{runs_gives}
+use Rattle.xt_questions.specs.View.{answer_of}
+use Rattle.xt_questions.proofs.Steps.{runs_gives}
 use Rattle.xt_match.proofs.Together.{asks}
 use Rattle.xt_number.proofs.counted.is_called.Goals as goal
 

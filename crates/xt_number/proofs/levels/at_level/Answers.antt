@@ -1,4 +1,4 @@
-use Rattle.xt_ask.proofs.Steps.{runs_then, runs_stop, exits}
+use Rattle.xt_questions.proofs.Steps.{runs_then, runs_stop, exits}
 use Rattle.xt_number.proofs.levels.at_level.Goals as goal
 
 pub returns-in_err-nodes-in-Single-clause-runs : goal.returns-in_err-nodes-in-Single-clause-runs

@@ -2,9 +2,9 @@ use Rattle.std.proofs.Common.{◌≡◌, ◌≤◌, ◌+◌, drop}
 use Rattle.spec_meaning.specs.Supplies.{at_hand}
 use Rattle.spec_transform.specs.Numbering.{how_many, is_counted}
 use Rattle.xp_axes.specs.View.{same_ref}
-use Rattle.xt_ask.specs.declared.context.Focus.{Focus}
-use Rattle.xt_ask.specs.View.{context_of, supplies_of}
-use Rattle.xt_ask.specs.Runs.{Continues}
+use Rattle.xt_questions.specs.declared.context.Focus.{Focus}
+use Rattle.xt_questions.specs.View.{context_of, supplies_of}
+use Rattle.xt_questions.specs.Runs.{Continues}
 use Rattle.xt_number.specs.View.{counted_of}
 use Rattle.xt_number.proofs.levels.how_many.Given as goal
 

@@ -1,4 +1,4 @@
-use Rattle.xt_ask.proofs.Steps.{runs_then, runs_stop, exits}
+use Rattle.xt_questions.proofs.Steps.{runs_then, runs_stop, exits}
 use Rattle.xp_values.proofs.Faults.{given_so}
 use Rattle.xt_number.proofs.levels.number_among.Goals as goal
 

@@ -1,4 +1,4 @@
-use Rattle.xt_ask.proofs.Steps.{runs_then, runs_stop, exits}
+use Rattle.xt_questions.proofs.Steps.{runs_then, runs_stop, exits}
 use Rattle.xt_number.proofs.levels.numbers.Goals as goal
 
 pub returns-in_err-refer_to_all-clause-runs : goal.returns-in_err-refer_to_all-clause-runs

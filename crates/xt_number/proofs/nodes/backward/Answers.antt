@@ -1,9 +1,9 @@
 use Rattle.std.proofs.Common.{refl, ap, ◌∷◌, ◌∙◌}
 use Rattle.std.specs.Option.{option_map}
 use Rattle.xp_axes.specs.View.{same_ref}
-use Rattle.xp_syntax.specs.PartView.{pattern_of}
-use Rattle.xt_ask.specs.View.{context_of}
-use Rattle.xt_ask.proofs.Steps.{runs_then, runs_stop, runs_gives, runs_memory, exits}
+use Rattle.xt_syntax.specs.PartView.{pattern_of}
+use Rattle.xt_questions.specs.View.{context_of}
+use Rattle.xt_questions.proofs.Steps.{runs_then, runs_stop, runs_gives, runs_memory, exits}
 use Rattle.xt_match.proofs.Together.{runs_as}
 use Rattle.xt_number.proofs.Turns.{around_first}
 use Rattle.xt_number.proofs.nodes.backward.Goals as goal

@@ -1,7 +1,7 @@
 use Rattle.std.proofs.Common.{refl, reverse}
 use Rattle.spec_meaning.specs.Question.{Order, nodes_in}
 use Rattle.spec_meaning.specs.Program.{Give}
-use Rattle.xt_ask.proofs.Steps.{runs_then, runs_stop, runs_gives, exits}
+use Rattle.xt_questions.proofs.Steps.{runs_then, runs_stop, runs_gives, exits}
 use Rattle.xt_match.proofs.Together.{runs_as, ask_then}
 use Rattle.xt_number.proofs.nodes.nearest_first.Goals as goal
 

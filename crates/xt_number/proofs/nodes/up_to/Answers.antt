@@ -1,9 +1,9 @@
 use Rattle.std.proofs.Common.{refl, ◌∙◌, arith}
 use Rattle.spec_transform.specs.Numbering.{matches_there, up_to}
 use Rattle.xp_axes.specs.View.{same_ref}
-use Rattle.xp_syntax.specs.PartView.{pattern_of}
-use Rattle.xt_ask.specs.View.{context_of}
-use Rattle.xt_ask.proofs.Steps.{runs_then, runs_stop, runs_gives, runs_memory, runs_from, goes_on, next_turn, last_turn, exits}
+use Rattle.xt_syntax.specs.PartView.{pattern_of}
+use Rattle.xt_questions.specs.View.{context_of}
+use Rattle.xt_questions.proofs.Steps.{runs_then, runs_stop, runs_gives, runs_memory, runs_from, goes_on, next_turn, last_turn, exits}
 use Rattle.xt_number.proofs.Turns.{at}
 use Rattle.xt_number.proofs.nodes.up_to.Goals as goal
 

@@ -2,10 +2,10 @@ use Rattle.std.proofs.Common.{◌≡◌, drop, []}
 use Rattle.spec_meaning.specs.Supplies.{at_hand}
 use Rattle.spec_transform.specs.Numbering.{matches_there, up_to}
 use Rattle.xp_axes.specs.View.{same_ref}
-use Rattle.xp_syntax.specs.PartView.{pattern_of}
-use Rattle.xt_ask.specs.declared.context.Focus.{Focus}
-use Rattle.xt_ask.specs.View.{context_of, supplies_of}
-use Rattle.xt_ask.specs.Runs.{Continues}
+use Rattle.xt_syntax.specs.PartView.{pattern_of}
+use Rattle.xt_questions.specs.declared.context.Focus.{Focus}
+use Rattle.xt_questions.specs.View.{context_of, supplies_of}
+use Rattle.xt_questions.specs.Runs.{Continues}
 use Rattle.xt_number.proofs.nodes.up_to.Given as goal
 
 abbrev pub invariant-loop-node : goal.invariant-loop-node

@@ -1,5 +1,5 @@
 use Rattle.std.proofs.Common.{refl, ap, ◌∷◌, ◌∙◌}
-use Rattle.xt_ask.proofs.Steps.{runs_then, runs_stop, runs_gives, runs_memory, exits}
+use Rattle.xt_questions.proofs.Steps.{runs_then, runs_stop, runs_gives, runs_memory, exits}
 use Rattle.xt_number.proofs.nodes.upward.Goals as goal
 
 pub returns-in_err-above-clause-runs : goal.returns-in_err-above-clause-runs

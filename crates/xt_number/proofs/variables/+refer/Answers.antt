@@ -1,9 +1,9 @@
 use Rattle.std.proofs.Common.{refl, sym, map, ◌∙◌, arith}
 use Rattle.spec_expression.specs.Syntax.{exprs, links, steps}
 use Rattle.spec_transform.specs.Numbering.{names_in_all, names_in_links, names_in_steps, referred_to}
-use Rattle.xp_syntax.specs.View.{expr_of, link_of, step_of}
-use Rattle.xt_ask.specs.View.{context_of}
-use Rattle.xt_ask.proofs.Steps.{runs_then, runs_stop, runs_gives, runs_from, goes_on, next_turn, exits}
+use Rattle.xt_syntax.specs.View.{expr_of, link_of, step_of}
+use Rattle.xt_questions.specs.View.{context_of}
+use Rattle.xt_questions.proofs.Steps.{runs_then, runs_stop, runs_gives, runs_from, goes_on, next_turn, exits}
 use Rattle.xt_match.proofs.Together.{continues_as, runs_as}
 use Rattle.xt_number.proofs.Referring.{both, turn_of_all, turn_of_links, turn_of_steps}
 use Rattle.xt_number.proofs.Views.{view-Number, view-Literal, view-Variable, view-Call, view-Chain, view-Filter, view-Path}

@@ -2,9 +2,9 @@ use Rattle.std.proofs.Common.{◌≡◌, drop, map}
 use Rattle.spec_expression.specs.Syntax.{exprs, links, steps}
 use Rattle.spec_meaning.specs.Supplies.{at_hand}
 use Rattle.spec_transform.specs.Numbering.{names_in_all, names_in_links, names_in_steps, referred_to}
-use Rattle.xp_syntax.specs.View.{expr_of, link_of, step_of}
-use Rattle.xt_ask.specs.View.{context_of, supplies_of}
-use Rattle.xt_ask.specs.Runs.{Continues}
+use Rattle.xt_syntax.specs.View.{expr_of, link_of, step_of}
+use Rattle.xt_questions.specs.View.{context_of, supplies_of}
+use Rattle.xt_questions.specs.Runs.{Continues}
 use Rattle.xt_number.proofs.variables.+refer.Given as goal
 
 abbrev pub invariant-refer_in_all-loop-expr : goal.invariant-refer_in_all-loop-expr

@@ -1,7 +1,7 @@
 use Rattle.std.proofs.Common.{◌+◌, drop, ◌∙◌, arith}
 use Rattle.spec_transform.specs.Numbering.{referred_to}
-use Rattle.xt_ask.specs.View.{context_of}
-use Rattle.xt_ask.proofs.Steps.{runs_stop, runs_from, goes_on, next_turn, exits}
+use Rattle.xt_questions.specs.View.{context_of}
+use Rattle.xt_questions.proofs.Steps.{runs_stop, runs_from, goes_on, next_turn, exits}
 use Rattle.xt_match.proofs.Together.{continues_as}
 use Rattle.xt_number.proofs.Referring.{names_in_pattern_steps, turn_of_pattern_steps}
 use Rattle.xt_number.proofs.variables.refer_in_alternative.Goals as goal

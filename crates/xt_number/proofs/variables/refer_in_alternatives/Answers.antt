@@ -1,9 +1,9 @@
 use Rattle.std.proofs.Common.{◌+◌, drop, map, ◌∙◌, arith}
 use Rattle.std.specs.List.{flat_map}
 use Rattle.spec_transform.specs.Numbering.{names_in_alternative, referred_to}
-use Rattle.xp_syntax.specs.PartView.{alternative_of}
-use Rattle.xt_ask.specs.View.{context_of}
-use Rattle.xt_ask.proofs.Steps.{runs_stop, runs_from, goes_on, next_turn, exits}
+use Rattle.xt_syntax.specs.PartView.{alternative_of}
+use Rattle.xt_questions.specs.View.{context_of}
+use Rattle.xt_questions.proofs.Steps.{runs_stop, runs_from, goes_on, next_turn, exits}
 use Rattle.xt_match.proofs.Together.{continues_as}
 use Rattle.xt_number.proofs.Referring.{turn_of_alternatives}
 use Rattle.xt_number.proofs.variables.refer_in_alternatives.Goals as goal

@@ -1,5 +1,5 @@
 use Rattle.std.proofs.Common.{refl}
-use Rattle.xt_ask.proofs.Steps.{runs_gives}
+use Rattle.xt_questions.proofs.Steps.{runs_gives}
 use Rattle.xt_number.proofs.variables.refer_in_pattern.Goals as goal
 
 pub returns-in-None-clause-runs : goal.returns-in-None-clause-runs

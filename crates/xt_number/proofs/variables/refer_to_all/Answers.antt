@@ -1,5 +1,5 @@
 use Rattle.std.proofs.Common.{sym}
-use Rattle.xt_ask.proofs.Steps.{runs_then, runs_stop, exits}
+use Rattle.xt_questions.proofs.Steps.{runs_then, runs_stop, exits}
 use Rattle.xt_match.proofs.Together.{runs_as}
 use Rattle.xt_number.proofs.Referring.{both}
 use Rattle.xt_number.proofs.variables.refer_to_all.Goals as goal

@@ -3,7 +3,7 @@ use Rattle.spec_expression.specs.Token.{Token, Slash, SlashSlash, Name, Open}
 use Rattle.spec_stylesheet.specs.declared.pattern.Start.TheVariants.{Root}
 use Rattle.xt_pattern.specs.Reading.{IsHead}
 use Rattle.spec_static.specs.PatternGrammar.{ReadsAlternative, ReadsHead}
-use Rattle.xp_syntax.specs.PartView.{pattern_step_of}
+use Rattle.xt_syntax.specs.PartView.{pattern_step_of}
 use Rattle.xp_parse.specs.Reading.{Nothing, IsNext}
 use Rattle.xp_parse.proofs.Places.{at_read, at_nothing, next_two}
 use Rattle.xp_parse.proofs.Lists.{behind_nothing_read, behind_nothing_fail}

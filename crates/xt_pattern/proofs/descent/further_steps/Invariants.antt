@@ -1,6 +1,6 @@
 use Rattle.std.proofs.Common.{◌≤◌, length, map, ◌-◌}
 use Rattle.spec_static.specs.PatternGrammar.{ReadsFurtherSteps}
-use Rattle.xp_syntax.specs.PartView.{pattern_step_of}
+use Rattle.xt_syntax.specs.PartView.{pattern_step_of}
 use Rattle.xp_parse.specs.Reading.{left}
 use Rattle.xp_parse.proofs.Lists.{Growing}
 use Rattle.xt_pattern.proofs.descent.further_steps.Given as goal

@@ -1,6 +1,6 @@
 use Rattle.std.proofs.Common.{◌≤◌, length, map, ◌-◌}
 use Rattle.spec_static.specs.PatternGrammar.{ReadsOthers}
-use Rattle.xp_syntax.specs.PartView.{alternative_of}
+use Rattle.xt_syntax.specs.PartView.{alternative_of}
 use Rattle.xp_parse.specs.Reading.{left}
 use Rattle.xp_parse.proofs.Lists.{Growing}
 use Rattle.xt_pattern.proofs.descent.others.Given as goal

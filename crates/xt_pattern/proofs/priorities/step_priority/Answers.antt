@@ -1,6 +1,6 @@
 use Rattle.std.proofs.Common.{ℕ, ap, sym, ◌∙◌}
 use Rattle.std.specs.Prelude.{◌==◌}
-use Rattle.xp_syntax.specs.View.{step_of}
+use Rattle.xt_syntax.specs.View.{step_of}
 use Rattle.xt_pattern.proofs.Views.{predicates-of, no_lone_test}
 use Rattle.xt_pattern.proofs.priorities.step_priority.Goals as goal
 

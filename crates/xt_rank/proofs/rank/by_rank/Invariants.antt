@@ -1,7 +1,7 @@
 use Rattle.std.proofs.Common.{◌≡◌, List, ◌++◌, length, map}
 use Rattle.spec_compile.specs.Sheet as spec
-use Rattle.xp_syntax.specs.SheetView.{rule_of}
-use Rattle.xp_syntax.specs.declared.rule.Rule.{Rule}
+use Rattle.xt_syntax.specs.SheetView.{rule_of}
+use Rattle.xt_syntax.specs.declared.rule.Rule.{Rule}
 use Rattle.xt_rank.specs.Rank.{AreRanked, ranked_rules}
 use Rattle.xt_rank.proofs.rank.by_rank.Given as goal
 

@@ -1,6 +1,6 @@
 use Rattle.std.proofs.Common.{◌≡◌, ◌++◌, map}
 use Rattle.spec_compile.specs.Sheet as spec
-use Rattle.xp_syntax.specs.SheetView.{rule_of}
+use Rattle.xt_syntax.specs.SheetView.{rule_of}
 use Rattle.xt_rank.proofs.rank.in_rank.Given as goal
 
 abbrev pub invariant-loop-rule : goal.invariant-loop-rule

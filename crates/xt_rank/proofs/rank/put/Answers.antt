@@ -1,5 +1,5 @@
 use Rattle.std.proofs.Common.{ap, subst, List, ◌∙◌, sym, arith}
-use Rattle.xp_syntax.specs.declared.rule.Rule.{Rule}
+use Rattle.xt_syntax.specs.declared.rule.Rule.{Rule}
 use Rattle.xt_rank.specs.Rank.{IsRanked, AreRanked, Rank, ranked_rules}
 use Rattle.xt_rank.proofs.Ranking.{inserted, inserted_ranked}
 use Rattle.xt_rank.proofs.rank.put.Goals as goal

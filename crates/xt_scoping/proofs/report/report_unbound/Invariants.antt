@@ -3,7 +3,7 @@ use Rattle.std.specs.Prelude.{◌||◌}
 use Rattle.std.specs.List.{flat_map}
 use Rattle.spec_expression.specs.declared.code.StaticCode.TheVariants as code
 use Rattle.spec_compile.specs.Scoping.{if_so, is_named}
-use Rattle.xp_syntax.specs.PartView.{site_of}
+use Rattle.xt_syntax.specs.PartView.{site_of}
 use Rattle.xt_scoping.specs.View.{found_in}
 use Rattle.xt_scoping.proofs.report.report_unbound.Given as goal
 

@@ -1,7 +1,7 @@
 use Rattle.std.proofs.Common.{List, ◌++◌, ap, sym, ◌∙◌}
 use Rattle.std.specs.List.{flat_map}
 use Rattle.spec_compile.specs.Scoping.{set_in}
-use Rattle.xt_units.specs.View.{top_level_in}
+use Rattle.xt_top_level.specs.View.{top_level_in}
 use Rattle.xt_scoping.specs.Steps.{outline_at, uses_at}
 use Rattle.xt_scoping.specs.Told.{itself_at}
 use Rattle.xt_scoping.specs.View.{found_in}

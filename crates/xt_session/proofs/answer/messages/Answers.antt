@@ -1,6 +1,6 @@
 use Rattle.std.proofs.Common.{◌∙◌, ap}
 use Rattle.spec_session.specs.Machine.{messages_reply}
-use Rattle.xt_repair.specs.View.{outcome_in}
+use Rattle.xt_held.specs.View.{outcome_in}
 use Rattle.xt_wire.specs.View.{reply_of}
 use Rattle.xt_session.specs.State.{state_of}
 use Rattle.xt_session.proofs.Answering.{if_ok_map, gives_messages}

@@ -1,7 +1,7 @@
 use Rattle.std.proofs.Common.{refl, ◌∙◌, ap}
 use Rattle.spec_session.specs.Machine.{change_reply}
 use Rattle.spec_session.specs.Reply.{reply_text}
-use Rattle.xt_repair.specs.View.{next_documents, next_made, next_outcome}
+use Rattle.xt_held.specs.View.{next_documents, next_made, next_outcome}
 use Rattle.xt_session.specs.State.{state_of}
 use Rattle.xt_session.proofs.Answering.{gives_changed}
 use Rattle.xt_session.proofs.changes.adopt.Goals as goal

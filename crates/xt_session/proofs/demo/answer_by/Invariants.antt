@@ -1,5 +1,5 @@
 use Rattle.std.proofs.Common.{length}
-use Rattle.xt_repair.specs.View.{IsCurrent}
+use Rattle.xt_held.specs.View.{IsCurrent}
 use Rattle.xt_session.specs.State.{state_of}
 use Rattle.xt_session.specs.Counting.{IsSmall}
 use Rattle.xt_session.proofs.Counting.{HasCounted}

@@ -1,6 +1,6 @@
 use Rattle.std.proofs.Common.{◌≡◌}
 use Rattle.spec_lines.specs.Lines.{allowance}
-use Rattle.xt_repair.specs.View.{IsCurrent}
+use Rattle.xt_held.specs.View.{IsCurrent}
 use Rattle.xt_session.specs.State.{state_of}
 use Rattle.xt_session.proofs.Serving.{IsServing}
 use Rattle.xt_session.proofs.session.serve.Given as goal

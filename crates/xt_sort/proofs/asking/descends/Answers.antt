@@ -1,5 +1,5 @@
 use Rattle.spec_transform.specs.Sorted.{second_of}
-use Rattle.xt_ask.proofs.Steps.{runs_then, runs_stop, exits}
+use Rattle.xt_questions.proofs.Steps.{runs_then, runs_stop, exits}
 use Rattle.xt_avt.proofs.Joining.{runs_as}
 use Rattle.xt_sort.proofs.Words.{ascending_chars, descending_chars}
 use Rattle.xt_sort.proofs.asking.descends.Goals as goal

@@ -1,5 +1,5 @@
 use Rattle.spec_transform.specs.Sorted.{second_of}
-use Rattle.xt_ask.proofs.Steps.{runs_then, runs_stop, exits}
+use Rattle.xt_questions.proofs.Steps.{runs_then, runs_stop, exits}
 use Rattle.xt_avt.proofs.Joining.{runs_as}
 use Rattle.xt_sort.proofs.Words.{text_chars, number_chars}
 use Rattle.xt_sort.proofs.asking.is_number.Goals as goal

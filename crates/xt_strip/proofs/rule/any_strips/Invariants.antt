@@ -1,6 +1,6 @@
 use Rattle.std.proofs.Common.{◌≡◌, map, drop}
 use Rattle.std.specs.List.{list_any}
-use Rattle.xp_syntax.specs.SheetView.{space_rule_of}
+use Rattle.xt_syntax.specs.SheetView.{space_rule_of}
 use Rattle.xt_strip.proofs.rule.any_strips.Given as goal
 
 abbrev pub invariant-loop-rule : goal.invariant-loop-rule

@@ -1,7 +1,7 @@
 use Rattle.std.proofs.Common.{◌≡◌, None, map, drop}
 use Rattle.std.specs.Option.{option_map}
 use Rattle.spec_seen.specs.Seen as spec
-use Rattle.xp_syntax.specs.SheetView.{space_rule_of}
+use Rattle.xt_syntax.specs.SheetView.{space_rule_of}
 use Rattle.xt_strip.proofs.rule.rule_for.Given as goal
 
 abbrev pub invariant-loop-rule : goal.invariant-loop-rule

@@ -1,7 +1,7 @@
 use Rattle.std.proofs.Common.{◌≡◌, map, sym, ap, ◌∙◌, subst}
 use Rattle.std.specs.Option.{unwrap_or}
 use Rattle.spec_seen.specs.Seen as spec
-use Rattle.xp_syntax.specs.SheetView.{space_rule_of}
+use Rattle.xt_syntax.specs.SheetView.{space_rule_of}
 use Rattle.xt_tree.specs.Thinned.{LosesNodes}
 use Rattle.xt_tree.specs.View.{forest_of}
 use Rattle.xt_strip.proofs.Siblings.{nodes_lost}

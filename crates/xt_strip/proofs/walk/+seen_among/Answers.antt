@@ -2,7 +2,7 @@ use Rattle.std.proofs.Common.{◌≡◌, ℕ, map, subst, arith}
 use Rattle.spec_document.specs.Forest as forest
 use Rattle.spec_document.specs.Forest.{Forest}
 use Rattle.spec_seen.specs.Seen as spec
-use Rattle.xp_syntax.specs.SheetView.{space_rule_of}
+use Rattle.xt_syntax.specs.SheetView.{space_rule_of}
 use Rattle.xt_tree.specs.View.{tree_of}
 use Rattle.xt_tree.specs.declared.node.Node.{Node}
 use Rattle.xt_strip.specs.View.{around_of, before}

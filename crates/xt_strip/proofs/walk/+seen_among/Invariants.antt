@@ -2,7 +2,7 @@ use Rattle.std.proofs.Common.{◌≡◌, drop, map, take}
 use Rattle.std.specs.Option.{unwrap_or}
 use Rattle.spec_document.specs.Forest.{followed}
 use Rattle.spec_seen.specs.Seen as spec
-use Rattle.xp_syntax.specs.SheetView.{space_rule_of}
+use Rattle.xt_syntax.specs.SheetView.{space_rule_of}
 use Rattle.xt_strip.specs.View.{around_of}
 use Rattle.xt_tree.specs.View.{forest_of}
 use Rattle.xt_strip.proofs.walk.+seen_among.Given as goal

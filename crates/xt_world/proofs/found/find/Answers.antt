@@ -4,7 +4,7 @@ use Rattle.spec_document.specs.Order.{entries_of}
 use Rattle.spec_run.specs.World.{keyed_at}
 use Rattle.xp_axes.specs.View.{ref_of, same_ref}
 use Rattle.xt_match.specs.Context.{units_in}
-use Rattle.xt_plain.specs.View.{truth_of}
+use Rattle.xt_document_world.specs.View.{truth_of}
 use Rattle.xt_tree.specs.declared.node_ref.NodeRef.{NodeRef}
 use Rattle.xt_world.specs.KeyView.{IsFoundBy, answer_found, keyed_in}
 use Rattle.xt_world.specs.declared.found.Found.{Found}

@@ -1,7 +1,7 @@
 use Rattle.std.proofs.Common.{◌≡◌, ◌++◌, drop, map}
 use Rattle.spec_stylesheet.specs.Instruction.{instrs, branches, bindings}
 use Rattle.spec_run.specs.World.{called_in, called_in_branches, called_in_bindings, used_in, used_in_branches, used_in_bindings}
-use Rattle.xp_syntax.specs.InstrView.{instr_of, branch_of, binding_of}
+use Rattle.xt_syntax.specs.InstrView.{instr_of, branch_of, binding_of}
 use Rattle.xt_world.proofs.naming.+naming.Given as goal
 
 abbrev pub invariant-in_content-loop-instr : goal.invariant-in_content-loop-instr

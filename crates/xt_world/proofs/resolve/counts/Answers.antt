@@ -3,7 +3,7 @@ use Rattle.spec_document.specs.Name.{Expanded}
 use Rattle.spec_stylesheet.specs.Sheet as sheet
 use Rattle.spec_stylesheet.specs.Place.{Place}
 use Rattle.spec_run.specs.World as definition
-use Rattle.xp_syntax.specs.SheetView.{declared_of, unit_of}
+use Rattle.xt_syntax.specs.SheetView.{declared_of, unit_of}
 use Rattle.xt_world.specs.Units.{plain_units}
 use Rattle.xt_world.proofs.resolve.counts.Goals as goal
 

@@ -2,7 +2,7 @@ use Rattle.std.proofs.Common.{◌+◌, ◌++◌, ◌∙◌, None, List, sym, ap,
 use Rattle.std.proofs.lemmas.List.{at_drop_more, append_assoc}
 use Rattle.spec_document.specs.Name.{Expanded}
 use Rattle.spec_run.specs.World as definition
-use Rattle.xt_ask.specs.View.{template_of}
+use Rattle.xt_questions.specs.View.{template_of}
 use Rattle.xt_world.specs.Numbered.{element_called}
 use Rattle.xt_world.specs.Units.{plain_units}
 use Rattle.xt_world.proofs.resolve.templates_called.Goals as goal

@@ -1,6 +1,6 @@
 use Rattle.std.proofs.Common.{◌≡◌, ◌++◌, drop, map}
 use Rattle.spec_run.specs.World as definition
-use Rattle.xt_ask.specs.View.{template_of}
+use Rattle.xt_questions.specs.View.{template_of}
 use Rattle.xt_world.specs.Numbered.{element_called}
 use Rattle.xt_world.specs.Units.{plain_units}
 use Rattle.xt_world.proofs.resolve.templates_called.Given as goal

@@ -1,5 +1,5 @@
 use Rattle.std.proofs.Common.{◌≡◌, drop}
-use Rattle.xp_syntax.specs.PartView.{place_of}
+use Rattle.xt_syntax.specs.PartView.{place_of}
 use Rattle.xt_world.specs.Numbered.{index_from}
 use Rattle.xt_world.specs.Units.{plain_units}
 use Rattle.xt_world.proofs.resolve.turn_of.Given as goal

@@ -1,7 +1,7 @@
 use Rattle.std.proofs.Common.{◌≡◌, List, ap, ◌∙◌}
 use Rattle.std.proofs.lemmas.Result.{IfOk-weaker}
-use Rattle.xt_ask.specs.View.{answer_of}
-use Rattle.xt_ask.specs.declared.answer.Answer.{Answer}
+use Rattle.xt_questions.specs.View.{answer_of}
+use Rattle.xt_questions.specs.declared.answer.Answer.{Answer}
 use Rattle.xt_match.specs.Context.{units_in}
 use Rattle.xt_world.specs.KeyView.{answer_found, keyed_in}
 use Rattle.xt_world.specs.SourceView.{source_in}

@@ -4,8 +4,8 @@ use Rattle.std.specs.List.{list_any}
 use Rattle.spec_document.specs.Name.{Expanded}
 use Rattle.spec_run.specs.Meaning.{NamedGlobal}
 use Rattle.spec_run.specs.World.{is_global}
-use Rattle.xp_syntax.specs.SheetView.{declared_of, global_of, unit_of}
-use Rattle.xt_run.specs.View.{named_of}
+use Rattle.xt_syntax.specs.SheetView.{declared_of, global_of, unit_of}
+use Rattle.xt_engine.specs.View.{named_of}
 use Rattle.xt_tree.specs.declared.node_ref.NodeRef.{NodeRef}
 use Rattle.xt_world.specs.Numbered.{element_called}
 use Rattle.xt_world.specs.Units.{plain_units}

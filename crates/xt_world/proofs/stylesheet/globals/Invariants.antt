@@ -1,5 +1,5 @@
 use Rattle.std.proofs.Common.{◌≡◌, ◌++◌, length, map}
-use Rattle.xt_run.specs.View.{named_of}
+use Rattle.xt_engine.specs.View.{named_of}
 use Rattle.xt_world.specs.Units.{globals_among, plain_units}
 use Rattle.xt_world.proofs.stylesheet.globals.Given as goal
 

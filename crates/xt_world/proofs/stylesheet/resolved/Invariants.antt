@@ -1,8 +1,8 @@
 use Rattle.std.proofs.Common.{◌≡◌, ◌++◌, map, drop}
 use Rattle.std.specs.declared.rc.Rc.{Rc}
 use Rattle.std.specs.Global.{Global}
-use Rattle.xt_ask.specs.View.{resolved_of}
-use Rattle.xt_ask.specs.declared.answer.ResolvedUnit.{ResolvedUnit}
+use Rattle.xt_questions.specs.View.{resolved_of}
+use Rattle.xt_questions.specs.declared.answer.ResolvedUnit.{ResolvedUnit}
 use Rattle.xt_world.specs.Units.{plain_aliases, plain_units, resolved_among}
 use Rattle.xt_world.proofs.stylesheet.resolved.Given as goal
 

@@ -1,5 +1,5 @@
 use Rattle.std.proofs.Common.{◌≡◌, ◌++◌, map}
-use Rattle.xp_syntax.specs.SheetView.{unit_of}
+use Rattle.xt_syntax.specs.SheetView.{unit_of}
 use Rattle.xt_world.specs.Units.{plain_units}
 use Rattle.xt_world.proofs.stylesheet.shared.Given as goal
 

@@ -1,7 +1,7 @@
 use Rattle.std.proofs.Common.{◌≡◌, ◌∙◌}
 use Rattle.std.proofs.lemmas.Result.{IfOk-weaker}
-use Rattle.xt_ask.specs.View.{answer_of, question_of}
-use Rattle.xt_ask.specs.declared.answer.Answer.{Answer}
+use Rattle.xt_questions.specs.View.{answer_of, question_of}
+use Rattle.xt_questions.specs.declared.answer.Answer.{Answer}
 use Rattle.xt_world.specs.ParameterView.{parameters_of}
 use Rattle.xt_world.specs.SourceView.{source_of}
 use Rattle.xt_world.specs.View.{truth_over}

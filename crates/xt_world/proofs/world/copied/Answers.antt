@@ -1,7 +1,7 @@
 use Rattle.std.proofs.Common.{sym, ◌∙◌}
 use Rattle.spec_meaning.specs.Question.{Copied}
 use Rattle.spec_run.specs.Copy.{copy_of}
-use Rattle.xt_plain.proofs.Told.{told_none}
+use Rattle.xt_document_world.proofs.Told.{told_none}
 use Rattle.xt_world.proofs.world.copied.Goals as goal
 
 pub returns-then-not-branch : goal.returns-then-not-branch

@@ -1,4 +1,4 @@
-use Rattle.xt_ask.specs.View.{question_of}
+use Rattle.xt_questions.specs.View.{question_of}
 use Rattle.xt_world.specs.SourceView.{source_of}
 use Rattle.xt_world.proofs.Holding.{truth_stays}
 use Rattle.xt_world.proofs.world.of_source.Goals as goal

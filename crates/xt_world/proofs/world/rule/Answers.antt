@@ -1,9 +1,9 @@
 use Rattle.std.proofs.Common.{◌≡◌, ℕ, List, Option, map, refl, ap}
 use Rattle.std.proofs.lemmas.Result.{IfOk-weaker}
 use Rattle.spec_meaning.specs.Program.{Gives}
-use Rattle.xt_ask.specs.View.{candidates_of, known_of}
-use Rattle.xt_ask.specs.declared.context.Known.{Known}
-use Rattle.xt_ask.proofs.Steps.{runs_keeps}
+use Rattle.xt_questions.specs.View.{candidates_of, known_of}
+use Rattle.xt_questions.specs.declared.context.Known.{Known}
+use Rattle.xt_questions.proofs.Steps.{runs_keeps}
 use Rattle.xt_world.specs.SourceView.{source_of}
 use Rattle.xt_world.specs.View.{GivesNumber, rule_held, said_of}
 use Rattle.xt_world.proofs.Choosing.{chosen_is, nothing}

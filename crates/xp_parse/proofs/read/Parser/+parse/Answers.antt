@@ -12,7 +12,7 @@ use Rattle.spec_expression.specs.Token.{SlashSlash, Dot, DotDot, Binary, Name, V
 use Rattle.spec_expression.specs.Syntax as tree
 use Rattle.spec_expression.specs.Grammar.{Chain, or, and, equality, relational, additive, multiplicative}
 use Rattle.spec_expression.specs.Grammar.{union, Signs, no_sign, no_link, type_of, expanded, ReadsPrimary}
-use Rattle.xp_syntax.specs.View.{expr_of, step_of}
+use Rattle.xt_syntax.specs.View.{expr_of, step_of}
 use Rattle.xp_parse.specs.View.{name_of}
 use Rattle.xp_parse.specs.declared.read.Head.{Head}
 use Rattle.xp_parse.specs.Reading.{left, Begins, Read, Nothing, IsNext}

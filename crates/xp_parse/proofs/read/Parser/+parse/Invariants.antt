@@ -1,7 +1,7 @@
 use Rattle.std.proofs.Common.{◌≡◌, ◌≤◌, ◌<◌, length, map, ◌+◌, ◌-◌, ◌*◌}
 use Rattle.spec_expression.specs.Grammar.{Signs, ReadsLinks, ReadsMore, ReadsPredicates, ReadsSteps}
 use Rattle.spec_expression.proofs.Rank.{rank}
-use Rattle.xp_syntax.specs.View.{expr_of, step_of, link_of}
+use Rattle.xt_syntax.specs.View.{expr_of, step_of, link_of}
 use Rattle.xp_parse.specs.Reading.{left}
 use Rattle.xp_parse.proofs.Lists.{Continues, Growing}
 use Rattle.xp_parse.proofs.read.Parser.+parse.Given as goal

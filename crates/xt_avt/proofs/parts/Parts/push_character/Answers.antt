@@ -1,6 +1,6 @@
 use Rattle.std.proofs.Common.{map, ap, sym, ◌∙◌}
 use Rattle.std.proofs.lemmas.Result.{on_ok_weaker}
-use Rattle.xp_syntax.specs.PartView.{avt_part_of}
+use Rattle.xt_syntax.specs.PartView.{avt_part_of}
 use Rattle.xt_avt.specs.Reading.{all_so}
 use Rattle.xt_avt.proofs.Gathering.{so_character}
 use Rattle.xt_avt.proofs.parts.Parts.push_character.Goals as goal

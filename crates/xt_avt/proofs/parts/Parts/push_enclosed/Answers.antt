@@ -3,7 +3,7 @@ use Rattle.std.proofs.lemmas.Result.{on_ok_weaker}
 use Rattle.std.specs.Str.{chars}
 use Rattle.spec_static.specs.declared.refusal.TemplateRefusal.TheVariants.{AnExpression}
 use Rattle.spec_static.specs.TemplateGrammar.{refused}
-use Rattle.xp_syntax.specs.View.{expr_of}
+use Rattle.xt_syntax.specs.View.{expr_of}
 use Rattle.xp_parse.specs.Parsed.{Parsed}
 use Rattle.xt_avt.specs.Reading.{all_with}
 use Rattle.xt_avt.proofs.Gathering.{comes_value}

@@ -1,8 +1,8 @@
 use Rattle.std.proofs.Common.{map, ap, sym, ◌++◌, [], ◌∙◌}
 use Rattle.std.proofs.lemmas.List.{map-append}
 use Rattle.spec_stylesheet.specs.ValueTemplate.{Value}
-use Rattle.xp_syntax.specs.View.{expr_of}
-use Rattle.xp_syntax.specs.PartView.{avt_part_of}
+use Rattle.xt_syntax.specs.View.{expr_of}
+use Rattle.xt_syntax.specs.PartView.{avt_part_of}
 use Rattle.xt_avt.specs.Reading.{all_so, with_text}
 use Rattle.xt_avt.proofs.Gathering.{so_value}
 use Rattle.xt_avt.proofs.parts.Parts.push_value.Goals as goal

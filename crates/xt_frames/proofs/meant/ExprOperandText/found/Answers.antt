@@ -1,4 +1,4 @@
-use Rattle.xt_ask.proofs.Steps.{runs_then, runs_stop, exits}
+use Rattle.xt_questions.proofs.Steps.{runs_then, runs_stop, exits}
 use Rattle.xt_frames.proofs.meant.ExprOperandText.found.Goals as goal
 
 pub returns-in_err-value-clause-runs : goal.returns-in_err-value-clause-runs

@@ -1,8 +1,8 @@
 use Rattle.std.proofs.Common.{ap, ◌∙◌, map, refl}
 use Rattle.std.specs.declared.vec.Vec.{Vec}
 use Rattle.std.specs.Global.{Global}
-use Rattle.xp_syntax.specs.SheetView.{alias_of, sheet_of}
-use Rattle.xp_syntax.specs.declared.sheet.Alias.{Alias}
+use Rattle.xt_syntax.specs.SheetView.{alias_of, sheet_of}
+use Rattle.xt_syntax.specs.declared.sheet.Alias.{Alias}
 use Rattle.xt_world.specs.Units.{called_among, globals_among, plain_units, resolved_among}
 use Rattle.xt_world.proofs.Answering.{truth_is}
 use Rattle.xt_world.proofs.stylesheet.Stylesheet.new.Goals as goal

@@ -1,7 +1,0 @@
-use Rattle.std.proofs.Common.{◌≡◌, map, drop}
-use Rattle.spec_run.specs.Meaning.{element_named}
-use Rattle.xt_run.specs.View.{named_of}
-use Rattle.xt_drive.proofs.globals.element_of.Given as goal
-
-abbrev pub invariant-loop-global : goal.invariant-loop-global
-invariant-loop-global l = element_named l.name (map named_of (drop l.global-index l.named)) ≡ element_named l.name (map named_of l.named)

@@ -1,0 +1,39 @@
+use Rattle.std.proofs.Common.{List, ◌∷◌, ◌∙◌, sym, ap, subst}
+use Rattle.spec_document.specs.Name.{Expanded}
+use Rattle.spec_meaning.specs.Stream.{holes}
+use Rattle.spec_run.specs.Direct.{Outcome}
+use Rattle.spec_run.specs.Meaning.{Past, global_call}
+use Rattle.xt_tree.specs.declared.node_ref.NodeRef.{NodeRef}
+use Rattle.xt_engine.specs.View.{call_of, named_of}
+use Rattle.xt_driver.specs.View.{setting_of, past_of}
+use Rattle.xt_driver.specs.Remembered.{Remembers}
+use Rattle.xt_driver.specs.Referring.{entries_of}
+use Rattle.xt_driver.proofs.NoHoles.{meaning_whole}
+use Rattle.xt_driver.proofs.Standing.{if_ok}
+use Rattle.xt_driver.proofs.Turning.{evaluated_turns}
+use Rattle.xt_driver.proofs.whole.evaluated_at_turn.Goals as goal
+
+pub means-came-requires : goal.means-came-requires
+means-came-requires g c =
+    let globals = c.args.globals.now in
+    let s = setting_of (g.W.World.state c.args.world.now).truth globals in
+    let past = past_of globals in
+    let under = c.as_slice.ensures.value ∙ c.in_ok-under_way.ensures ∙ ap (λ n. n ∷ globals.under_way.now) c.in_ok-name.ensures in
+    let P : List Expanded → Type 0 = λ u. Remembers s (record { values = past.values; under = u }) (entries_of c.args.memo.now) in
+    subst P (sym under) c.requires
+
+pub at_turn-requires : goal.at_turn-requires
+at_turn-requires g c =
+    let s = setting_of (g.W.World.state c.args.world.now).truth c.args.globals.now in
+    let past : Past NodeRef = record { values = (past_of c.args.globals.now).values; under = c.as_slice.result.now } in
+    let whole = meaning_whole s c.args.levels past 0 (call_of c.global_call-call.result) in
+    if_ok c.means-came.result c.means-came.ensures.meaning (λ x h. ap (λ (o : Outcome NodeRef). holes o.content) h ∙ whole)
+
+pub returns-clause-turns : goal.returns-clause-turns
+returns-clause-turns g c =
+    let globals = c.args.globals.now in
+    let s = setting_of (g.W.World.state c.args.world.now).truth globals in
+    let under = c.as_slice.ensures.value ∙ c.in_ok-under_way.ensures ∙ ap (λ n. n ∷ globals.under_way.now) c.in_ok-name.ensures in
+    let call = c.global_call-call.ensures ∙ ap (global_call globals.root c.args.global.now.element) c.nowhere.ensures in
+    evaluated_turns s (past_of globals) (named_of c.args.global.now) c.as_slice.result.now c.args.levels (call_of c.global_call-call.result) (entries_of c.args.memo.now) (entries_of c.means-came.new.memo)
+    c.means-came.result c.at_turn.result under call c.means-came.ensures.keeps c.means-came.ensures.meaning c.at_turn.ensures

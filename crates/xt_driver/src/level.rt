@@ -1,0 +1,153 @@
+// One level of calls. All that lives while what it enters is run stands on the heap, and what is large is handled in
+// functions that are over by then, so that a level takes little of the stack.
+ghost use Rattle.std.specs.Prelude.{◌≡◌, ◌≤◌, [], IfOk, None, OnOk};
+ghost use Rattle.xt_tree.specs.StreamView.{streams_of};
+ghost use Rattle.xt_engine.specs.View.{call_of};
+ghost use Rattle.xt_engine.specs.Advances.{gift_of};
+ghost use Rattle.xt_engine.specs.Progress.{started};
+ghost use Rattle.xt_driver.specs.View.{IsStreamed, IsTaken};
+ghost use Rattle.xt_driver.specs.Referring.{spare_in, spare_of};
+ghost use Rattle.xt_driver.specs.Steps.{Steps};
+
+use crate::calls::settle;
+use crate::memo::Referred;
+use crate::outcome::{Outcome, fewer, streamed};
+use std::alloc::Global;
+use std::rc::Rc;
+use xt_base::Place;
+use xt_engine::{Call, Ended, Engine, Entered, RunFault, Turn};
+use xt_names::Expanded;
+use xt_questions::World;
+use xt_text::Memory;
+use xt_tree::Items;
+
+/// Where a level stands.
+#[derive(Drop)]
+pub struct Level<R> {
+    pub run: R,
+    /// What the run is given next.
+    pub given: Option<Entered>,
+    /// The streams of all that it entered.
+    pub parts: Vec<Rc<Items>>,
+    /// With so many levels fewer below its own, what it entered and needed comes to the same.
+    pub spare: u64,
+}
+
+/// A global that an expression at this element needs.
+#[derive(Drop)]
+pub struct Needed {
+    pub name: Expanded,
+    pub place: Place,
+}
+
+/// How far a level came.
+#[derive(Drop)]
+pub enum Step {
+    /// To a call that it enters, with so many levels left for it.
+    Enter(Box<Call>, u64),
+    /// To a global that it needs, with so many levels left for it.
+    Refer(Box<Needed>, u64),
+    /// To its end.
+    Done(Box<Ended>),
+    /// To a refusal, or to want of memory.
+    Failed(Box<RunFault>),
+}
+
+/// Starts the level of this call, with so many levels below its own.
+pub fn begin<E: Engine>(
+    alloc: Global,
+    engine: &mut E,
+    call: &Call,
+    below: u64,
+) -> Result<Box<Level<E::Run>>, Memory>
+    ensures started { IfOk result (λ s. E.progress s.value.run ≡ started (call_of call.now) below) }
+    ensures given { IfOk result (λ s. s.value.given ≡ None) }
+    ensures parts { IfOk result (λ s. s.value.parts.items ≡ []) }
+{
+    let run = engine.start(alloc, call, below)?;
+    Ok(Box::new(
+        alloc,
+        Level {
+            run,
+            given: None,
+            parts: Vec::new(alloc),
+            spare: below,
+        },
+    )?)
+}
+
+/// Goes on with what is given, up to the next step.
+pub fn advance<E: Engine, W: World>(
+    alloc: Global,
+    engine: &mut E,
+    world: &mut W,
+    standing: &mut Level<E::Run>,
+    call: &Call,
+    below: u64,
+) -> Result<Step, Memory>
+    ensures steps { IfOk result (λ s. Steps (W.state world.old).truth (gift_of standing.old.given) (E.progress standing.old.run) (E.progress standing.new.run) (call_of call.now) below s) }
+    ensures parts { standing.new.parts ≡ standing.old.parts }
+    ensures spare { standing.new.spare ≡ standing.old.spare }
+    ensures truth { (W.state world.new).truth ≡ (W.state world.old).truth }
+    ensures name { W.name world.new ≡ W.name world.old }
+{
+    let given = standing.given.take();
+    match engine.resume(alloc, &mut standing.run, given, world) {
+        Ok(Turn::Want(wanted, depth)) => {
+            let mut inner = Box::new(alloc, wanted)?;
+            settle(alloc, call, &mut inner)?;
+            let left = below.saturating_sub(depth);
+            Ok(Step::Enter(inner, left))
+        }
+        Ok(Turn::WantGlobal(name, depth, place)) => {
+            let left = below.saturating_sub(depth);
+            Ok(Step::Refer(Box::new(alloc, Needed { name, place })?, left))
+        }
+        Ok(Turn::Done(ran)) => Ok(Step::Done(Box::new(alloc, ran.ended())?)),
+        Err(fault) => Ok(Step::Failed(Box::new(alloc, fault)?)),
+    }
+}
+
+// How many levels fewer would have done for a call of which this came.
+fn spare_in(came: &Result<Box<Outcome>, Memory>) -> u64
+    ensures { result ≡ spare_in came.now }
+{
+    match came {
+        Ok(outcome) => outcome.spare,
+        Err(_) => 0,
+    }
+}
+
+/// Takes what came of the call that it entered last. The call is done with.
+pub fn take_stream<R: Drop>(
+    standing: &mut Level<R>,
+    came: Result<Box<Outcome>, Memory>,
+    call: Box<Call>,
+) -> Result<(), Memory>
+    ensures streamed { OnOk result (IsStreamed standing.new.given came (streams_of standing.old.parts.items) (streams_of standing.new.parts.items)) }
+    ensures run { standing.new.run ≡ standing.old.run }
+    ensures spare { standing.new.spare ≤ standing.old.spare }
+    ensures inner { standing.new.spare ≤ spare_in came }
+{
+    let _ = call;
+    standing.spare = fewer(standing.spare, spare_in(&came));
+    standing.given = Some(streamed(came, &mut standing.parts)?);
+    Ok(())
+}
+
+/// Takes what came of the global that it needed last.
+pub fn take_global<R: Drop>(
+    standing: &mut Level<R>,
+    came: Result<Box<Referred>, Memory>,
+) -> Result<(), Memory>
+    ensures taken { OnOk result (IsTaken standing.new.given came) }
+    ensures run { standing.new.run ≡ standing.old.run }
+    ensures parts { standing.new.parts ≡ standing.old.parts }
+    ensures spare { standing.new.spare ≤ standing.old.spare }
+    ensures inner { OnOk result (standing.new.spare ≤ spare_of came) }
+{
+    let Referred { entered, spare } = Box::into_inner(came?);
+    standing.spare = fewer(standing.spare, spare);
+    standing.given = Some(entered);
+    Ok(())
+}

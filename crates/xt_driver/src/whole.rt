@@ -1,0 +1,280 @@
+// The whole run: the globals in their order, and then the root.
+ghost use Rattle.std.specs.Prelude.{◌≡◌, [], ◌++◌, IfOk, OnOk, Some, map};
+ghost use Rattle.std.specs.Option.{option_map};
+ghost use Rattle.spec_meaning.specs.Stream as stream;
+ghost use Rattle.spec_result.specs.Recovery.{messages_of};
+ghost use Rattle.spec_run.specs.Meaning as meant;
+ghost use Rattle.spec_run.specs.Meaning.{going_into, levels_of_a_run, refusal_of, run_of};
+ghost use Rattle.xt_tree.specs.StreamView.{stream_of};
+ghost use Rattle.xt_tree.specs.ValueView.{value_of};
+ghost use Rattle.xt_engine.specs.View.{named_of, refused_of};
+ghost use Rattle.xt_driver.specs.View.{held_of, ending_of, outcome_of, past_of, setting_in, setting_of, whole_of, IsFinished};
+ghost use Rattle.xt_driver.specs.Remembered.{Remembers};
+ghost use Rattle.xt_driver.specs.Referring.{entries_of};
+ghost use Rattle.xt_driver.specs.Turning.{IsHeldAs, Turns, TurnsAs};
+
+use crate::calls::{global_call, nowhere, root_call};
+use crate::drive::means;
+use crate::globals::{Globals, HeldGlobal, with_name};
+use crate::memo::{Memo, Turned, forget, nothing_remembered, recall_turn};
+use crate::outcome::{Ending, Held, Outcome, as_held, content_of};
+use std::alloc::Global;
+use std::rc::Rc;
+use xt_engine::{Engine, NamedGlobal, Refused};
+use xt_questions::{World, copy_name};
+use xt_result::messages;
+use xt_text::{Memory, Text};
+use xt_tree::{Items, NodeRef, Value};
+
+/// What a whole run comes to.
+#[derive(Drop)]
+pub struct Whole {
+    /// The stream of the root; where it is refused, what was written until then. It is empty where a global is
+    /// refused at its turn.
+    pub content: Rc<Items>,
+    /// The texts of all messages in their order; where the run is refused, of those before that.
+    pub messages: Vec<Text>,
+    /// The first refusal, where there is one.
+    pub refusal: Option<Refused>,
+}
+
+// How many levels of contents may stand in one another.
+const fn levels_of_a_run() -> u64
+    ensures { result ≡ levels_of_a_run }
+{
+    1200
+}
+
+// The messages of the stream, after those that were there.
+fn add_messages(alloc: Global, told: &mut Vec<Text>, content: &Items) -> Result<(), Memory>
+    ensures { OnOk result (told.new.items ≡ told.old.items ++ messages_of (stream_of content.now)) }
+{
+    let mut texts = messages(alloc, content)?;
+    told.append(&mut texts)?;
+    Ok(())
+}
+
+// What a global comes to at its turn, where it is evaluated then.
+fn evaluated_at_turn<E: Engine, W: World>(
+    alloc: Global,
+    engine: &mut E,
+    world: &mut W,
+    globals: &Globals,
+    memo: &mut Memo,
+    global: &NamedGlobal,
+    levels: u64,
+) -> Result<Turned, Memory>
+    requires { Remembers (setting_of (W.state world.now).truth globals.now) (going_into global.now.name (past_of globals.now)) (entries_of memo.now) }
+    ensures turns { IfOk result (λ t. Turns t (setting_of (W.state world.old).truth globals.now) (past_of globals.now) (named_of global.now) levels (entries_of memo.new)) }
+    ensures truth { (W.state world.new).truth ≡ (W.state world.old).truth }
+    ensures name { W.name world.new ≡ W.name world.old }
+{
+    let name = copy_name(alloc, &global.name)?;
+    let under_way = with_name(alloc, name, globals.under_way)?;
+    let inner = Globals {
+        root: globals.root,
+        named: globals.named,
+        held: globals.held,
+        under_way: under_way.as_slice(),
+    };
+    let call = global_call(globals.root, global.element, nowhere(alloc));
+    let came = means(alloc, engine, world, &inner, memo, &call, levels);
+    drop(call);
+    at_turn(alloc, came)
+}
+
+// What a global comes to of which this came at its turn.
+fn at_turn(alloc: Global, came: Result<Box<Outcome>, Memory>) -> Result<Turned, Memory>
+    requires { IfOk came (λ o. stream.holes (outcome_of o.value).content ≡ 0) }
+    ensures { IfOk result (λ t. TurnsAs t came) }
+{
+    let outcome = came?;
+    let content = content_of(&outcome)?;
+    let held = as_held(alloc, Box::into_inner(outcome))?;
+    Ok(Turned { held, content })
+}
+
+// The turn of a global: what it comes to. It is evaluated where it is not remembered with the levels that it takes.
+fn turn<E: Engine, W: World>(
+    alloc: Global,
+    engine: &mut E,
+    world: &mut W,
+    globals: &Globals,
+    memo: &mut Memo,
+    global: &NamedGlobal,
+    levels: u64,
+) -> Result<Turned, Memory>
+    requires { Remembers (setting_of (W.state world.now).truth globals.now) (past_of globals.now) (entries_of memo.now) }
+    ensures turns { IfOk result (λ t. Turns t (setting_of (W.state world.old).truth globals.now) (past_of globals.now) (named_of global.now) levels (entries_of memo.new)) }
+    ensures truth { (W.state world.new).truth ≡ (W.state world.old).truth }
+    ensures name { W.name world.new ≡ W.name world.old }
+{
+    let known = recall_turn(alloc, memo.entries.as_slice(), global, levels)?;
+    match known {
+        Some(turned) => Ok(turned),
+        None => {
+            forget(alloc, memo, &global.name);
+            evaluated_at_turn(alloc, engine, world, globals, memo, global, levels)
+        }
+    }
+}
+
+// Why a call is refused, if it is.
+fn refusal(ending: Ending) -> Option<Refused>
+    ensures { option_map refused_of result ≡ refusal_of (ending_of ending) }
+{
+    match ending {
+        Ending::Finished => None,
+        Ending::Gave(_) => None,
+        Ending::Halted(why) => Some(why),
+    }
+}
+
+// What a run comes to whose root comes to this, after the messages that were told.
+fn finished(
+    alloc: Global,
+    mut told: Vec<Text>,
+    came: Result<Box<Outcome>, Memory>,
+) -> Result<Whole, Memory>
+    ensures { IfOk result (λ w. IsFinished w told.items came) }
+{
+    let outcome = came?;
+    add_messages(alloc, &mut told, &outcome.content)?;
+    let Outcome {
+        content,
+        ending,
+        spare: _,
+    } = Box::into_inner(outcome);
+    Ok(Whole {
+        content,
+        messages: told,
+        refusal: refusal(ending),
+    })
+}
+
+// What a run comes to of which a global is refused at its turn.
+fn halted(alloc: Global, told: Vec<Text>, why: Refused) -> Result<Whole, Memory>
+    ensures { IfOk result (λ w. whole_of w ≡ record { content = stream.Ended; messages = told.items; refusal = Some (refused_of why) }) }
+{
+    let Ok(content) = Rc::new(alloc, Items::new(alloc)) else {
+        drop(why);
+        return Err(Memory);
+    };
+    Ok(Whole {
+        content,
+        messages: told,
+        refusal: Some(why),
+    })
+}
+
+// A global with its value.
+fn held_global(alloc: Global, global: &NamedGlobal, value: Value) -> Result<HeldGlobal, Memory>
+    ensures { IfOk result (λ h. held_of h ≡ record { name = global.now.name; value = value_of value }) }
+{
+    let Ok(name) = copy_name(alloc, &global.name) else {
+        drop(value);
+        return Err(Memory);
+    };
+    Ok(HeldGlobal { name, value })
+}
+
+// Holds the value of a global. Where it has none, why.
+fn hold(
+    alloc: Global,
+    values: &mut Vec<HeldGlobal>,
+    global: &NamedGlobal,
+    held: Held,
+) -> Result<Option<Refused>, Memory>
+    ensures { IfOk result (λ why. IsHeldAs why held global.now.name (map held_of values.old.items) (map held_of values.new.items)) }
+{
+    match held {
+        Held::Value(value) => {
+            let global = held_global(alloc, global, value)?;
+            values.push(global)?;
+            Ok(None)
+        }
+        Held::Refused(why, _) => Ok(Some(why)),
+    }
+}
+
+// Takes what a global comes to at its turn: its messages are told, and its value is held. Where it has none, why.
+fn take_turn(
+    alloc: Global,
+    turned: Turned,
+    global: &NamedGlobal,
+    values: &mut Vec<HeldGlobal>,
+    told: &mut Vec<Text>,
+) -> Result<Option<Refused>, Memory>
+    ensures told { OnOk result (told.new.items ≡ told.old.items ++ messages_of (stream_of turned.content.value)) }
+    ensures held { IfOk result (λ why. IsHeldAs why turned.held global.now.name (map held_of values.old.items) (map held_of values.new.items)) }
+{
+    let Turned { held, content } = turned;
+    let Ok(()) = add_messages(alloc, told, &content) else {
+        drop(held);
+        return Err(Memory);
+    };
+    hold(alloc, values, global, held)
+}
+
+// The whole run, with so many levels.
+fn run_in<E: Engine, W: World>(
+    alloc: Global,
+    engine: &mut E,
+    world: &mut W,
+    root: NodeRef,
+    named: &[NamedGlobal],
+    levels: u64,
+) -> Result<Whole, Memory>
+    ensures run { IfOk result (λ w. let s = setting_in (W.state world.old).truth root named.now in whole_of w ≡ meant.run s levels s.globals [] [] (meant.root_call s)) }
+    ensures truth { (W.state world.new).truth ≡ (W.state world.old).truth }
+    ensures name { W.name world.new ≡ W.name world.old }
+{
+    let mut values: Vec<HeldGlobal> = Vec::new(alloc);
+    let mut told: Vec<Text> = Vec::new(alloc);
+    let mut memo = nothing_remembered(alloc);
+    for global in named {
+        let globals = Globals {
+            root,
+            named,
+            held: values.as_slice(),
+            under_way: &[],
+        };
+        let turned = turn(alloc, engine, world, &globals, &mut memo, global, levels)?;
+        let refusal = take_turn(alloc, turned, global, &mut values, &mut told)?;
+        match refusal {
+            None => {}
+            Some(why) => return halted(alloc, told, why),
+        }
+    }
+    let call = root_call(alloc, world, root)?;
+    let globals = Globals {
+        root,
+        named,
+        held: values.as_slice(),
+        under_way: &[],
+    };
+    let came = means(alloc, engine, world, &globals, &mut memo, &call, levels);
+    drop(call);
+    finished(alloc, told, came)
+}
+
+/// Runs a stylesheet in a world: its globals in stylesheet order, and then the rule for the root of the source
+/// (XSLT 1.0, sections 5.1 and 11.4), with 1,200 levels of contents. A global is evaluated at its turn or for the
+/// first reference to it before that, and anew only where a reference has fewer levels left than it takes; its messages
+/// stand at its turn. A refusal is no error: the run then ends there.
+///
+/// # Errors
+/// Want of memory. What is true in the world stays in any case.
+pub fn run<E: Engine, W: World>(
+    alloc: Global,
+    engine: &mut E,
+    world: &mut W,
+    root: NodeRef,
+    globals: &[NamedGlobal],
+) -> Result<Whole, Memory>
+    ensures run { IfOk result (λ w. whole_of w ≡ run_of (setting_in (W.state world.old).truth root globals.now)) }
+    ensures truth { (W.state world.new).truth ≡ (W.state world.old).truth }
+    ensures name { W.name world.new ≡ W.name world.old }
+{
+    run_in(alloc, engine, world, root, globals, levels_of_a_run())
+}

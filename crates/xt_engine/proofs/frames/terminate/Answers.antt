@@ -1,5 +1,0 @@
-use Rattle.xt_engine.proofs.Nexts.{terminate_does}
-use Rattle.xt_engine.proofs.frames.terminate.Goals as goal
-
-pub returns : goal.returns
-returns c ask run = terminate_does ask c.args.place run

@@ -1,5 +1,0 @@
-use Rattle.xt_engine.proofs.Passed.{argument_held}
-use Rattle.xt_engine.proofs.parameters.argument_holder.Goals as goal
-
-pub returns : goal.returns
-returns c v after = argument_held c.in_ok-name.name c.args.name.now c.args.left.now c.in_ok-shared_past_argument.field-0 v after c.in_ok-name.ensures c.in_ok-shared_past_argument.ensures

@@ -1,0 +1,179 @@
+-- What modules and a source come to, by what is held of the modules.
+use Rattle.std.proofs.Common.{◌≡◌, ℕ, List, [], map, Option, None, Some, Result, Ok, Err, refl, sym, ap, subst, ◌∙◌}
+use Rattle.std.specs.Prelude.{IfOk}
+use Rattle.std.proofs.lemmas.Result.{IfOk-weaker}
+use Rattle.spec_document.specs.Name.{Expanded}
+use Rattle.spec_document.specs.Forest.{Plain, Document, plain}
+use Rattle.spec_seen.specs.Seen.{at_root, seen, seen_among}
+use Rattle.spec_stylesheet.specs.Sheet as plain_sheet
+use Rattle.spec_stylesheet.specs.Sheet.{SpaceRule}
+use Rattle.spec_stylesheet.specs.declared.method.Method.{Method}
+use Rattle.spec_structure.specs.Modules.{Modules}
+use Rattle.spec_meaning.specs.Naming.{unlabelled}
+use Rattle.spec_meaning.specs.Question as question
+use Rattle.spec_meaning.specs.Question.{Question, Answer}
+use Rattle.spec_run.specs.Documents.{Parameters, main_name}
+use Rattle.spec_run.specs.Meaning as means
+use Rattle.spec_run.specs.Meaning.{Setting, run_of}
+use Rattle.spec_run.specs.Outcome as spec
+use Rattle.spec_run.specs.Outcome.{Comes, document_of, outcome_by, refused_static, no_main, no_source}
+use Rattle.spec_run.specs.World.{setting_of}
+use Rattle.xt_tree.specs.Numbers.{IsNumbered}
+use Rattle.xt_tree.specs.declared.node_ref.NodeRef.{NodeRef}
+use Rattle.xp_axes.specs.View.{same_ref}
+use Rattle.xt_text.specs.declared.memory.Memory.{Memory}
+use Rattle.xt_syntax.specs.SheetView.{space_rules_of}
+use Rattle.xt_syntax.specs.declared.space_rules.SpaceRules.{SpaceRules}
+use Rattle.xt_compile.specs.View.{refusal_in}
+use Rattle.xt_compile.specs.declared.fault.StaticRefusal.{StaticRefusal}
+use Rattle.xt_engine.specs.View.{named_of}
+use Rattle.xt_engine.specs.declared.global.NamedGlobal.{NamedGlobal}
+use Rattle.xt_driver.specs.View.{setting_in, whole_of}
+use Rattle.xt_driver.specs.declared.whole.Whole.{Whole}
+use Rattle.xt_import.specs.View.{plain_of}
+use Rattle.xt_world.specs.Numbered.{ref_to, setting_by_numbers, truth_by_numbers}
+use Rattle.xt_world.specs.View.{truth_in}
+use Rattle.xt_world.specs.declared.stylesheet.Stylesheet as world
+use Rattle.xt_held.specs.OutcomeView.{outcome_of, plain_in}
+use Rattle.xt_held.specs.StylesheetView.{AnswersAs, AreCompiled, AreCompiledBy, Holds, IsCompiledFrom, IsThere}
+use Rattle.xt_held.specs.declared.outcome.Outcome.{Outcome}
+use Rattle.xt_held.specs.declared.tried.Tried.{Tried}
+use Rattle.xt_held.specs.declared.stylesheet.Compiled.{Compiled}
+use Rattle.xt_held.specs.declared.stylesheet.Compiled.TheVariants.{Stylesheet, Refused}
+use denote.Ref.{Bor}
+
+-- ---- What modules are
+
+pub none_there : (modules : Modules) → modules main_name ≡ None → AreCompiled modules None
+none_there modules e = record { so = subst (λ (main : Option Plain). AreCompiledBy modules main None) (sym e) tt }
+
+pub one_there : (modules : Modules) (compiled : Compiled) → IsThere modules main_name → IsCompiledFrom modules compiled → AreCompiled modules (Some compiled)
+one_there modules compiled main h = record { so = subst (λ (main : Option Plain). AreCompiledBy modules main (Some compiled)) (sym main.1) h }
+
+-- a module of this name, as it is looked for
+pub is_there : (modules : Modules) (name : List ℕ) (found : Option (Bor (Document ℕ))) (document : Bor (Document ℕ)) → plain_in found ≡ modules name
+    → found ≡ Some document → IsThere modules name
+is_there modules name found document e is = (plain_of document.now, sym e ∙ ap plain_in is)
+
+pub is_not_there : (modules : Modules) (name : List ℕ) (found : Option (Bor (Document ℕ))) → plain_in found ≡ modules name → found ≡ None → modules name ≡ None
+is_not_there modules name found e is = sym e ∙ ap plain_in is
+
+-- ---- Without a module `main`, and without a source
+
+pub without_main : (modules : Modules) (parameters : Parameters) (main source : Option Plain) → AreCompiledBy modules main None
+    → Comes modules parameters main source (spec.Failed no_main [])
+without_main modules parameters None source h = refl
+without_main modules parameters (Some main) source h = absurd h
+
+pub without_source : (modules : Modules) (parameters : Parameters) (main : Option Plain) (compiled : Compiled)
+    → AreCompiledBy modules main (Some compiled) → Comes modules parameters main None (spec.Failed no_source [])
+without_source modules parameters None compiled h = absurd h
+without_source modules parameters (Some main) compiled h = refl
+
+pub with_both : (modules : Modules) (parameters : Parameters) (main : Option Plain) (source : Plain) (compiled : Compiled) (r : Result Outcome Memory)
+    → AreCompiledBy modules main (Some compiled)
+    → ((tree : Plain) → IsCompiledFrom modules compiled → IfOk r (λ o. Comes modules parameters (Some tree) (Some source) (outcome_of o)))
+    → IfOk r (λ o. Comes modules parameters main (Some source) (outcome_of o))
+with_both modules parameters None source compiled r h f = absurd h
+with_both modules parameters (Some main) source compiled r h f = f main h
+
+-- ---- With both
+
+pub refused_so : (modules : Modules) (parameters : Parameters) (main source : Plain) (compiled : Compiled) (why : StaticRefusal) (r : Result Outcome Memory) → compiled ≡ Refused why
+    → IfOk r (λ o. outcome_of o ≡ spec.Failed (refused_static (refusal_in why)) []) → IsCompiledFrom modules compiled
+    → IfOk r (λ o. Comes modules parameters (Some main) (Some source) (outcome_of o))
+refused_so modules parameters main source compiled why r e told h =
+    let holds : h.result ≡ Err (refusal_in why) = subst (λ (c : Compiled). Holds c h.result) e h.holds in
+    IfOk-weaker r _ _ (λ o is. (h.result, h.is, is ∙ sym (ap (spec.outcome_of parameters source) holds))) told
+
+pub runs_so : (modules : Modules) (parameters : Parameters) (main source : Plain) (compiled : Compiled) (held : world.Stylesheet) (rules : SpaceRules)
+    (method copy : Option (Method Expanded)) (whole : means.Whole) (r : Result Outcome Memory) → compiled ≡ Stylesheet held rules method → copy ≡ method
+    → ((sheet : plain_sheet.Sheet) → AnswersAs held sheet → space_rules_of rules ≡ sheet.space_rules
+    → whole ≡ run_of (setting_of sheet parameters (seen sheet.space_rules.rules (document_of source))))
+    → IfOk r (λ o. outcome_of o ≡ outcome_by copy whole) → IsCompiledFrom modules compiled
+    → IfOk r (λ o. Comes modules parameters (Some main) (Some source) (outcome_of o))
+runs_so modules parameters main source compiled held rules method copy whole r e same ran told h =
+    let holds : Holds (Stylesheet held rules method) h.result = subst (λ (c : Compiled). Holds c h.result) e h.holds in
+    let is_whole = ran holds.0 holds.2 holds.3 in
+    IfOk-weaker r _ _ (λ o is.
+    (h.result, h.is, is ∙ (λ i. outcome_by ((same ∙ holds.4) i) (is_whole i)) ∙ sym (ap (spec.outcome_of parameters source) holds.1))) told
+
+-- ---- What the run sees of the source
+
+abbrev Labels : Type 0
+Labels = (rules : List SpaceRule) (document : Document ℕ) → plain (seen rules document).nodes ≡ seen_among rules at_root (plain document.nodes)
+
+pub seen_so : Labels → (sheet : plain_sheet.Sheet) (parameters : Parameters) (source sight : Document ℕ) (rules : List SpaceRule) → rules ≡ sheet.space_rules.rules
+    → sight ≡ seen rules source → (r : Result Whole Memory)
+    → IfOk r (λ w. whole_of w ≡ run_of (setting_of sheet parameters (document_of (plain_of sight))))
+    → IfOk r (λ w. whole_of w ≡ run_of (setting_of sheet parameters (seen sheet.space_rules.rules (document_of (plain_of source)))))
+seen_so labels sheet parameters source sight rules e is r h =
+    let sees : document_of (plain_of sight) ≡ seen sheet.space_rules.rules (document_of (plain_of source))
+    = ap document_of (ap plain_of is ∙ labels rules source) ∙ ap (λ (rs : List SpaceRule). seen rs (document_of (plain_of source))) e in
+    subst (λ (d : Document (Unit {0})). IfOk r (λ w. whole_of w ≡ run_of (setting_of sheet parameters d))) sees h
+
+-- ---- A stylesheet that answers as another does but for what the run does not ask
+
+same_answers : (s : plain_sheet.Sheet) (rules : plain_sheet.SpaceRules) (method : Option (Method Expanded)) (parameters : Parameters) (document : Document ℕ) (q : Question NodeRef)
+    → truth_by_numbers (record s { space_rules = rules; method = method }) parameters document q ≡ truth_by_numbers s parameters document q
+same_answers s rules method parameters document (question.Step node axis test) = refl
+same_answers s rules method parameters document (question.Text node) = refl
+same_answers s rules method parameters document (question.Name node) = refl
+same_answers s rules method parameters document (question.Place node) = refl
+same_answers s rules method parameters document (question.Order nodes) = refl
+same_answers s rules method parameters document (question.Key name value) = refl
+same_answers s rules method parameters document (question.Choice node mode candidates) = refl
+same_answers s rules method parameters document (question.Copy node) = refl
+same_answers s rules method parameters document (question.Unit element) = refl
+same_answers s rules method parameters document (question.External name) = refl
+
+pub answers_as : (held : world.Stylesheet) (s : plain_sheet.Sheet) (rules : plain_sheet.SpaceRules) (method : Option (Method Expanded))
+    → AnswersAs held (record s { space_rules = rules; method = method }) → AnswersAs held s
+answers_as held s rules method h = record {
+  truth = λ parameters document q. h.truth parameters document q ∙ same_answers s rules method parameters document q;
+  globals = h.globals;
+}
+
+-- ---- The run, by numbers and by places
+
+abbrev pub SameRun : Type 0
+SameRun = (sheet : plain_sheet.Sheet) (parameters : Parameters) (document : Document ℕ) → IsNumbered document
+    → run_of (setting_by_numbers sheet parameters document) ≡ run_of (setting_of sheet parameters (unlabelled document))
+
+pub same_whole : SameRun → (parameters : Parameters) (document : Document ℕ) → IsNumbered document
+    → (held : world.Stylesheet) (sheet : plain_sheet.Sheet) → AnswersAs held sheet → (root : NodeRef) → root ≡ ref_to document.root
+    → (globals : List NamedGlobal) → globals ≡ held.globals.items
+    → run_of (setting_in (truth_in held parameters document) root globals) ≡ run_of (setting_of sheet parameters (document_of (plain document.nodes)))
+same_whole same parameters document numbered held sheet answers root is globals are =
+    let named = ap (map named_of) are ∙ answers.globals in
+    let setting : setting_in (truth_in held parameters document) root globals ≡ setting_by_numbers sheet parameters document
+    = λ i. record { ask = λ q. answers.truth parameters document q i; same = same_ref; root = is i; globals = named i } in
+    ap run_of setting ∙ same sheet parameters document numbered
+
+weaker : (r : Result Whole Memory) (a b : means.Whole) → a ≡ b → IfOk r (λ w. whole_of w ≡ a) → IfOk r (λ w. whole_of w ≡ b)
+weaker r a b e h = IfOk-weaker r (λ w. whole_of w ≡ a) (λ w. whole_of w ≡ b) (λ w is. is ∙ e) h
+
+pub run_so : SameRun → (parameters : Parameters) (document : Document ℕ) → IsNumbered document
+    → (held : world.Stylesheet) (sheet : plain_sheet.Sheet) → AnswersAs held sheet → (root : NodeRef) → root ≡ ref_to document.root
+    → (globals : List NamedGlobal) → globals ≡ held.globals.items → (truth : Question NodeRef → Answer NodeRef)
+    → truth ≡ truth_in held parameters document → (r : Result Whole Memory)
+    → IfOk r (λ w. whole_of w ≡ run_of (setting_in truth root globals))
+    → IfOk r (λ w. whole_of w ≡ run_of (setting_of sheet parameters (document_of (plain document.nodes))))
+run_so same parameters document numbered held sheet answers root is globals are truth told r h =
+    weaker r (run_of (setting_in (truth_in held parameters document) root globals))
+    (run_of (setting_of sheet parameters (document_of (plain document.nodes))))
+    (same_whole same parameters document numbered held sheet answers root is globals are)
+    (subst (λ (t : Question NodeRef → Answer NodeRef). IfOk r (λ w. whole_of w ≡ run_of (setting_in t root globals))) told h)
+
+-- ---- Modules with another among them
+
+pub compiled_so : (r : Result (Option Compiled) Memory) (t : Result Tried Memory) (document : Document ℕ) (modules others : Modules) → modules ≡ others
+    → IfOk r (λ compiled. AreCompiled modules compiled) → IfOk t (λ tried. (r ≡ Ok tried.compiled) × (tried.document ≡ document))
+    → IfOk t (λ tried. AreCompiled others tried.compiled)
+compiled_so r t document modules others e h told =
+    IfOk-weaker t _ _ (λ tried is. subst (λ (ms : Modules). AreCompiled ms tried.compiled) e
+    (subst (λ (x : Result (Option Compiled) Memory). IfOk x (λ compiled. AreCompiled modules compiled)) is.0 h)) told
+
+pub document_so : (r : Result (Option Compiled) Memory) (t : Result Tried Memory) (document other : Document ℕ) → document ≡ other
+    → IfOk t (λ tried. (r ≡ Ok tried.compiled) × (tried.document ≡ document)) → IfOk t (λ tried. tried.document ≡ other)
+document_so r t document other e told = IfOk-weaker t _ _ (λ tried is. is.1 ∙ e) told

@@ -1,0 +1,62 @@
+-- What is held where a value of a parameter was tried, and what is ready then.
+use Rattle.std.proofs.Common.{◌≡◌, ℕ, List, string_bytes, refl, sym, subst}
+use Rattle.std.specs.Str.{chars}
+use Rattle.std.specs.declared.alloc.Global.{Global}
+use Rattle.std.specs.declared.string.String.{String}
+use Rattle.spec_run.specs.Documents as spec
+use Rattle.spec_run.specs.Documents.{Documents, main_name, with_parameter}
+use Rattle.spec_run.specs.Outcome.{Comes, IsOutcome}
+use Rattle.xt_world.specs.ParameterView.{HasRoomForOne, parameters_of, with_value}
+use Rattle.xt_world.specs.declared.parameters.Parameters.{Parameters}
+use Rattle.xt_held.specs.OutcomeView.{outcome_of}
+use Rattle.xt_held.specs.StylesheetView.{AreCompiled}
+use Rattle.xt_held.specs.View.{HasBelow, IsKept, IsReady, documents_of, made_of, outcome_in}
+use Rattle.xt_held.specs.declared.held.Held.{Held}
+use Rattle.xt_held.specs.declared.outcome.Outcome.{Outcome}
+use Rattle.xt_held.specs.declared.ready.Change.TheVariants as changes
+
+abbrev with_those : Held → Parameters → Held
+with_those held parameters = record held { parameters = parameters }
+
+same_documents : (held : Held) (parameters : Parameters) → parameters_of parameters ≡ parameters_of held.parameters
+    → documents_of (with_those held parameters) ≡ documents_of held
+same_documents held parameters same =
+    λ i. record { source = (documents_of held).source; modules = (documents_of held).modules; parameters = same i }
+
+pub kept_so : (held : Held) (parameters : Parameters) → parameters_of parameters ≡ parameters_of held.parameters
+    → IsKept held (with_those held parameters)
+kept_so held parameters same = record {
+  documents = same_documents held parameters same;
+  made = refl;
+  outcome = refl;
+  current = λ h. record {
+    below = h.below;
+    outcome = subst (λ (documents : Documents). IsOutcome documents (outcome_in held)) (sym (same_documents held parameters same)) h.outcome;
+    compiled = h.compiled;
+  };
+}
+
+pub ready_so : (held : Held) (parameters : Parameters) (name value : List ℕ) (key : String Global) (kept : List ℕ) (outcome : Outcome)
+    → parameters_of parameters ≡ parameters_of held.parameters → chars (string_bytes key) ≡ name → kept ≡ value
+    → AreCompiled (documents_of held).modules held.compiled → HasBelow (made_of held) held
+    → Comes (documents_of held).modules (with_value name value (parameters_of held.parameters)) ((documents_of held).modules main_name)
+    (documents_of held).source (outcome_of outcome)
+    → HasRoomForOne parameters
+    → IsReady (with_parameter name value) (made_of held) (with_those held parameters)
+    (record { change = changes.Parameter key kept; next = held.next; outcome = outcome })
+ready_so held parameters name value key kept outcome same named valued compiled below comes room =
+    let documents = documents_of held in
+    let given : with_value name value (parameters_of held.parameters) ≡ with_value (chars (string_bytes key)) kept (parameters_of parameters)
+    = sym (λ i. with_value (named i) (valued i) (same i)) in
+    record {
+      documents = λ i. with_parameter (named i) (valued i) (documents_of (with_those held parameters));
+      made = refl;
+      from = record {
+        outcome = subst (λ (values : spec.Parameters). Comes documents.modules values (documents.modules main_name) documents.source (outcome_of outcome))
+            given comes;
+        compiled = compiled;
+        room = room;
+        others = below;
+        below = tt;
+      };
+    }

@@ -1,0 +1,31 @@
+use Rattle.std.proofs.Common.{Option, ap, sym, subst, ◌∙◌}
+use Rattle.std.specs.Option.{option_map}
+use Rattle.spec_document.specs.Forest.{Plain}
+use Rattle.spec_run.specs.Documents.{main_name}
+use Rattle.spec_run.specs.Outcome.{Comes}
+use Rattle.xt_import.specs.View.{plain_of}
+use Rattle.xt_world.specs.ParameterView.{parameters_of, with_value}
+use Rattle.xt_held.specs.OutcomeView.{outcome_of}
+use Rattle.xt_held.specs.StylesheetView.{AreCompiled}
+use Rattle.xt_held.specs.View.{documents_of}
+use Rattle.xt_held.specs.declared.stylesheet.Compiled.{Compiled}
+use Rattle.xt_held.proofs.Giving.{kept_so, ready_so}
+use Rattle.xt_held.proofs.Keys.{map-copied}
+use Rattle.xt_held.proofs.held.Held.parameter_ready.Goals as goal
+
+pub returns-clause-ok : goal.returns-clause-ok
+returns-clause-ok c =
+    let held = c.args.self.now in
+    let tried = c.in_ok-tried.tried in
+    let modules = (documents_of held).modules in
+    let values = with_value c.args.name.now c.args.value.now (parameters_of held.parameters) in
+    let source = map-copied plain_of c.as_ref-source.result ∙ ap (option_map plain_of) c.as_ref-source.ensures.value in
+    let compiled = subst (λ (compiled : Option Compiled). AreCompiled modules compiled) (sym c.as_ref-compiled.ensures.value) c.requires.compiled in
+    ready_so held c.outcome_with.new.parameters c.args.name.now c.args.value.now tried.name tried.value tried.outcome
+    c.in_ok-tried.ensures.kept c.in_ok-tried.ensures.name c.in_ok-tried.ensures.value c.requires.compiled c.requires.below
+    (subst (λ (s : Option Plain). Comes modules values (modules main_name) s (outcome_of tried.outcome)) source
+    (c.in_ok-tried.ensures.outcome modules compiled))
+    c.in_ok-tried.ensures.room
+
+pub returns-clause-kept : goal.returns-clause-kept
+returns-clause-kept c = kept_so c.args.self.now c.outcome_with.new.parameters c.in_ok-tried.ensures.kept

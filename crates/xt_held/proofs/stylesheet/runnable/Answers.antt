@@ -1,0 +1,11 @@
+use Rattle.std.proofs.Common.{None, map, refl}
+use Rattle.xt_syntax.specs.SheetView.{sheet_of, space_rule_of}
+use Rattle.xt_held.proofs.Coming.{answers_as}
+use Rattle.xt_held.proofs.stylesheet.runnable.Goals as goal
+
+pub returns : goal.returns
+returns c =
+    let sheet = sheet_of c.args.sheet in
+    let answers = answers_as c.in-Ok.stylesheet sheet (record { rules = map space_rule_of c.new.result.items }) None
+    (record { truth = c.in-Ok.ensures.truth; globals = c.in-Ok.ensures.globals }) in
+    (sheet, refl, answers, refl, refl)

@@ -1,0 +1,58 @@
+-- What modules are compiled to.
+use Rattle.std.specs.Prelude.{ℕ, ◌≡◌, List, map, Option, None, Some, Result, Ok, Err, bytes_eq, if◌then◌else◌}
+use Rattle.spec_document.specs.Forest.{Plain, Document}
+use Rattle.spec_stylesheet.specs.Sheet as plain
+use Rattle.spec_structure.specs.Modules.{Modules}
+use Rattle.spec_compile.specs.Sheet as compile
+use Rattle.spec_compile.specs.Sheet.{IsSheet}
+use Rattle.spec_meaning.specs.Question.{Question}
+use Rattle.spec_run.specs.Documents.{Parameters, main_name}
+use Rattle.spec_run.specs.World.{globals_of}
+use Rattle.xt_tree.specs.declared.node_ref.NodeRef.{NodeRef}
+use Rattle.xt_syntax.specs.SheetView.{space_rules_of}
+use Rattle.xt_compile.specs.View.{refusal_in}
+use Rattle.xt_engine.specs.View.{named_of}
+use Rattle.xt_world.specs.Numbered.{element_called, truth_by_numbers}
+use Rattle.xt_world.specs.View.{truth_in}
+use Rattle.xt_world.specs.declared.stylesheet.Stylesheet as world
+use Rattle.xt_held.specs.declared.stylesheet.Compiled.{Compiled}
+use Rattle.xt_held.specs.declared.stylesheet.Compiled.TheVariants.{Stylesheet, Refused}
+
+-- the modules with this one of this name, in place of the one before
+abbrev pub with_one : List ℕ → Plain → Modules → Modules
+with_one name nodes modules = λ other. if bytes_eq other name then Some nodes else modules other
+
+-- the modules without this one
+abbrev pub without_one : List ℕ → Modules → Modules
+without_one name modules = λ other. if bytes_eq other name then None else modules other
+
+-- there is a module of this name
+abbrev pub IsThere : Modules → List ℕ → Type 0
+IsThere modules name = (tree : Plain) × (modules name ≡ Some tree)
+
+-- in the world of any source, with any parameters, it answers as this stylesheet does, and it has the globals of that
+pub record AnswersAs (held : world.Stylesheet) (sheet : plain.Sheet) : Type 0 where
+  pub truth : (parameters : Parameters) (document : Document ℕ) (q : Question NodeRef)
+      → truth_in held parameters document q ≡ truth_by_numbers sheet parameters document q
+  pub globals : map named_of held.globals.items ≡ globals_of (element_called sheet.units) sheet.units
+
+abbrev pub Holds : Compiled → Result plain.Sheet compile.Refusal → Type 0
+Holds (Stylesheet held rules method) result =
+    (sheet : plain.Sheet) × (result ≡ Ok sheet) × AnswersAs held sheet × (space_rules_of rules ≡ sheet.space_rules) × (method ≡ sheet.method)
+Holds (Refused why) result = result ≡ Err (refusal_in why)
+
+-- it is what modules are
+pub record IsCompiledFrom (modules : Modules) (compiled : Compiled) : Type 0 where
+  pub result : Result plain.Sheet compile.Refusal
+  pub is : IsSheet modules main_name result
+  pub holds : Holds compiled result
+
+-- there is something where there is a principal module
+abbrev pub AreCompiledBy : Modules → Option Plain → Option Compiled → Type 0
+AreCompiledBy modules None None = Unit {0}
+AreCompiledBy modules None (Some compiled) = ⊥
+AreCompiledBy modules (Some main) None = ⊥
+AreCompiledBy modules (Some main) (Some compiled) = IsCompiledFrom modules compiled
+
+pub record AreCompiled (modules : Modules) (compiled : Option Compiled) : Type 0 where
+  pub so : AreCompiledBy modules (modules main_name) compiled

@@ -1,0 +1,454 @@
+// What a session holds.
+ghost use Rattle.std.specs.Prelude.{◌≡◌, ◌+◌, ◌<◌, ◌≤◌, ℕ, IfOk, string_bytes};
+ghost use Rattle.std.specs.HashMap.{spare};
+ghost use Rattle.std.specs.Map.{lookup};
+ghost use Rattle.std.specs.Option.{option_copied};
+ghost use Rattle.std.specs.Str.{chars};
+ghost use Rattle.spec_document.specs.Document.{document_of};
+ghost use Rattle.spec_document.specs.Forest.{size};
+ghost use Rattle.spec_document.specs.Scope.{root_scope};
+ghost use Rattle.spec_edit.specs.Edit.{edited_or_missing};
+ghost use Rattle.spec_move.specs.Move.{moved_document};
+ghost use Rattle.spec_run.specs.Documents.{no_documents, with_module, with_parameter, with_source, without_module};
+ghost use Rattle.xt_build.specs.View.{Builds, document_in};
+ghost use Rattle.xt_edit.specs.View.{AreBelow, EditsPlain, edit_of};
+ghost use Rattle.xt_import.specs.View.{is_name, plain_of};
+ghost use Rattle.xt_world.specs.ParameterView.{HasRoomForOne};
+ghost use Rattle.xt_held.specs.OutcomeView.{outcome_of, plain_in};
+ghost use Rattle.xt_held.specs.View.{HasBelow, HasRoom, IsBelow, IsCurrent, IsKept, IsMadeFrom, IsReady, Prepares, PreparesDrop, PreparesEdit, PreparesMove, PreparesParameter, changed_by, document_named, documents_of, edit_fault_of, made_of, next_compiled, next_documents, next_made, next_outcome, numbered_document, outcome_in, with_document};
+
+use crate::name::DocName;
+use crate::outcome::{Outcome, at_no_element, outcome_of};
+use crate::parameter::{TriedParameter, outcome_with, parameter_fault};
+use crate::ready::{Change, Ready};
+use crate::stylesheet::Compiled;
+use crate::tried::{Tried, compiled_with, compiled_without};
+use crate::unread::unread_line;
+use indexmap::IndexMap;
+use spec_expression::StaticCode;
+use std::alloc::Global;
+use std::mem;
+use xt_base::EditCode;
+use xt_build::{BuildFault, Built, build};
+use xt_edit::{Edit, EditFault, Edited, apply, relocate};
+use xt_io::Line;
+use xt_names::Scope;
+use xt_text::{Memory, Path, Text};
+use xt_tree::{Doc, NodeId};
+use xt_world::Parameters;
+
+/// The documents that are held, what the modules are, the values that parameters are given, the number of the next
+/// node, and the outcome of the transformation, which is that of all these.
+#[derive(Drop)]
+pub struct Held {
+    source: Option<Doc>,
+    modules: IndexMap<String, Doc>,
+    compiled: Option<Compiled>,
+    parameters: Parameters,
+    next: NodeId,
+    outcome: Outcome,
+}
+
+impl Held {
+    /// No document, so that the outcome is S01; the first node will have the number 0. Takes no memory.
+    pub fn new(alloc: Global) -> Held
+        ensures documents { documents_of result ≡ no_documents }
+        ensures made { made_of result ≡ 0 }
+        ensures current { IsCurrent result }
+    {
+        Held {
+            source: None,
+            modules: IndexMap::new(alloc),
+            compiled: None,
+            parameters: Parameters::new(alloc),
+            next: NodeId { number: 0 },
+            outcome: at_no_element(alloc, StaticCode::NoMain),
+        }
+    }
+
+    /// Makes ready that the document of these lines becomes the source. The least of their faults, 2 or 8 to 14,
+    /// with its line, where they make none. Nothing is changed. The modules are not read again.
+    pub fn set_source(&self, alloc: Global, body: &[Line]) -> Result<Ready, EditFault>
+        requires { IsCurrent self.now }
+        ensures { Prepares with_source self.now (document_of root_scope (made_of self.now) body.now) result }
+    {
+        match self.built(alloc, body) {
+            Ok(Built { document, next }) => Ok(self.source_ready(alloc, document, next)?),
+            Err(fault) => Err(edit_fault(fault)),
+        }
+    }
+
+    /// Makes ready that the document of these lines becomes the module of this name. The least of their faults,
+    /// 2 or 8 to 14, with its line, where they make none. Nothing is changed but that room is made.
+    pub fn set_module(
+        &mut self,
+        alloc: Global,
+        name: &Text,
+        body: &[Line],
+    ) -> Result<Ready, EditFault>
+        requires { IsCurrent self.old }
+        ensures answer { Prepares (with_module name.now) self.new (document_of root_scope (made_of self.old) body.now) result }
+        ensures kept { IsKept self.old self.new }
+    {
+        match self.built(alloc, body) {
+            Ok(Built { document, next }) => Ok(self.module_ready(alloc, name, document, next)?),
+            Err(fault) => Err(edit_fault(fault)),
+        }
+    }
+
+    /// Makes ready that there is no module of this name any more: 5 where there is none. Nothing is changed but that room
+    /// is made, and the order of the modules, which does not matter.
+    pub fn drop_module(&mut self, alloc: Global, name: &Text) -> Result<Ready, EditFault>
+        requires { IsCurrent self.old }
+        ensures answer { PreparesDrop name.now self.new result }
+        ensures kept { IsKept self.old self.new }
+    {
+        match self.module(name.as_str()) {
+            None => Err(EditFault::Refused {
+                code: EditCode::NoDocument,
+                line: 0,
+            }),
+            Some(_) => Ok(self.drop_ready(alloc, name)?),
+        }
+    }
+
+    /// Makes ready that the document of this name is held as this edit makes it. Else the least of its faults: 2 where a
+    /// line of the body is not UTF-8, with the first such line; 5 where there is no such document; 6 to 14 as `apply` of
+    /// `xt_edit` says. Nothing is changed but that room is made. An edit of the source reads no module again.
+    pub fn edit(
+        &mut self,
+        alloc: Global,
+        name: DocName<'_>,
+        edit: &Edit,
+    ) -> Result<Ready, EditFault>
+        requires { IsCurrent self.old }
+        ensures answer { PreparesEdit name.entry (edit_of edit.now) self.new result }
+        ensures kept { IsKept self.old self.new }
+    {
+        match unread_line(edit) {
+            Some(line) => Err(EditFault::Refused {
+                code: EditCode::NotUtf8,
+                line,
+            }),
+            None => {
+                let Edited { document, next } = self.edited(alloc, name, edit)?;
+                Ok(self.document_ready(alloc, name, document, next)?)
+            }
+        }
+    }
+
+    /// Makes ready that the node at the path `path` of the document of this name stands before what is at the path
+    /// `other`, or after the last child there. Else the least of the faults: 5 where there is no such document; 6, 7, 9
+    /// to 12, 14 or 15 as `relocate` of `xt_edit` says. Nothing is changed but that room is made. A move in the source
+    /// reads no module again.
+    pub fn relocate(
+        &mut self,
+        alloc: Global,
+        name: DocName<'_>,
+        path: &Path,
+        other: &Path,
+    ) -> Result<Ready, EditFault>
+        requires { IsCurrent self.old }
+        ensures answer { PreparesMove name.entry path.now other.now self.new result }
+        ensures kept { IsKept self.old self.new }
+    {
+        let Edited { document, next } = self.relocated(alloc, name, path, other)?;
+        Ok(self.document_ready(alloc, name, document, next)?)
+    }
+
+    /// Makes ready that the parameter of this name is given this value (XSLT 1.0, section 11.4): 8 where the value has
+    /// a character that is none of XML, else 10 where the name is no NCName. Nothing is changed but that room is made.
+    pub fn set_param(
+        &mut self,
+        alloc: Global,
+        name: &Text,
+        value: &Text,
+    ) -> Result<Ready, EditFault>
+        requires { IsCurrent self.old }
+        ensures answer { PreparesParameter name.now value.now self.new result }
+        ensures kept { IsKept self.old self.new }
+    {
+        match parameter_fault(name, value) {
+            Some(code) => Err(EditFault::Refused { code, line: 0 }),
+            None => Ok(self.parameter_ready(alloc, name, value)?),
+        }
+    }
+
+    /// Makes present what is ready, which was made from what is held. Takes no memory.
+    pub fn adopt(&mut self, ready: Ready)
+        requires { IsMadeFrom self.old ready }
+        ensures documents { documents_of self.new ≡ next_documents ready self.old }
+        ensures made { made_of self.new ≡ next_made ready }
+        ensures outcome { outcome_in self.new ≡ next_outcome ready }
+        ensures current { IsCurrent self.new }
+    {
+        let Ready {
+            change,
+            next,
+            outcome,
+        } = ready;
+        self.put(change);
+        self.next = next;
+        drop(mem::replace(&mut self.outcome, outcome));
+    }
+
+    /// What the transformation of the documents comes to. Takes no memory.
+    pub fn outcome(&self) -> &Outcome
+        ensures { outcome_of result.now ≡ outcome_in self.now }
+    {
+        &self.outcome
+    }
+
+    /// The document of this name, where there is one. Takes no memory.
+    pub fn document(&self, name: DocName<'_>) -> Option<&Doc>
+        ensures { plain_in result ≡ document_named name.entry (documents_of self.now) }
+    {
+        self.found(name)
+    }
+
+    // The same, and which numbers its nodes have.
+    fn found(&self, name: DocName<'_>) -> Option<&Doc>
+        ensures { option_copied result ≡ numbered_document name.entry self.now }
+    {
+        match name {
+            DocName::Source => self.source.as_ref(),
+            DocName::Module(name) => self.module(name.as_str()),
+        }
+    }
+
+    // The module of this name, where there is one.
+    fn module(&self, name: &str) -> Option<&Doc>
+        ensures { option_copied result ≡ lookup (is_name (chars name.now)) self.now.modules.entries }
+    {
+        self.modules.get(name)
+    }
+
+    // The document of these lines, numbered after all nodes so far, or the least of their faults.
+    fn built(&self, alloc: Global, body: &[Line]) -> Result<Built, BuildFault>
+        ensures answer { Builds document_in result (document_of root_scope (made_of self.now) body.now) }
+        ensures next { IfOk result (λ built. built.next.number ≡ made_of self.now + 1 + size built.document.nodes) }
+        ensures below { IfOk result (λ built. AreBelow built.next.number built.document) }
+    {
+        let scope = Scope::root(alloc)?;
+        build(alloc, body, &scope, self.next)
+    }
+
+    // What the edit makes of the document of this name, where no line of a body is at fault.
+    fn edited(&self, alloc: Global, name: DocName<'_>, edit: &Edit) -> Result<Edited, EditFault>
+        requires { IsCurrent self.now }
+        ensures answer { EditsPlain (made_of self.now) result (edited_or_missing (made_of self.now) (edit_of edit.now) (document_named name.entry (documents_of self.now))) }
+        ensures below { IfOk result (λ edited. AreBelow edited.next.number edited.document) }
+    {
+        match self.found(name) {
+            Some(document) => apply(alloc, document, edit, self.next),
+            None => Err(EditFault::Refused {
+                code: EditCode::NoDocument,
+                line: 0,
+            }),
+        }
+    }
+
+    // What the document of this name is where the node at the path `path` has moved to the path `other`.
+    fn relocated(
+        &self,
+        alloc: Global,
+        name: DocName<'_>,
+        path: &Path,
+        other: &Path,
+    ) -> Result<Edited, EditFault>
+        requires { IsCurrent self.now }
+        ensures answer { EditsPlain (made_of self.now) result (moved_document (made_of self.now) path.now other.now (document_named name.entry (documents_of self.now))) }
+        ensures below { IfOk result (λ edited. AreBelow edited.next.number edited.document) }
+    {
+        match self.found(name) {
+            Some(document) => relocate(alloc, document, path, other, self.next),
+            None => Err(EditFault::Refused {
+                code: EditCode::NoDocument,
+                line: 0,
+            }),
+        }
+    }
+
+    // Makes ready that this document is that of this name, after which the next node has this number.
+    fn document_ready(
+        &mut self,
+        alloc: Global,
+        name: DocName<'_>,
+        document: Doc,
+        next: NodeId,
+    ) -> Result<Ready, Memory>
+        requires current { IsCurrent self.old }
+        requires grows { made_of self.old ≤ next.number }
+        requires below { AreBelow next.number document }
+        ensures ok { IfOk result (λ ready. IsReady (with_document name.entry (plain_of document)) next.number self.new ready) }
+        ensures kept { IsKept self.old self.new }
+    {
+        match name {
+            DocName::Source => self.source_ready(alloc, document, next),
+            DocName::Module(name) => self.module_ready(alloc, name, document, next),
+        }
+    }
+
+    // The modules are what they are.
+    fn source_ready(&self, alloc: Global, document: Doc, next: NodeId) -> Result<Ready, Memory>
+        requires current { IsCurrent self.now }
+        requires grows { made_of self.now ≤ next.number }
+        requires below { AreBelow next.number document }
+        ensures { IfOk result (λ ready. IsReady (with_source (plain_of document)) next.number self.now ready) }
+    {
+        let compiled = self.compiled.as_ref();
+        let Ok(outcome) = outcome_of(alloc, compiled, &self.parameters, Some(&document)) else {
+            drop(document);
+            return Err(Memory);
+        };
+        Ok(Ready {
+            change: Change::Source(document),
+            next,
+            outcome,
+        })
+    }
+
+    // There is room for one module more afterwards, so that `adopt` takes no memory.
+    fn module_ready(
+        &mut self,
+        alloc: Global,
+        name: &Text,
+        document: Doc,
+        next: NodeId,
+    ) -> Result<Ready, Memory>
+        requires current { IsCurrent self.old }
+        requires grows { made_of self.old ≤ next.number }
+        requires below { AreBelow next.number document }
+        ensures ok { IfOk result (λ ready. IsReady (with_module name.now (plain_of document)) next.number self.new ready) }
+        ensures kept { IsKept self.old self.new }
+    {
+        let Ok(key) = String::from_str(alloc, name.as_str()) else {
+            drop(document);
+            return Err(Memory);
+        };
+        let tried = compiled_with(alloc, &mut self.modules, name, document)?;
+        let source = self.source.as_ref();
+        let compiled = tried.compiled.as_ref();
+        let Ok(outcome) = outcome_of(alloc, compiled, &self.parameters, source) else {
+            drop(tried);
+            return Err(Memory);
+        };
+        let Ok(()) = self.modules.reserve(1) else {
+            drop(outcome);
+            drop(tried);
+            return Err(Memory);
+        };
+        let Tried { compiled, document } = tried;
+        Ok(Ready {
+            change: Change::Module(key, document, compiled),
+            next,
+            outcome,
+        })
+    }
+
+    // What is removed takes no memory, so that `adopt` wants no room.
+    fn drop_ready(&mut self, alloc: Global, name: &Text) -> Result<Ready, Memory>
+        requires { IsCurrent self.old }
+        ensures ok { IfOk result (λ ready. IsReady (without_module name.now) (made_of self.new) self.new ready) }
+        ensures kept { IsKept self.old self.new }
+    {
+        let dropped = name.copy(alloc)?;
+        let compiled = compiled_without(alloc, &mut self.modules, name)?;
+        let source = self.source.as_ref();
+        let Ok(outcome) = outcome_of(alloc, compiled.as_ref(), &self.parameters, source) else {
+            drop(compiled);
+            return Err(Memory);
+        };
+        Ok(Ready {
+            change: Change::Dropped(dropped, compiled),
+            next: self.next,
+            outcome,
+        })
+    }
+
+    // There is room for one parameter more afterwards, so that `adopt` takes no memory.
+    fn parameter_ready(&mut self, alloc: Global, name: &Text, value: &Text) -> Result<Ready, Memory>
+        requires { IsCurrent self.old }
+        ensures ok { IfOk result (λ ready. IsReady (with_parameter name.now value.now) (made_of self.new) self.new ready) }
+        ensures kept { IsKept self.old self.new }
+    {
+        let compiled = self.compiled.as_ref();
+        let source = self.source.as_ref();
+        let tried = outcome_with(alloc, compiled, &mut self.parameters, name, value, source)?;
+        let TriedParameter {
+            name,
+            value,
+            outcome,
+        } = tried;
+        Ok(Ready {
+            change: Change::Parameter(name, value),
+            next: self.next,
+            outcome,
+        })
+    }
+
+    fn put(&mut self, change: Change)
+        requires { HasRoom change self.old }
+        ensures documents { documents_of self.new ≡ changed_by change (documents_of self.old) }
+        ensures compiled { self.new.compiled ≡ next_compiled change self.old }
+        ensures below { (first : ℕ) → HasBelow first self.old → IsBelow first change → HasBelow first self.new }
+    {
+        match change {
+            Change::Source(document) => self.put_source(document),
+            Change::Module(name, document, compiled) => self.put_module(name, document, compiled),
+            Change::Dropped(name, compiled) => self.take_module(&name, compiled),
+            Change::Parameter(name, value) => self.put_parameter(name, value),
+        }
+    }
+
+    fn put_source(&mut self, document: Doc)
+        ensures documents { documents_of self.new ≡ with_source (plain_of document) (documents_of self.old) }
+        ensures compiled { self.new.compiled ≡ self.old.compiled }
+        ensures below { (first : ℕ) → HasBelow first self.old → AreBelow first document → HasBelow first self.new }
+    {
+        drop(mem::replace(&mut self.source, Some(document)));
+    }
+
+    // There is room, so the insertion does not fail.
+    fn put_module(&mut self, name: String, document: Doc, compiled: Option<Compiled>)
+        requires { 0 < spare self.old.modules }
+        ensures documents { documents_of self.new ≡ with_module (chars (string_bytes name)) (plain_of document) (documents_of self.old) }
+        ensures compiled { self.new.compiled ≡ compiled }
+        ensures below { (first : ℕ) → HasBelow first self.old → AreBelow first document → HasBelow first self.new }
+    {
+        drop(self.modules.insert(name, document));
+        drop(mem::replace(&mut self.compiled, compiled));
+    }
+
+    fn take_module(&mut self, name: &Text, compiled: Option<Compiled>)
+        ensures documents { documents_of self.new ≡ without_module name.now (documents_of self.old) }
+        ensures compiled { self.new.compiled ≡ compiled }
+        ensures below { (first : ℕ) → HasBelow first self.old → HasBelow first self.new }
+    {
+        drop(self.modules.shift_remove(name.as_str()));
+        drop(mem::replace(&mut self.compiled, compiled));
+    }
+
+    // There is room, so that no memory is taken.
+    fn put_parameter(&mut self, name: String, value: Text)
+        requires { HasRoomForOne self.old.parameters }
+        ensures documents { documents_of self.new ≡ with_parameter (chars (string_bytes name)) value (documents_of self.old) }
+        ensures compiled { self.new.compiled ≡ self.old.compiled }
+        ensures below { (first : ℕ) → HasBelow first self.old → HasBelow first self.new }
+    {
+        self.parameters.keep(name, value);
+    }
+}
+
+// The same fault of a change.
+fn edit_fault(fault: BuildFault) -> EditFault
+    ensures { edit_fault_of fault ≡ result }
+{
+    match fault {
+        BuildFault::Memory => EditFault::Memory,
+        BuildFault::Refused(fault) => EditFault::Refused {
+            code: fault.code,
+            line: fault.line,
+        },
+    }
+}

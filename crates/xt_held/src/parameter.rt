@@ -1,0 +1,86 @@
+// Values that parameters are given.
+ghost use Rattle.std.specs.Prelude.{◌≡◌, IfOk, OnOk, string_bytes};
+ghost use Rattle.std.specs.List.{list_all};
+ghost use Rattle.std.specs.Option.{option_copied, option_map};
+ghost use Rattle.std.specs.Str.{chars};
+ghost use Rattle.spec_document.specs.Character as characters;
+ghost use Rattle.spec_structure.specs.Modules.{Modules};
+ghost use Rattle.spec_run.specs.Documents.{main_name, parameter_fault};
+ghost use Rattle.spec_run.specs.Outcome.{Comes};
+ghost use Rattle.xt_base.specs.Code.{edit_number};
+ghost use Rattle.xt_world.specs.ParameterView.{HasRoomForOne, parameters_of, with_value};
+ghost use Rattle.xt_held.specs.OutcomeView.{outcome_of, plain_in};
+ghost use Rattle.xt_held.specs.StylesheetView.{AreCompiled};
+
+use crate::outcome::{Outcome, outcome_of};
+use crate::stylesheet::Compiled;
+use std::alloc::Global;
+use xt_base::EditCode;
+use xt_names::{is_char, is_ncname};
+use xt_text::{Memory, Text};
+use xt_tree::Doc;
+use xt_world::Parameters;
+
+/// Why the parameter of this name may not be given this value: one of its characters, else the name.
+pub(crate) fn parameter_fault(name: &Text, value: &Text) -> Option<EditCode>
+    ensures { option_map edit_number result ≡ parameter_fault name.now value.now }
+{
+    if has_only_chars(value.as_str()) {
+        if is_ncname(name.as_str()) {
+            None
+        } else {
+            Some(EditCode::BadName)
+        }
+    } else {
+        Some(EditCode::BadLine)
+    }
+}
+
+// Whether each character is one of XML.
+fn has_only_chars(text: &str) -> bool
+    ensures { result ≡ list_all characters.is_char (chars text.now) }
+{
+    text.chars().all(|character| is_char(character))
+}
+
+/// A parameter with a value that was tried, and what the outcome was then.
+#[derive(Drop)]
+pub(crate) struct TriedParameter {
+    pub name: String,
+    pub value: Text,
+    pub outcome: Outcome,
+}
+
+/// The outcome of modules that are this on this source where the parameter of this name has this value. Afterwards the
+/// parameters are as before, with room for one more.
+pub(crate) fn outcome_with(
+    alloc: Global,
+    compiled: Option<&Compiled>,
+    parameters: &mut Parameters,
+    name: &Text,
+    value: &Text,
+    source: Option<&Doc>,
+) -> Result<TriedParameter, Memory>
+    ensures outcome { (modules : Modules) → AreCompiled modules (option_copied compiled.entry)
+        → IfOk result (λ tried. Comes modules (with_value name.now value.now (parameters_of parameters.old)) (modules main_name) (plain_in source.entry) (outcome_of tried.outcome)) }
+    ensures name { IfOk result (λ tried. chars (string_bytes tried.name) ≡ name.now) }
+    ensures value { IfOk result (λ tried. tried.value ≡ value.now) }
+    ensures room { OnOk result (HasRoomForOne parameters.new) }
+    ensures kept { parameters_of parameters.new ≡ parameters_of parameters.old }
+{
+    let key = String::from_str(alloc, name.as_str())?;
+    let kept = value.copy(alloc)?;
+    let before = parameters.give(alloc, name, value)?;
+    let outcome = outcome_of(alloc, compiled, parameters, source);
+    parameters.take_back(before);
+    let outcome = outcome?;
+    let Ok(()) = parameters.reserve() else {
+        drop(outcome);
+        return Err(Memory);
+    };
+    Ok(TriedParameter {
+        name: key,
+        value: kept,
+        outcome,
+    })
+}

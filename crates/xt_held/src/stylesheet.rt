@@ -1,0 +1,103 @@
+// The stylesheet that modules are.
+ghost use Rattle.std.specs.Prelude.{◌≡◌, IfOk, Ok};
+ghost use Rattle.spec_run.specs.Documents.{main_name};
+ghost use Rattle.xt_syntax.specs.SheetView.{sheet_of};
+ghost use Rattle.xt_compile.specs.View.{IsCompiled};
+ghost use Rattle.xt_import.specs.View.{modules_in};
+ghost use Rattle.xt_held.specs.StylesheetView.{AreCompiled, Holds, IsCompiledFrom, IsThere};
+
+use indexmap::IndexMap;
+use std::alloc::Global;
+use xt_compile::{SheetFault, StaticRefusal, sheet};
+use xt_questions::copy_name;
+use xt_syntax::{Method, Sheet, SpaceRules};
+use xt_text::{Memory, Text};
+use xt_tree::Doc;
+use xt_world::Stylesheet;
+
+// The name of the principal module.
+const MAIN: &str = "main";
+
+/// What modules are.
+#[derive(Drop)]
+pub(crate) enum Compiled {
+    /// A stylesheet, with its rules on the white space of the source and its output method.
+    Stylesheet(Stylesheet, SpaceRules, Option<Method>),
+    /// None: this is their first static refusal.
+    Refused(StaticRefusal),
+}
+
+/// What the modules are, where there is a module `main`.
+pub(crate) fn compile(
+    alloc: Global,
+    modules: &IndexMap<String, Doc>,
+) -> Result<Option<Compiled>, Memory>
+    ensures { IfOk result (λ compiled. AreCompiled (modules_in modules.now.entries) compiled) }
+{
+    match modules.get(MAIN) {
+        None => Ok(None),
+        Some(_) => Ok(Some(compiled_main(alloc, modules)?)),
+    }
+}
+
+// What the modules are, of which one is `main`.
+fn compiled_main(alloc: Global, modules: &IndexMap<String, Doc>) -> Result<Compiled, Memory>
+    requires { IsThere (modules_in modules.now.entries) main_name }
+    ensures { IfOk result (λ compiled. IsCompiledFrom (modules_in modules.now.entries) compiled) }
+{
+    match sheet_of_main(alloc, modules) {
+        Ok(sheet) => runnable(alloc, sheet),
+        Err(SheetFault::Refused(refusal)) => Ok(Compiled::Refused(refusal)),
+        Err(SheetFault::NoMain) => unreachable!(),
+        Err(SheetFault::Memory) => Err(Memory),
+    }
+}
+
+// The stylesheet of the modules, of which `main` is the principal one.
+fn sheet_of_main(alloc: Global, modules: &IndexMap<String, Doc>) -> Result<Sheet, SheetFault>
+    ensures { IsCompiled (modules_in modules.now.entries) main_name result }
+{
+    let main = Text::from_str(alloc, MAIN)?;
+    sheet(alloc, modules, &main)
+}
+
+// The stylesheet made ready to be run. The run asks neither for its rules of white space nor for its method.
+fn runnable(alloc: Global, sheet: Sheet) -> Result<Compiled, Memory>
+    ensures { IfOk result (λ compiled. Holds compiled (Ok (sheet_of sheet))) }
+{
+    let Sheet {
+        units,
+        rules,
+        space_rules,
+        method,
+        aliases,
+    } = sheet;
+    let asked = Sheet {
+        units,
+        rules,
+        space_rules: SpaceRules {
+            rules: Vec::new(alloc),
+        },
+        method: None,
+        aliases,
+    };
+    let Ok(stylesheet) = Stylesheet::new(alloc, asked) else {
+        drop(space_rules);
+        drop(method);
+        return Err(Memory);
+    };
+    Ok(Compiled::Stylesheet(stylesheet, space_rules, method))
+}
+
+/// The same output method, in memory of its own.
+pub(crate) fn copy_method(alloc: Global, method: &Option<Method>) -> Result<Option<Method>, Memory>
+    ensures { IfOk result (λ copy. copy ≡ method.now) }
+{
+    match method {
+        None => Ok(None),
+        Some(Method::Xml) => Ok(Some(Method::Xml)),
+        Some(Method::Html) => Ok(Some(Method::Html)),
+        Some(Method::Text) => Ok(Some(Method::Text)),
+        Some(Method::Other(name)) => Ok(Some(Method::Other(copy_name(alloc, name)?))),
+    }
+}

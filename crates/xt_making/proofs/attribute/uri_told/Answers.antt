@@ -1,4 +1,0 @@
-use Rattle.xt_making.proofs.attribute.uri_told.Goals as goal
-
-pub returns-in-None : goal.returns-in-None
-returns-in-None c supply depth s = rw c.in-None.is (c.uri_called.ensures supply depth s)

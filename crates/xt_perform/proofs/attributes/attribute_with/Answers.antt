@@ -1,5 +1,0 @@
-use Rattle.xt_frames.proofs.Items.{view-Attribute}
-use Rattle.xt_perform.proofs.attributes.attribute_with.Goals as goal
-
-pub returns : goal.returns
-returns c = view-Attribute c.args.name c.args.uri c.args.content

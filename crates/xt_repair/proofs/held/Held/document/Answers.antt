@@ -1,5 +1,0 @@
-use Rattle.xt_repair.proofs.Keeping.{named_so}
-use Rattle.xt_repair.proofs.held.Held.document.Goals as goal
-
-pub returns : goal.returns
-returns c = named_so c.args.name c.args.self.now c.found.result c.found.ensures

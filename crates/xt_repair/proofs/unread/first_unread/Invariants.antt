@@ -1,6 +1,0 @@
-use Rattle.std.proofs.Common.{◌≡◌, ◌+◌, drop}
-use Rattle.xt_repair.specs.Unread.{first_unread}
-use Rattle.xt_repair.proofs.unread.first_unread.Given as goal
-
-abbrev pub invariant-loop-i : goal.invariant-loop-i
-invariant-loop-i l = first_unread (1 + l.i) (drop l.i l.lines) ≡ first_unread 1 l.lines

@@ -1,0 +1,5 @@
+mod Nexts
+mod Starts
+mod Passed
+mod Globals
+mod Onwards

@@ -1,0 +1,28 @@
+use Rattle.std.proofs.Common.{◌≡◌, ◌<◌, ◌∙◌, List, arith, length}
+use Rattle.std.proofs.lemmas.Bool.Decides.{nat_tests}
+use Rattle.spec_run.specs.Plan.{Plan}
+use Rattle.spec_run.specs.Content.{applied_to}
+use Rattle.xt_syntax.specs.PartView.{place_of}
+use Rattle.xt_tree.specs.declared.node_ref.NodeRef.{NodeRef}
+use Rattle.xt_questions.specs.View.{bindings_of}
+use Rattle.xt_frames.specs.View.{here_of}
+use Rattle.xt_frames.specs.Left.{left_in}
+use Rattle.xt_frames.proofs.Lefts.{if_ok}
+use Rattle.xt_runner.proofs.Passed.{steps_as, sorted_by, sorted_by_none}
+use Rattle.xt_runner.proofs.parameters.sort.Goals as goal
+
+pub returns-then-is_empty-clause-does : goal.returns-then-is_empty-clause-does
+returns-then-is_empty-clause-does g c =
+    let a = c.args.left in
+    let keys = c.args.keys.value in
+    let k : List NodeRef → Plan NodeRef = λ ns. applied_to (place_of a.place) a.mode (bindings_of a.parameters) a.depth ns (left_in c.args.run.now) in
+    let none : length keys.items ≡ 0 = grind (arith, nat_tests, keys.ok.0, c.is_empty.ensures, c.deref.ensures, c.if-is_empty.true) in
+    if_ok c.go_on_application.result c.go_on_application.ensures.does (λ next h. steps_as (sorted_by_none keys.items (here_of c.args.here) a.nodes.items k none) h)
+
+pub returns-clause-does : goal.returns-clause-does
+returns-clause-does g c =
+    let a = c.args.left in
+    let keys = c.args.keys.value in
+    let k : List NodeRef → Plan NodeRef = λ ns. applied_to (place_of a.place) a.mode (bindings_of a.parameters) a.depth ns (left_in c.args.run.now) in
+    let some : 0 < length keys.items = grind (arith, nat_tests, keys.ok.0, c.is_empty.ensures, c.deref.ensures, c.if-is_empty.false) in
+    if_ok c.go_on_sorting.result c.go_on_sorting.ensures.does (λ next h. steps_as (c.unsorted-sorting.ensures (left_in c.args.run.now) ∙ sorted_by keys.items (here_of c.args.here) a.nodes.items k some) h)

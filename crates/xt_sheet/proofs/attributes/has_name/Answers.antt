@@ -1,9 +1,0 @@
-use Rattle.std.proofs.Common.{◌≡◌, map, codes}
-use Rattle.std.specs.Str.{chars}
-use Rattle.spec_structure.specs.Structure.{has_attribute}
-use Rattle.xt_tree.specs.View.{written_of}
-use Rattle.xt_sheet.proofs.attributes.has_name.Goals as goal
-
-pub returns : goal.returns
-unfolding chars
-returns c = let e : c.has_attribute.result ≡ has_attribute c.args.scope.now (codes "name") (map written_of c.args.attributes.now) = c.has_attribute.ensures in e

@@ -1,7 +1,0 @@
-use Rattle.std.proofs.Common.{◌≡◌, codes, bytes_eq}
-use Rattle.std.specs.Str.{chars}
-use Rattle.xt_sheet.proofs.values.is_all.Goals as goal
-
-pub returns : goal.returns
-unfolding chars
-returns c = let e : c.is.result ≡ bytes_eq c.args.word.now (codes "*") = c.is.ensures in e

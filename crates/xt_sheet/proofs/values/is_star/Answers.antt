@@ -1,7 +1,0 @@
-use Rattle.std.proofs.Common.{◌≡◌, codes, bytes_eq}
-use Rattle.std.specs.Str.{chars}
-use Rattle.xt_sheet.proofs.values.is_star.Goals as goal
-
-pub returns : goal.returns
-unfolding chars
-returns c = let e : c.same.result ≡ bytes_eq (chars c.args.text.now) (codes "*") = c.same.ensures in e

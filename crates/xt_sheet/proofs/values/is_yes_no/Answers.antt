@@ -1,8 +1,0 @@
-use Rattle.std.proofs.Common.{◌≡◌}
-use Rattle.std.specs.Str.{chars}
-use Rattle.spec_structure.specs.Structure.{is_yes_no}
-use Rattle.xt_sheet.proofs.values.is_yes_no.Goals as goal
-
-pub returns : goal.returns
-unfolding chars
-returns c = let e : c.is_one_of.result ≡ is_yes_no (chars c.args.text.now) = c.is_one_of.ensures in e

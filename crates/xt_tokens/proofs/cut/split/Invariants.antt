@@ -1,6 +1,0 @@
-use Rattle.std.proofs.Common.{◌≡◌}
-use Rattle.spec_format.specs.Format as spec
-use Rattle.xt_tokens.proofs.cut.split.Given as goal
-
-abbrev pub invariant-loop-character : goal.invariant-loop-character
-invariant-loop-character l = l.cut ≡ spec.cut l.yielded

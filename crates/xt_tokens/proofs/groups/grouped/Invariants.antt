@@ -1,7 +1,0 @@
-use Rattle.std.proofs.Common.{length, drop}
-use Rattle.std.specs.Str.{chars}
-use Rattle.xt_tokens.proofs.Grouped.{Grouping}
-use Rattle.xt_tokens.proofs.groups.grouped.Given as goal
-
-abbrev pub invariant-loop-digit : goal.invariant-loop-digit
-invariant-loop-digit l = Grouping l.grouping l.text l.behind (drop (length l.yielded) (chars l.digits)) (chars l.digits)

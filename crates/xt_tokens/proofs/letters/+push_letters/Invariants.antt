@@ -1,4 +1,0 @@
-use Rattle.xt_tokens.proofs.letters.+push_letters.Given as goal
-
-abbrev pub decreases-push_letters : goal.decreases-push_letters
-decreases-push_letters l = l.number

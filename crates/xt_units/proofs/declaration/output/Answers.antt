@@ -1,9 +1,0 @@
-use Rattle.std.proofs.Common.{◌∙◌, ap}
-use Rattle.std.specs.Option.{option_and_then}
-use Rattle.std.specs.Str.{chars}
-use Rattle.spec_compile.specs.Unit.{AnOutput, method_in}
-use Rattle.xt_units.proofs.declaration.output.Goals as goal
-
-pub returns : goal.returns
-unfolding chars
-returns c = ap AnOutput (c.into_method.ensures ∙ ap (option_and_then method_in) c.take.ensures.taken)
