@@ -7,7 +7,7 @@ use Rattle.spec_meaning.specs.Program.{Given, Program, Give, Refuse, Ask, Need, 
 use Rattle.spec_meaning.specs.Program.{Ending, Supply, with_reads, if_given, run, outcome_of, reads_of, Hold}
 use Rattle.spec_meaning.proofs.Runs as programs
 use Rattle.spec_meaning.proofs.Runs.{run_is}
-use Rattle.xt_tree.specs.declared.node_ref.NodeRef.{NodeRef}
+use Rattle.spec_node.specs.declared.node_ref.NodeRef.{NodeRef}
 use Rattle.xt_questions.specs.declared.fault.EvalFault.{EvalFault}
 use Rattle.xt_questions.specs.declared.fault.EvalFault.TheVariants as faults
 use Rattle.xt_questions.specs.Change.{AllStand}

@@ -13,8 +13,8 @@ use Rattle.spec_run.specs.Trail.{Trail, IsTrue}
 use Rattle.spec_run.specs.Trail as trail
 use Rattle.spec_run.specs.Content.{plan_of}
 use Rattle.spec_run.proofs.Trails.{trail_trace}
-use Rattle.xp_axes.specs.View.{same_ref}
-use Rattle.xt_tree.specs.declared.node_ref.NodeRef.{NodeRef}
+use Rattle.spec_node.specs.Naming.{same_ref}
+use Rattle.spec_node.specs.declared.node_ref.NodeRef.{NodeRef}
 use Rattle.xt_tree.specs.declared.value.Value as code
 use Rattle.xt_engine.specs.View.{call_of}
 use Rattle.xt_engine.specs.declared.turn.Turn.TheVariants.{Want, WantGlobal, Done}

@@ -8,7 +8,7 @@ use Rattle.spec_transform.specs.Key.{Entry}
 use Rattle.spec_transform.specs.Numbering.{Counted}
 use Rattle.spec_transform.specs.Sorted.{Criterion, KeyValue}
 use Rattle.spec_run.specs.Plan.{Wrapping}
-use Rattle.xt_tree.specs.declared.node_ref.NodeRef.{NodeRef}
+use Rattle.spec_node.specs.declared.node_ref.NodeRef.{NodeRef}
 
 pub data ResultType : Type 0 where
   -- an expression, and a call of a function

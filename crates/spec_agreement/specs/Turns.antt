@@ -7,7 +7,7 @@ use Rattle.spec_run.specs.Plan.{Call}
 use Rattle.spec_run.specs.Direct.{Outcome}
 use Rattle.spec_run.specs.Trail.{Kept}
 use Rattle.spec_run.specs.Meaning.{Setting, Past, settled, meaning}
-use Rattle.xt_tree.specs.declared.node_ref.NodeRef.{NodeRef}
+use Rattle.spec_node.specs.declared.node_ref.NodeRef.{NodeRef}
 use Rattle.xt_engine.specs.declared.turn.Turn.TheVariants.{Want, WantGlobal, Done}
 use Rattle.xt_engine.specs.Progress.{Progress, Gift, Streamed, Evaluated}
 use Rattle.xt_engine.specs.Advances.{Advances, Made, ran_of}

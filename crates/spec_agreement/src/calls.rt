@@ -1,7 +1,7 @@
 // Laws of calls that run a program in a world: of each function that has the clause `Runs`. `X` is what a call gives.
 ghost use Rattle.std.specs.Prelude.{◌≡◌, ℕ, ◌++◌, List, Some, Result, IfSome};
 ghost use Rattle.spec_meaning.specs.Program.{Program, Supply, State, Read, Said, IsEnded, Hold, outcome_of, reads_of, with_reads};
-ghost use Rattle.xt_tree.specs.declared.node_ref.NodeRef.{NodeRef};
+ghost use Rattle.spec_node.specs.declared.node_ref.NodeRef.{NodeRef};
 ghost use Rattle.xt_questions.specs.Change.{AllStand};
 ghost use Rattle.xt_questions.specs.Runs.{Runs};
 ghost use Rattle.xt_questions.specs.declared.fault.EvalFault.{EvalFault};

@@ -2,7 +2,7 @@
 ghost use Rattle.std.specs.Prelude.{◌≡◌, ℕ};
 ghost use Rattle.spec_meaning.specs.Program.{Program, Supply, State, IsEnded, Hold, run, outcome_of, reads_of, with_reads};
 ghost use Rattle.spec_meaning.specs.Question.{Question, Answer};
-ghost use Rattle.xt_tree.specs.declared.node_ref.NodeRef.{NodeRef};
+ghost use Rattle.spec_node.specs.declared.node_ref.NodeRef.{NodeRef};
 ghost use Rattle.spec_agreement.specs.Results.{ResultType, ResultOf};
 
 /// Reads suffice: where the reads of a program that ended hold, it ends alike and reads the same.

@@ -25,8 +25,8 @@ use Rattle.spec_run.specs.Documents.{Parameters}
 use Rattle.spec_run.specs.Copy.{copy_of}
 use Rattle.spec_run.specs.World.{truth_by}
 use Rattle.spec_change.specs.Change.{Change, is_among}
-use Rattle.xt_tree.specs.declared.node_ref.NodeRef.{NodeRef}
-use Rattle.xp_axes.specs.View.{number_of, part_at, ref_of, same_ref}
+use Rattle.spec_node.specs.declared.node_ref.NodeRef.{NodeRef}
+use Rattle.spec_node.specs.Naming.{number_of, part_at, ref_of, same_ref}
 use Rattle.xp_axes.proofs.Kept.{ref_is}
 use Rattle.spec_touch.specs.Touched.{goes_or_comes, is_changed, holds_change, is_child, step_by_children}
 use Rattle.spec_touch.specs.Touched.{step_by_attributes, inside_by_children}

@@ -15,9 +15,9 @@ use Rattle.spec_document.specs.Order.{Entry, namespace_entries, attribute_entrie
 use Rattle.spec_run.specs.Copy.{copy_of, copied_by}
 use Rattle.spec_edit.proofs.Numbers.{unlike}
 use Rattle.spec_change.specs.Change.{Change, is_among}
-use Rattle.xt_tree.specs.declared.node_ref.NodeRef.{NodeRef}
-use Rattle.xt_tree.specs.declared.node_ref.Part.TheVariants as part
-use Rattle.xp_axes.specs.View.{number_of, ref_of}
+use Rattle.spec_node.specs.declared.node_ref.NodeRef.{NodeRef}
+use Rattle.spec_node.specs.declared.node_ref.Part.TheVariants as part
+use Rattle.spec_node.specs.Naming.{number_of, ref_of}
 use Rattle.spec_touch.specs.Touched.{goes_or_comes, holds_change, inside_by_children}
 use Rattle.spec_touch.specs.Leads.{Parts, at_end, stays, rewritten, goes, comes}
 use Rattle.spec_touch.proofs.Positions.{self, rises_from, Where, here, higher, child, elsewhere, Stands, deeper}

@@ -6,7 +6,7 @@ use Rattle.spec_document.specs.declared.axis.Axis.TheVariants as axis
 use Rattle.spec_meaning.specs.Question as question
 use Rattle.spec_meaning.specs.Question.{Question}
 use Rattle.spec_change.specs.Change.{Change, is_among}
-use Rattle.xt_tree.specs.declared.node_ref.NodeRef.{NodeRef}
+use Rattle.spec_node.specs.declared.node_ref.NodeRef.{NodeRef}
 use Rattle.spec_touch.specs.Touched.{is_itself, is_attribute, is_one_of, goes_or_comes, is_changed, holds_change, is_child, step_by_children}
 use Rattle.spec_touch.specs.Touched.{inside_by_children, by_children}
 use Rattle.spec_touch.specs.Moved.{asks_order}

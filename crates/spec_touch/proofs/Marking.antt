@@ -5,8 +5,8 @@ use Rattle.spec_document.specs.Order.{entries_of}
 use Rattle.spec_meaning.specs.Question as question
 use Rattle.spec_meaning.specs.Question.{Question, Passed}
 use Rattle.spec_run.specs.World.{truth_by}
-use Rattle.xt_tree.specs.declared.node_ref.NodeRef.{NodeRef}
-use Rattle.xp_axes.specs.View.{ref_of, same_ref}
+use Rattle.spec_node.specs.declared.node_ref.NodeRef.{NodeRef}
+use Rattle.spec_node.specs.Naming.{ref_of, same_ref}
 use Rattle.spec_touch.specs.Marks.{World, answers, marks, by_modules, by_parameter, ComesTo, by_edit, by_source}
 use Rattle.spec_touch.specs.Marks.{by_module, by_other_sight, by_value}
 use Rattle.spec_touch.specs.Marks.{WorldChange}

@@ -21,8 +21,8 @@ use Rattle.spec_change.proofs.Changing.{with_children}
 use Rattle.spec_move.specs.Move.{is_path, origin_faults, target_faults, moved_there, moved_nodes, rearranged}
 use Rattle.spec_move.proofs.Around.{path-spot, steps_of}
 use Rattle.spec_move.proofs.Shapes.{reordered}
-use Rattle.xt_tree.specs.declared.node_ref.NodeRef.{NodeRef}
-use Rattle.xp_axes.specs.View.{ref_of, same_ref}
+use Rattle.spec_node.specs.declared.node_ref.NodeRef.{NodeRef}
+use Rattle.spec_node.specs.Naming.{ref_of, same_ref}
 use Rattle.spec_touch.specs.Touched.{is_touched}
 use Rattle.spec_touch.specs.Leads.{Leads, seen_change}
 use Rattle.spec_seen.specs.Seen.{seen}

@@ -21,8 +21,8 @@ use Rattle.spec_change.specs.Change.{Change, is_among, without, sibling_labels, 
 use Rattle.spec_change.proofs.Changing.{with_children}
 use Rattle.spec_change.proofs.Gone.{some-among}
 use Rattle.spec_move.proofs.Shapes.{Reordered, is_later, is_earlier}
-use Rattle.xt_tree.specs.declared.node_ref.NodeRef.{NodeRef}
-use Rattle.xp_axes.specs.View.{ref_of, same_ref}
+use Rattle.spec_node.specs.declared.node_ref.NodeRef.{NodeRef}
+use Rattle.spec_node.specs.Naming.{ref_of, same_ref}
 use Rattle.spec_touch.specs.Touched.{by_children}
 use Rattle.spec_touch.specs.Moved.{asks_order}
 use Rattle.spec_touch.proofs.Answering.{unmarked, neither-first, neither-second}

@@ -13,8 +13,8 @@ use Rattle.spec_document.specs.Order.{Entry, attribute_entries, own_entries, ent
 use Rattle.spec_meaning.specs.Naming.{Beside, first, later}
 use Rattle.spec_edit.proofs.Numbers.{unlike}
 use Rattle.spec_change.specs.Change.{Change, is_among, sibling_labels}
-use Rattle.xt_tree.specs.declared.node_ref.NodeRef.{NodeRef}
-use Rattle.xt_tree.specs.declared.node_ref.Part.TheVariants as part
+use Rattle.spec_node.specs.declared.node_ref.NodeRef.{NodeRef}
+use Rattle.spec_node.specs.declared.node_ref.Part.TheVariants as part
 use Rattle.spec_touch.specs.Touched.{goes_or_comes, holds_change, inside_by_children}
 use Rattle.spec_touch.specs.Leads.{Rewrites, Parts, at_end, stays, rewritten, goes, comes, ChildrenChange}
 use Rattle.spec_touch.specs.Leads.{ChangesIn, children, attributes, inside, further, Leads, at_root, below_root}

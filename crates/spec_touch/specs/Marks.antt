@@ -10,8 +10,8 @@ use Rattle.spec_meaning.specs.Question.{Question, Answer, Step, Text, Name, Plac
 use Rattle.spec_run.specs.Documents.{Parameters}
 use Rattle.spec_run.specs.World.{truth_by}
 use Rattle.spec_change.specs.Change.{Change}
-use Rattle.xt_tree.specs.declared.node_ref.NodeRef.{NodeRef}
-use Rattle.xp_axes.specs.View.{ref_of, same_ref}
+use Rattle.spec_node.specs.declared.node_ref.NodeRef.{NodeRef}
+use Rattle.spec_node.specs.Naming.{ref_of, same_ref}
 use Rattle.spec_touch.specs.Touched.{is_touched}
 use Rattle.spec_touch.specs.Leads.{Leads}
 

@@ -9,7 +9,7 @@ use Rattle.spec_edit.specs.Splice.{Spot, spot_of, children_changed, deleted}
 use Rattle.spec_meaning.specs.Question.{Question, Step, Text, Name, Place, Order, Key, Choice, Copy, Unit, External}
 use Rattle.spec_change.specs.Change.{Change, change_at}
 use Rattle.spec_move.specs.Move.{is_path, path_without}
-use Rattle.xt_tree.specs.declared.node_ref.NodeRef.{NodeRef}
+use Rattle.spec_node.specs.declared.node_ref.NodeRef.{NodeRef}
 use Rattle.spec_touch.specs.Touched.{is_touched}
 
 -- each change is one of children

@@ -15,8 +15,8 @@ use Rattle.spec_document.specs.Axis.{is_in_tree, is_on, is_later_child}
 use Rattle.spec_document.proofs.Ways.{way_same}
 use Rattle.spec_document.proofs.Listed.{way_self, Namespaces, rises, below, less, first_of, second_of, namespaces-rise}
 use Rattle.xt_tree.specs.View.{itself}
-use Rattle.xt_tree.specs.declared.node_ref.NodeRef.{NodeRef}
-use Rattle.xt_tree.specs.declared.node_ref.Part.TheVariants as part
+use Rattle.spec_node.specs.declared.node_ref.NodeRef.{NodeRef}
+use Rattle.spec_node.specs.declared.node_ref.Part.TheVariants as part
 use Rattle.xp_axes.specs.Along.{if_taken, taken, below as below_axis, beside, is_above, is_itself}
 use Rattle.xp_axes.proofs.Picked.{both, within, listing, picked, picked_append, passed_over, own_is, taken_all}
 

@@ -11,10 +11,10 @@ use Rattle.spec_document.specs.Place.{Ending, Itself, AtAttribute, AtNamespace, 
 use Rattle.spec_document.specs.Place.{namespaces_of, Item, AttributeNode, NamespaceNode, attribute_at, namespace_at}
 use Rattle.spec_document.specs.Order.{Entry, namespace_entries, attribute_entries, own_entries, entries_in}
 use Rattle.xt_tree.specs.View.{part_of}
-use Rattle.xt_tree.specs.declared.node_ref.NodeRef.{NodeRef}
-use Rattle.xt_tree.specs.declared.node_ref.Part.{Part}
-use Rattle.xt_tree.specs.declared.node_ref.Part.TheVariants as part
-use Rattle.xp_axes.specs.View.{ref_of, number_of, part_at, same_ref, same_part}
+use Rattle.spec_node.specs.declared.node_ref.NodeRef.{NodeRef}
+use Rattle.spec_node.specs.declared.node_ref.Part.{Part}
+use Rattle.spec_node.specs.declared.node_ref.Part.TheVariants as part
+use Rattle.spec_node.specs.Naming.{ref_of, number_of, part_at, same_ref, same_part}
 use Rattle.xp_axes.proofs.Picked.{under, listing, listed_node}
 
 abbrev pub IsEnding : Found ℕ → Ending → ℕ → Type 0

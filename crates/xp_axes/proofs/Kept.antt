@@ -18,9 +18,9 @@ use Rattle.spec_document.specs.Order.{Entry, entries_of}
 use Rattle.spec_meaning.specs.Step.{ordered}
 use Rattle.xt_tree.specs.Numbers.{IsNumbered, are_distinct}
 use Rattle.xt_tree.specs.View.{numbered_node, item_of, IsWayTo, IsPlaceOf}
-use Rattle.xt_tree.specs.declared.node_ref.NodeRef.{NodeRef}
+use Rattle.spec_node.specs.declared.node_ref.NodeRef.{NodeRef}
 use Rattle.xt_tree.proofs.Distinct.{numbered_at, only_way}
-use Rattle.xp_axes.specs.View.{ref_of, same_ref, same_part, part_at, number_of}
+use Rattle.spec_node.specs.Naming.{ref_of, same_ref, same_part, part_at, number_of}
 use Rattle.xp_axes.specs.Placed.{Placed, placed_cmp, placed_of, place_of, places_of}
 use Rattle.xp_axes.proofs.Entries.{IsAt, AllAt, all_at}
 use Rattle.xp_axes.proofs.Located.{same_parts, IsEntryOf}

@@ -13,11 +13,12 @@ use Rattle.spec_document.specs.Place.{attributes_of, namespaces_of, Item}
 use Rattle.spec_document.specs.Order.{Way, ToNamespace, ToAttribute, ToChild, way_to, end_of, Entry, entries_of, namespace_entries, attribute_entries}
 use Rattle.spec_document.specs.Axis.{is_on}
 use Rattle.xt_tree.specs.View.{itself, part_of}
-use Rattle.xt_tree.specs.declared.node_ref.NodeRef.{NodeRef}
-use Rattle.xt_tree.specs.declared.node_ref.Part.{Part}
-use Rattle.xt_tree.specs.declared.node_ref.Part.TheVariants as part
+use Rattle.spec_node.specs.declared.node_ref.NodeRef.{NodeRef}
+use Rattle.spec_node.specs.declared.node_ref.Part.{Part}
+use Rattle.spec_node.specs.declared.node_ref.Part.TheVariants as part
 use Rattle.xp_axes.specs.declared.extent.Extent.TheVariants.{Nothing}
-use Rattle.xp_axes.specs.View.{ref_of, number_of, part_at, same_ref, same_part, axis_from, on_axis}
+use Rattle.xp_axes.specs.View.{axis_from, on_axis}
+use Rattle.spec_node.specs.Naming.{ref_of, number_of, part_at, same_ref, same_part}
 use Rattle.xp_axes.specs.Along.{if_taken, taken, around, before, after, is_above, is_itself, below, ended, along, is_end, IsWalked}
 use Rattle.xp_axes.proofs.Picked.{listing, picked, picked_is, attributes_none, namespaces_none}
 use Rattle.xp_axes.proofs.Onward.{led, positive}

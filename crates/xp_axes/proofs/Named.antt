@@ -9,8 +9,8 @@ use Rattle.spec_document.specs.Place.{Found, found_in, first_in, root_of, Item}
 use Rattle.spec_document.specs.Order.{Entry, own_entries, entries_in, entries_of}
 use Rattle.xt_tree.specs.Numbers.{IsNumbered}
 use Rattle.xt_tree.specs.View.{part_of, item_of, numbered_node}
-use Rattle.xt_tree.specs.declared.node_ref.NodeRef.{NodeRef}
-use Rattle.xp_axes.specs.View.{ref_of, same_ref}
+use Rattle.spec_node.specs.declared.node_ref.NodeRef.{NodeRef}
+use Rattle.spec_node.specs.Naming.{ref_of, same_ref}
 use Rattle.xp_axes.proofs.Picked.{under, listing, listed_node}
 use Rattle.xp_axes.proofs.Entries.{has, has_under, has_left, has_right, has_own, found_first, all_at}
 use Rattle.xp_axes.proofs.Reached.{or_some, item_is, all_items}

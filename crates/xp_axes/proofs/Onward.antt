@@ -14,8 +14,8 @@ use Rattle.spec_document.specs.Axis.{is_on}
 use Rattle.spec_document.proofs.Ways.{way_total}
 use Rattle.spec_document.proofs.Listed.{less-number, way_self}
 use Rattle.xt_tree.specs.View.{itself}
-use Rattle.xt_tree.specs.declared.node_ref.NodeRef.{NodeRef}
-use Rattle.xt_tree.specs.declared.node_ref.Part.{Part}
+use Rattle.spec_node.specs.declared.node_ref.NodeRef.{NodeRef}
+use Rattle.spec_node.specs.declared.node_ref.Part.{Part}
 use Rattle.xp_axes.specs.Along.{if_taken, around, before, after, is_above, is_end, is_no_part, along}
 use Rattle.xp_axes.proofs.Picked.{both, within, listing, picked, picked_append, own_only, around_is}
 

@@ -8,10 +8,10 @@ use Rattle.spec_document.specs.Place.{Found, found_in, child_at, attributes_of, 
 use Rattle.spec_document.specs.Order.{Way, ToNamespace, ToAttribute, ToChild, way_to, Entry, namespace_entries, attribute_entries, own_entries, entries_in}
 use Rattle.spec_document.specs.Axis.{is_in_tree}
 use Rattle.xt_tree.specs.View.{itself}
-use Rattle.xt_tree.specs.declared.node_ref.NodeRef.{NodeRef}
+use Rattle.spec_node.specs.declared.node_ref.NodeRef.{NodeRef}
 use Rattle.xp_axes.specs.declared.extent.Extent.{Extent}
 use Rattle.xp_axes.specs.declared.extent.Extent.TheVariants.{Nothing, Themselves, WithAllBelow}
-use Rattle.xp_axes.specs.View.{ref_of}
+use Rattle.spec_node.specs.Naming.{ref_of}
 use Rattle.xp_axes.specs.Along.{taken, taken_one, if_taken, around}
 
 kept : {A : Type 0} (x : A) (xs ys : List A) → xs ≡ ys → x ∷ xs ≡ x ∷ ys

@@ -14,8 +14,8 @@ use Rattle.spec_document.specs.Place.{Found, found_in, root_of, attributes_of, n
 use Rattle.spec_document.specs.Order.{Entry, namespace_entries, attribute_entries, own_entries, entries_in, entries_of}
 use Rattle.spec_document.proofs.Listed.{less-number}
 use Rattle.xt_tree.specs.View.{itself}
-use Rattle.xt_tree.specs.declared.node_ref.Part.{Part}
-use Rattle.xt_tree.specs.declared.node_ref.Part.TheVariants as part
+use Rattle.spec_node.specs.declared.node_ref.Part.{Part}
+use Rattle.spec_node.specs.declared.node_ref.Part.TheVariants as part
 use Rattle.xp_axes.specs.Placed.{Placed, rank, part_cmp, placed_cmp, placed_of}
 use Rattle.xp_axes.proofs.Picked.{under, listing, listed_node, map_append}
 

@@ -7,7 +7,7 @@ use Rattle.std.specs.List.{find, list_all}
 use Rattle.std.proofs.lemmas.Bool.{eqb-true, and_parts}
 use Rattle.spec_document.specs.declared.axis.Axis.{Axis}
 use Rattle.spec_document.specs.declared.axis.Axis.TheVariants as axis
-use Rattle.xt_tree.specs.declared.node_ref.Part.TheVariants as part
+use Rattle.spec_node.specs.declared.node_ref.Part.TheVariants as part
 use Rattle.xp_axes.specs.Along.{IsWalked}
 use Rattle.spec_document.specs.Forest.{Document, Content, Forest, Empty, Node, labels}
 use Rattle.spec_document.specs.Numbering.{number_limit}
@@ -18,10 +18,11 @@ use Rattle.spec_expression.specs.Syntax.{Test}
 use Rattle.spec_meaning.specs.Step.{passes, step_from, stepped}
 use Rattle.xt_tree.specs.Numbers.{IsNumbered, are_distinct}
 use Rattle.xt_tree.specs.View.{part_of, item_of, numbered_node, IsPlaceOf}
-use Rattle.xt_tree.specs.declared.node_ref.NodeRef.{NodeRef}
-use Rattle.xt_tree.specs.declared.node_ref.Part.{Part}
+use Rattle.spec_node.specs.declared.node_ref.NodeRef.{NodeRef}
+use Rattle.spec_node.specs.declared.node_ref.Part.{Part}
 use Rattle.xt_tree.proofs.Distinct.{numbered_at}
-use Rattle.xp_axes.specs.View.{ref_of, same_ref, part_at, axis_from, on_axis, is_passing, AreNodes}
+use Rattle.xp_axes.specs.View.{axis_from, on_axis, is_passing, AreNodes}
+use Rattle.spec_node.specs.Naming.{ref_of, same_ref, part_at}
 use Rattle.xp_axes.proofs.Entries.{IsAt, AllAt, all_at}
 use Rattle.xp_axes.proofs.Located.{IsEntryOf, entry_of}
 

@@ -9,9 +9,9 @@ use Rattle.std.specs.Prelude.{map}
 use Rattle.std.specs.List.{slice_range, range_with_len}
 use Rattle.spec_document.specs.declared.axis.Axis.{Axis}
 use Rattle.xt_tree.specs.View.{forest_of, tree_of, itself}
-use Rattle.xt_tree.specs.declared.node_ref.Part.{Part}
+use Rattle.spec_node.specs.declared.node_ref.Part.{Part}
 use Rattle.xt_tree.specs.declared.node.Node.{Node}
-use Rattle.xt_tree.specs.declared.node_ref.NodeRef.{NodeRef}
+use Rattle.spec_node.specs.declared.node_ref.NodeRef.{NodeRef}
 use Rattle.xp_axes.specs.declared.extent.Extent.{Extent}
 use Rattle.xp_axes.specs.declared.extent.Extent.TheVariants.{Nothing, Themselves, WithAllBelow}
 use Rattle.xp_axes.specs.Along.{if_taken, taken, taken_one, around, before, after, is_above, is_end, along}

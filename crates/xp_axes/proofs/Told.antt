@@ -10,10 +10,10 @@ use Rattle.spec_document.specs.Place.{attributes_of, namespaces_of}
 use Rattle.spec_document.specs.Order.{Entry, namespace_entries, attribute_entries, own_entries, entries_in, entries_of}
 use Rattle.spec_meaning.specs.Naming.{AllDiffer, AreApart}
 use Rattle.xt_tree.specs.Numbers.{are_distinct, IsNumbered}
-use Rattle.xt_tree.specs.declared.node_ref.Part.{Part}
-use Rattle.xt_tree.specs.declared.node_ref.Part.TheVariants as part
+use Rattle.spec_node.specs.declared.node_ref.Part.{Part}
+use Rattle.spec_node.specs.declared.node_ref.Part.TheVariants as part
 use Rattle.xt_tree.proofs.Distinct.{is_among, or_left, or_right, not_false, apart, distinct_parts, not_before}
-use Rattle.xp_axes.specs.View.{ref_of, number_of, same_ref, same_part}
+use Rattle.spec_node.specs.Naming.{ref_of, number_of, same_ref, same_part}
 
 abbrev pub Told : List (Entry ℕ) → Type 0
 Told es = AreApart ref_of same_ref es

@@ -6,8 +6,8 @@ use Rattle.spec_document.specs.Order.{entries_of}
 use Rattle.spec_meaning.specs.Question.{Question, Answer}
 use Rattle.spec_meaning.specs.Truth.{answer_by}
 use Rattle.spec_meaning.specs.Naming.{Names, unlabelled}
-use Rattle.xt_tree.specs.declared.node_ref.NodeRef.{NodeRef}
-use Rattle.xp_axes.specs.View.{ref_of, same_ref}
+use Rattle.spec_node.specs.declared.node_ref.NodeRef.{NodeRef}
+use Rattle.spec_node.specs.Naming.{ref_of, same_ref}
 
 abbrev pub truth_at_numbers : Document ℕ → Question NodeRef → Answer NodeRef
 truth_at_numbers document = answer_by ref_of same_ref (entries_of document)

@@ -7,10 +7,10 @@ use Rattle.std.specs.declared.cmp.Ordering.{Ordering}
 use Rattle.std.specs.Cmp.Lexicographic.{slice_cmp}
 use Rattle.spec_document.specs.Forest.{Document}
 use Rattle.spec_document.specs.Order.{Entry, entries_of}
-use Rattle.xt_tree.specs.declared.node_ref.NodeRef.{NodeRef}
-use Rattle.xt_tree.specs.declared.node_ref.Part.{Part}
-use Rattle.xt_tree.specs.declared.node_ref.Part.TheVariants as part
-use Rattle.xp_axes.specs.View.{ref_of, same_ref}
+use Rattle.spec_node.specs.declared.node_ref.NodeRef.{NodeRef}
+use Rattle.spec_node.specs.declared.node_ref.Part.{Part}
+use Rattle.spec_node.specs.declared.node_ref.Part.TheVariants as part
+use Rattle.spec_node.specs.Naming.{ref_of, same_ref}
 pub use Rattle.xp_axes.specs.declared.ordered.Placed.{Placed}
 
 -- where a part of a node stands among its parts

@@ -6,7 +6,8 @@ ghost use Rattle.spec_meaning.specs.Step.{stepped};
 ghost use Rattle.xt_syntax.specs.View.{test_of};
 ghost use Rattle.xt_tree.specs.View.{item_of};
 ghost use Rattle.xp_axes.specs.Along as ways;
-ghost use Rattle.xp_axes.specs.View.{on_axis, ref_of, same_ref};
+ghost use Rattle.xp_axes.specs.View.{on_axis};
+ghost use Rattle.spec_node.specs.Naming.{ref_of, same_ref};
 
 use crate::along::along;
 use crate::own::{attributes, namespaces};

@@ -10,7 +10,7 @@ ghost use Rattle.spec_meaning.specs.Program.{Supply, outcome_of, reads_of};
 ghost use Rattle.spec_meaning.specs.Related.{Contexts, Each, Outcomes, ReadsAlike, SuppliesAlike, Values};
 ghost use Rattle.spec_meaning.specs.Truth.{truth_at_places};
 ghost use Rattle.xt_tree.specs.Numbers.{IsNumbered};
-ghost use Rattle.xt_tree.specs.declared.node_ref.NodeRef.{NodeRef};
+ghost use Rattle.spec_node.specs.declared.node_ref.NodeRef.{NodeRef};
 ghost use Rattle.xp_axes.specs.Numbered.{NameOne, truth_at_numbers};
 
 /// An expression means the same where nodes are named by their places in a plain document and where they are

@@ -7,7 +7,7 @@ ghost use Rattle.std.specs.Ordering.{eq_by_cmp};
 ghost use Rattle.spec_document.specs.Order.{entries_of};
 ghost use Rattle.spec_meaning.specs.Step.{ordered};
 ghost use Rattle.xp_axes.specs.Placed as spec;
-ghost use Rattle.xp_axes.specs.View.{ref_of, same_ref};
+ghost use Rattle.spec_node.specs.Naming.{ref_of, same_ref};
 
 use std::alloc::Global;
 use std::cmp::Ordering;

@@ -4,7 +4,7 @@ ghost use Rattle.std.specs.List.{range_with_len};
 ghost use Rattle.std.specs.Option.{ForSome};
 ghost use Rattle.spec_document.specs.Place.{attributes_of, namespaces_of};
 ghost use Rattle.xt_tree.specs.View.{numbered_node};
-ghost use Rattle.xt_tree.specs.declared.node_ref.Part.TheVariants as Part;
+ghost use Rattle.spec_node.specs.declared.node_ref.Part.TheVariants as Part;
 
 use std::alloc::Global;
 use xt_text::Memory;

@@ -6,7 +6,7 @@ use Rattle.spec_expression.specs.Syntax.{Test}
 use Rattle.spec_meaning.specs.Question.{Step, nodes_in}
 use Rattle.spec_meaning.specs.Program.{Program, Give, Ask, Supply, State, then}
 use Rattle.spec_meaning.specs.Meaning.{stepped}
-use Rattle.xt_tree.specs.declared.node_ref.NodeRef.{NodeRef}
+use Rattle.spec_node.specs.declared.node_ref.NodeRef.{NodeRef}
 use Rattle.xt_questions.specs.Runs.{Continues}
 
 pub step_turn : {supply : Supply NodeRef} {depth : ℕ} (predicates : List NodeRef → Program NodeRef (List NodeRef)) (axis : Axis) (test : Test)

@@ -4,7 +4,7 @@ use Rattle.std.specs.Global.{Global}
 use Rattle.spec_meaning.specs.Value as plain
 use Rattle.spec_meaning.specs.Program.{Given, Valued}
 use Rattle.xt_tree.specs.ValueView.{value_of}
-use Rattle.xt_tree.specs.declared.node_ref.NodeRef.{NodeRef}
+use Rattle.spec_node.specs.declared.node_ref.NodeRef.{NodeRef}
 use Rattle.xt_tree.specs.declared.value.Value.{Value}
 
 abbrev pub values_in : Vec Value Global → List (plain.Value NodeRef)

@@ -5,7 +5,7 @@ ghost use Rattle.spec_meaning.specs.Meaning.{bound_or_global};
 ghost use Rattle.spec_meaning.specs.Program as program;
 ghost use Rattle.spec_meaning.specs.Supplies.{at_hand, found};
 ghost use Rattle.xt_tree.specs.ValueView.{value_of};
-ghost use Rattle.xt_tree.specs.declared.node_ref.NodeRef.{NodeRef};
+ghost use Rattle.spec_node.specs.declared.node_ref.NodeRef.{NodeRef};
 ghost use Rattle.xt_questions.specs.View.{bindings_of, known_of, supplies_of};
 ghost use Rattle.xt_questions.specs.Runs.{Runs};
 ghost use Rattle.xp_eval.specs.View.{given_in};

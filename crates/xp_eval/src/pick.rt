@@ -14,7 +14,7 @@ ghost use Rattle.spec_meaning.specs.Program.{Supply, Give, Ask, then as and_then
 ghost use Rattle.spec_meaning.specs.Question.{Step, nodes_in};
 ghost use Rattle.spec_meaning.specs.Value as plain;
 ghost use Rattle.xt_tree.specs.ValueView.{value_of};
-ghost use Rattle.xt_tree.specs.declared.node_ref.NodeRef.{NodeRef};
+ghost use Rattle.spec_node.specs.declared.node_ref.NodeRef.{NodeRef};
 ghost use Rattle.xt_questions.specs.Runs.{Runs, items};
 
 use spec_document::Axis;

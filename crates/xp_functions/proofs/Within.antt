@@ -16,7 +16,7 @@ use Rattle.xt_base.specs.declared.num.NumFault.{NumFault}
 use Rattle.xt_base.specs.Fault.{Gives}
 use Rattle.xt_tree.specs.ValueView.{value_of}
 use Rattle.xt_tree.specs.declared.value.Value as code
-use Rattle.xt_tree.specs.declared.node_ref.NodeRef.{NodeRef}
+use Rattle.spec_node.specs.declared.node_ref.NodeRef.{NodeRef}
 use Rattle.xt_questions.specs.declared.fault.EvalFault.{EvalFault}
 use Rattle.xt_questions.specs.Runs.{Runs, Continues}
 use Rattle.xt_questions.proofs.Steps.{runs_from}

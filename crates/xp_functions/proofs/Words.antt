@@ -11,7 +11,7 @@ use Rattle.spec_expression.specs.Number.{Whole}
 use Rattle.spec_expression.specs.Syntax.{Named}
 use Rattle.spec_meaning.specs.Value.{Number, Text}
 use Rattle.spec_meaning.specs.Call.{concatenated, text_of_argument, system_property, xml_lang, xslt}
-use Rattle.xt_tree.specs.declared.node_ref.NodeRef.{NodeRef}
+use Rattle.spec_node.specs.declared.node_ref.NodeRef.{NodeRef}
 
 pub xslt_uri_chars : chars xslt_uri ≡ xslt_uri
 unfolding chars

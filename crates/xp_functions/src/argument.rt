@@ -4,7 +4,7 @@ ghost use Rattle.spec_meaning.specs.Program.{Supply};
 ghost use Rattle.spec_meaning.specs.Call.{all_texts, argument, value_or_node};
 ghost use Rattle.spec_meaning.specs.Convert.{to_number};
 ghost use Rattle.xt_tree.specs.ValueView.{value_of};
-ghost use Rattle.xt_tree.specs.declared.node_ref.NodeRef.{NodeRef};
+ghost use Rattle.spec_node.specs.declared.node_ref.NodeRef.{NodeRef};
 ghost use Rattle.xt_questions.specs.View.{context_of};
 ghost use Rattle.xt_questions.specs.Runs.{Runs, items, itself};
 

@@ -6,7 +6,7 @@ ghost use Rattle.spec_meaning.specs.Convert as convert;
 ghost use Rattle.spec_meaning.specs.Call as calls;
 ghost use Rattle.spec_meaning.specs.Call.{called};
 ghost use Rattle.xt_tree.specs.ValueView.{value_of};
-ghost use Rattle.xt_tree.specs.declared.node_ref.NodeRef.{NodeRef};
+ghost use Rattle.spec_node.specs.declared.node_ref.NodeRef.{NodeRef};
 ghost use Rattle.xt_questions.specs.View.{context_of, supplies_of};
 ghost use Rattle.xt_questions.specs.Runs.{Runs};
 

@@ -5,7 +5,7 @@ ghost use Rattle.spec_meaning.specs.Supplies.{at_hand};
 ghost use Rattle.spec_meaning.specs.Program.{Counted, Give, Position, Saw, Size, State, Supply, noted};
 ghost use Rattle.spec_meaning.specs.Call.{known_or_needed, of_context};
 ghost use Rattle.xt_tree.specs.ValueView.{value_of};
-ghost use Rattle.xt_tree.specs.declared.node_ref.NodeRef.{NodeRef};
+ghost use Rattle.spec_node.specs.declared.node_ref.NodeRef.{NodeRef};
 ghost use Rattle.xt_questions.specs.View.{context_of, supplies_of, wanted_of};
 ghost use Rattle.xt_questions.specs.Runs.{Runs};
 

@@ -5,7 +5,7 @@ ghost use Rattle.spec_meaning.specs.Program.{State, Supply, then};
 ghost use Rattle.spec_meaning.specs.Convert.{text_at, to_text};
 ghost use Rattle.spec_meaning.specs.Call.{arranged, key_of, keyed, nodes_of_key, nodes_of_keys, nodes_or_refused};
 ghost use Rattle.xt_tree.specs.ValueView.{value_of};
-ghost use Rattle.xt_tree.specs.declared.node_ref.NodeRef.{NodeRef};
+ghost use Rattle.spec_node.specs.declared.node_ref.NodeRef.{NodeRef};
 ghost use Rattle.xt_questions.specs.View.{answer_of, context_of};
 ghost use Rattle.xt_questions.specs.Runs.{Runs, items};
 

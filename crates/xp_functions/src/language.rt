@@ -10,7 +10,7 @@ ghost use Rattle.spec_meaning.specs.Convert.{text_at};
 ghost use Rattle.spec_meaning.specs.Call.{language_of, xml_lang};
 ghost use Rattle.xt_syntax.specs.View.{test_of};
 ghost use Rattle.xt_tree.specs.ValueView.{value_of};
-ghost use Rattle.xt_tree.specs.declared.node_ref.NodeRef.{NodeRef};
+ghost use Rattle.spec_node.specs.declared.node_ref.NodeRef.{NodeRef};
 ghost use Rattle.xt_questions.specs.Runs.{Runs, items};
 
 use spec_document::Axis;

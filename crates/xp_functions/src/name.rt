@@ -6,7 +6,7 @@ ghost use Rattle.spec_expression.specs.Number.{Whole};
 ghost use Rattle.spec_meaning.specs.Program.{State, Supply};
 ghost use Rattle.spec_meaning.specs.Call.{name_meant, system_property, xslt};
 ghost use Rattle.xt_tree.specs.ValueView.{value_of};
-ghost use Rattle.xt_tree.specs.declared.node_ref.NodeRef.{NodeRef};
+ghost use Rattle.spec_node.specs.declared.node_ref.NodeRef.{NodeRef};
 ghost use Rattle.xt_questions.specs.Runs.{Runs, itself};
 ghost use Rattle.xt_questions.specs.declared.fault.EvalFault.TheVariants as fault;
 ghost use Rattle.xt_questions.specs.declared.fault.Refusal.TheVariants as refusal;

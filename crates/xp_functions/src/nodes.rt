@@ -7,7 +7,7 @@ ghost use Rattle.spec_meaning.specs.Program.{Ask, Give, Supply, then};
 ghost use Rattle.spec_meaning.specs.Convert.{given, text_at};
 ghost use Rattle.spec_meaning.specs.Call.{of_first, of_nodes, summed};
 ghost use Rattle.xt_tree.specs.ValueView.{value_of};
-ghost use Rattle.xt_tree.specs.declared.node_ref.NodeRef.{NodeRef};
+ghost use Rattle.spec_node.specs.declared.node_ref.NodeRef.{NodeRef};
 ghost use Rattle.xt_questions.specs.View.{answer_of, question_of};
 ghost use Rattle.xt_questions.specs.Runs.{Runs, itself};
 ghost use Rattle.xp_functions.specs.Part.{asked_by, told_by};

@@ -5,7 +5,7 @@ ghost use Rattle.spec_meaning.specs.Program.{Give, Supply, then};
 ghost use Rattle.spec_meaning.specs.Convert as convert;
 ghost use Rattle.spec_meaning.specs.Call.{of_value};
 ghost use Rattle.xt_tree.specs.ValueView.{value_of};
-ghost use Rattle.xt_tree.specs.declared.node_ref.NodeRef.{NodeRef};
+ghost use Rattle.spec_node.specs.declared.node_ref.NodeRef.{NodeRef};
 ghost use Rattle.xt_questions.specs.Runs.{Runs};
 
 use crate::argument::number_of;

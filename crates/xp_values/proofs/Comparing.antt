@@ -9,7 +9,7 @@ use Rattle.spec_meaning.specs.Convert.{to_boolean}
 use Rattle.spec_meaning.specs.Compare.{Operand, operands, beside, is_equality, is_boolean, goes_by_texts, booleans_satisfy}
 use Rattle.spec_meaning.specs.Compare.{operands_compared, compared, searched, after_first, some_pair}
 use Rattle.spec_meaning.specs.Program.{Program, Give, State, Supply, ◌>>=◌}
-use Rattle.xt_tree.specs.declared.node_ref.NodeRef.{NodeRef}
+use Rattle.spec_node.specs.declared.node_ref.NodeRef.{NodeRef}
 use Rattle.xt_questions.specs.declared.fault.EvalFault.{EvalFault}
 use Rattle.xt_questions.specs.Runs.{Runs, Continues, itself}
 use Rattle.xt_questions.proofs.Steps.{next_turn}

@@ -5,7 +5,7 @@ use Rattle.spec_meaning.specs.Program.{State, Supply}
 use Rattle.spec_meaning.specs.Convert.{given}
 use Rattle.xt_base.specs.Fault.{Gives}
 use Rattle.xt_base.specs.declared.num.NumFault.{NumFault}
-use Rattle.xt_tree.specs.declared.node_ref.NodeRef.{NodeRef}
+use Rattle.spec_node.specs.declared.node_ref.NodeRef.{NodeRef}
 use Rattle.xt_questions.specs.declared.fault.EvalFault.{EvalFault}
 use Rattle.xt_questions.specs.Runs.{Runs, itself}
 use Rattle.xp_values.specs.View.{result_of}

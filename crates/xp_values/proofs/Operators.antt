@@ -6,7 +6,7 @@ use Rattle.spec_meaning.specs.Program.{State, Supply}
 use Rattle.spec_meaning.specs.Value.{Value}
 use Rattle.spec_meaning.specs.Operation.{combined, comparison, arithmetic}
 use Rattle.xt_tree.specs.ValueView.{value_of}
-use Rattle.xt_tree.specs.declared.node_ref.NodeRef.{NodeRef}
+use Rattle.spec_node.specs.declared.node_ref.NodeRef.{NodeRef}
 use Rattle.xt_tree.specs.declared.value.Value as code
 use Rattle.xt_questions.specs.declared.fault.EvalFault.{EvalFault}
 use Rattle.xt_questions.specs.Runs.{Runs}

@@ -1,5 +1,5 @@
 -- What the operands of a comparison stand for.
-use Rattle.xt_tree.specs.declared.node_ref.NodeRef.{NodeRef}
+use Rattle.spec_node.specs.declared.node_ref.NodeRef.{NodeRef}
 use Rattle.spec_meaning.specs.Compare.{Operand, OfNode, OfText, OfNumber}
 use Rattle.xp_values.specs.declared.operand.Operand as code
 use Rattle.xp_values.specs.declared.operand.Operand.TheVariants as operands

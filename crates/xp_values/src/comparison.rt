@@ -5,7 +5,7 @@ ghost use Rattle.std.specs.Option.{option_map};
 ghost use Rattle.spec_meaning.specs.Program.{Supply};
 ghost use Rattle.spec_meaning.specs.Compare as plain;
 ghost use Rattle.xt_tree.specs.ValueView.{value_of};
-ghost use Rattle.xt_tree.specs.declared.node_ref.NodeRef.{NodeRef};
+ghost use Rattle.spec_node.specs.declared.node_ref.NodeRef.{NodeRef};
 ghost use Rattle.xt_questions.specs.Runs.{Runs, itself, items};
 ghost use Rattle.xp_values.specs.OperandView.{operand_of};
 

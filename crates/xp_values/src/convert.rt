@@ -6,7 +6,7 @@ ghost use Rattle.xp_values.specs.View.{result_of};
 ghost use Rattle.spec_meaning.specs.Program.{State, Supply};
 ghost use Rattle.spec_meaning.specs.Convert as convert;
 ghost use Rattle.xt_tree.specs.ValueView.{value_of};
-ghost use Rattle.xt_tree.specs.declared.node_ref.NodeRef.{NodeRef};
+ghost use Rattle.spec_node.specs.declared.node_ref.NodeRef.{NodeRef};
 ghost use Rattle.xt_questions.specs.Runs.{Runs, itself, items};
 ghost use Rattle.spec_expression.specs.declared.code.DynCode.TheVariants as code;
 ghost use Rattle.xt_questions.specs.declared.fault.EvalFault.TheVariants as fault;

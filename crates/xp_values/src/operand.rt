@@ -6,7 +6,7 @@ ghost use Rattle.spec_meaning.specs.Convert as convert;
 ghost use Rattle.spec_meaning.specs.Compare.{Operand};
 ghost use Rattle.spec_meaning.specs.Program.{Program, Supply};
 ghost use Rattle.xt_tree.specs.ValueView.{value_of};
-ghost use Rattle.xt_tree.specs.declared.node_ref.NodeRef.{NodeRef};
+ghost use Rattle.spec_node.specs.declared.node_ref.NodeRef.{NodeRef};
 ghost use Rattle.xt_questions.specs.Runs.{Runs, itself};
 ghost use Rattle.xp_values.specs.OperandView.{operand_of};
 

@@ -7,7 +7,7 @@ use Rattle.spec_meaning.specs.Context.{Context}
 use Rattle.spec_transform.specs.Expansion.{part_text, joined}
 use Rattle.xt_syntax.specs.declared.avt.AvtPart.{AvtPart}
 use Rattle.xt_syntax.specs.PartView.{avt_part_of}
-use Rattle.xt_tree.specs.declared.node_ref.NodeRef.{NodeRef}
+use Rattle.spec_node.specs.declared.node_ref.NodeRef.{NodeRef}
 use Rattle.xt_questions.specs.declared.fault.EvalFault.{EvalFault}
 use Rattle.xt_questions.specs.Runs.{Runs, Continues}
 use Rattle.std.specs.Prelude.{Result}

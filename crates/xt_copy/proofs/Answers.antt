@@ -14,12 +14,12 @@ use Rattle.spec_meaning.specs.Truth.{told_of, entry_named}
 use Rattle.spec_run.specs.Copy.{copied_by, copy_of}
 use Rattle.xp_axes.proofs.Kept.{some_same}
 use Rattle.xp_axes.proofs.Named.{named}
-use Rattle.xp_axes.specs.View.{ref_of, same_ref}
+use Rattle.spec_node.specs.Naming.{ref_of, same_ref}
 use Rattle.xt_tree.specs.Numbers.{IsNumbered}
 use Rattle.xt_tree.specs.View.{item_of, part_of}
-use Rattle.xt_tree.specs.declared.node_ref.NodeRef.{NodeRef}
-use Rattle.xt_tree.specs.declared.node_ref.Part.{Part}
-use Rattle.xt_tree.specs.declared.node_ref.Part.TheVariants as part
+use Rattle.spec_node.specs.declared.node_ref.NodeRef.{NodeRef}
+use Rattle.spec_node.specs.declared.node_ref.Part.{Part}
+use Rattle.spec_node.specs.declared.node_ref.Part.TheVariants as part
 use Rattle.xt_copy.specs.Copied.{leaf_by, leaf_of}
 use Rattle.xt_copy.proofs.Among.{copy_whole}
 

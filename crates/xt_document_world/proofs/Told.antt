@@ -11,8 +11,8 @@ use Rattle.spec_meaning.specs.Question.{Answer, Gone, SomeText, Named}
 use Rattle.spec_meaning.specs.Truth.{told_of, entry_named, positions_text, ending_text, identifier}
 use Rattle.xt_tree.specs.Numbers.{IsNumbered}
 use Rattle.xt_tree.specs.View.{item_of, IsPlaceOf}
-use Rattle.xt_tree.specs.declared.node_ref.NodeRef.{NodeRef}
-use Rattle.xp_axes.specs.View.{ref_of, same_ref, part_at}
+use Rattle.spec_node.specs.declared.node_ref.NodeRef.{NodeRef}
+use Rattle.spec_node.specs.Naming.{ref_of, same_ref, part_at}
 use Rattle.xp_axes.proofs.Kept.{some_same}
 use Rattle.xp_axes.proofs.Located.{IsEntryOf}
 use Rattle.xp_axes.proofs.Reached.{entry_at}

@@ -4,10 +4,10 @@ use Rattle.spec_document.specs.Forest.{Document}
 use Rattle.spec_document.specs.Order.{entries_of}
 use Rattle.spec_meaning.specs.Question.{Question, Answer}
 use Rattle.spec_meaning.specs.Truth.{answer_by}
-use Rattle.xp_axes.specs.View.{ref_of, same_ref}
-use Rattle.xt_tree.specs.declared.node_ref.NodeRef.{NodeRef}
-use Rattle.xt_tree.specs.declared.node_ref.Part.{Part}
-use Rattle.xt_tree.specs.declared.node_ref.Part.TheVariants as part
+use Rattle.spec_node.specs.Naming.{ref_of, same_ref}
+use Rattle.spec_node.specs.declared.node_ref.NodeRef.{NodeRef}
+use Rattle.spec_node.specs.declared.node_ref.Part.{Part}
+use Rattle.spec_node.specs.declared.node_ref.Part.TheVariants as part
 
 abbrev pub truth_of : Document ℕ → Question NodeRef → Answer NodeRef
 truth_of document = answer_by ref_of same_ref (entries_of document)

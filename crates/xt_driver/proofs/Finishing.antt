@@ -1,7 +1,7 @@
 -- A run that is done, without what it did.
 use Rattle.std.proofs.Common.{◌≡◌, Option, Result, Ok, sym, subst}
 use Rattle.spec_meaning.specs.Question.{Question, Answer}
-use Rattle.xt_tree.specs.declared.node_ref.NodeRef.{NodeRef}
+use Rattle.spec_node.specs.declared.node_ref.NodeRef.{NodeRef}
 use Rattle.xt_engine.specs.declared.event.Ended.{Ended}
 use Rattle.xt_engine.specs.declared.event.Ran.{Ran}
 use Rattle.xt_engine.specs.declared.turn.Turn.{Turn}

@@ -16,8 +16,8 @@ use Rattle.spec_run.specs.Meaning.{Setting, Past, referred, meaning}
 use Rattle.spec_run.proofs.Trails.{own_went}
 use Rattle.xt_syntax.specs.PartView.{place_of}
 use Rattle.xt_base.specs.declared.place.Place.{Place as CodePlace}
-use Rattle.xt_tree.specs.declared.node_ref.NodeRef.{NodeRef}
-use Rattle.xp_axes.specs.View.{same_ref}
+use Rattle.spec_node.specs.declared.node_ref.NodeRef.{NodeRef}
+use Rattle.spec_node.specs.Naming.{same_ref}
 use Rattle.xt_tree.specs.ValueView.{value_of}
 use Rattle.xt_engine.specs.View.{call_of}
 use Rattle.xt_engine.specs.declared.call.Call.{Call as CodeCall}

@@ -9,8 +9,8 @@ use Rattle.spec_meaning.specs.Question.{Question, Answer}
 use Rattle.spec_run.specs.Plan.{Call}
 use Rattle.spec_run.specs.Meaning.{Setting, Past, going_into, global_call, settled, referred, meaning}
 use Rattle.xt_syntax.specs.PartView.{place_of}
-use Rattle.xt_tree.specs.declared.node_ref.NodeRef.{NodeRef}
-use Rattle.xp_axes.specs.View.{same_ref}
+use Rattle.spec_node.specs.declared.node_ref.NodeRef.{NodeRef}
+use Rattle.spec_node.specs.Naming.{same_ref}
 use Rattle.xt_tree.specs.StreamView.{stream_of}
 use Rattle.xt_engine.specs.View.{call_of, refused_of}
 use Rattle.xt_engine.specs.declared.call.Call.{Call as CodeCall}

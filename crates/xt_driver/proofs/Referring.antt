@@ -13,7 +13,7 @@ use Rattle.spec_meaning.specs.Program.{Valued}
 use Rattle.spec_meaning.specs.Context.{Bound}
 use Rattle.spec_run.specs.Direct.{Supplied, Known}
 use Rattle.spec_run.specs.Meaning.{Setting, Past, going_into, global_call, held_by, element_named, evaluated, needs_itself, referred, meaning}
-use Rattle.xt_tree.specs.declared.node_ref.NodeRef.{NodeRef}
+use Rattle.spec_node.specs.declared.node_ref.NodeRef.{NodeRef}
 use Rattle.xt_tree.specs.declared.value.Value as code
 use Rattle.xt_tree.specs.ValueView.{value_of}
 use Rattle.xt_engine.specs.declared.turn.Entered.{Entered}

@@ -19,8 +19,8 @@ use Rattle.spec_run.proofs.Fill.{filled_whole}
 use Rattle.spec_run.proofs.More.{meaning_at}
 use Rattle.xt_syntax.specs.PartView.{place_of}
 use Rattle.xt_base.specs.declared.place.Place.{Place as CodePlace}
-use Rattle.xt_tree.specs.declared.node_ref.NodeRef.{NodeRef}
-use Rattle.xp_axes.specs.View.{same_ref}
+use Rattle.spec_node.specs.declared.node_ref.NodeRef.{NodeRef}
+use Rattle.spec_node.specs.Naming.{same_ref}
 use Rattle.xt_tree.specs.declared.items.Items.{Items}
 use Rattle.xt_tree.specs.StreamView.{stream_of}
 use Rattle.xt_tree.specs.ValueView.{value_of}

@@ -12,7 +12,7 @@ use Rattle.spec_run.specs.Plan.{Call, nowhere}
 use Rattle.spec_run.specs.Direct.{Supplied, Known, Failed, Outcome}
 use Rattle.spec_run.specs.Meaning as means
 use Rattle.spec_run.specs.Meaning.{Setting, Past, at_turn, going_into, global_call, held_by, meaning}
-use Rattle.xt_tree.specs.declared.node_ref.NodeRef.{NodeRef}
+use Rattle.spec_node.specs.declared.node_ref.NodeRef.{NodeRef}
 use Rattle.xt_engine.specs.declared.call.Refused.{Refused}
 use Rattle.xt_engine.specs.declared.global.NamedGlobal.{NamedGlobal}
 use Rattle.xt_text.specs.declared.memory.Memory.{Memory as NoMemory}

@@ -13,7 +13,7 @@ use Rattle.spec_run.specs.Plan.{Call, nowhere}
 use Rattle.spec_run.specs.Direct.{Supplied, Known, Failed, Outcome}
 use Rattle.spec_run.specs.Meaning as means
 use Rattle.spec_run.specs.Meaning.{Setting, Past, Whole, going_into, global_call, held_by, value_of, refusal_of, at_turn, after_turn, meaning, run}
-use Rattle.xt_tree.specs.declared.node_ref.NodeRef.{NodeRef}
+use Rattle.spec_node.specs.declared.node_ref.NodeRef.{NodeRef}
 use Rattle.xt_tree.specs.ValueView as view
 use Rattle.xt_engine.specs.View.{refused_of, named_of}
 use Rattle.xt_engine.specs.declared.call.Refused.{Refused}

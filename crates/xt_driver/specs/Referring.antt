@@ -9,7 +9,7 @@ use Rattle.spec_meaning.specs.Value as value
 use Rattle.spec_meaning.specs.Question.{Question, Answer}
 use Rattle.spec_meaning.specs.Context.{Bound}
 use Rattle.spec_run.specs.Meaning.{Setting, Past, held_by, referred, meaning}
-use Rattle.xt_tree.specs.declared.node_ref.NodeRef.{NodeRef}
+use Rattle.spec_node.specs.declared.node_ref.NodeRef.{NodeRef}
 use Rattle.xt_tree.specs.ValueView.{value_of}
 use Rattle.xt_tree.specs.StreamView.{stream_of}
 use Rattle.xt_engine.specs.declared.turn.Entered.{Entered}

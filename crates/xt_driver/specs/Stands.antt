@@ -10,7 +10,7 @@ use Rattle.spec_run.specs.Direct.{Supplied, Known, Failed, Halted, Outcome}
 use Rattle.spec_run.specs.Going.{Asked, Saw, Going, at_start, noted, put, begun, wrap, taken, aside, deepened, opened, given, closed, own, whole}
 use Rattle.spec_run.specs.Content.{plan_of}
 use Rattle.spec_run.specs.Meaning.{Setting, Past, supplied, referred, settled, meaning}
-use Rattle.xt_tree.specs.declared.node_ref.NodeRef.{NodeRef}
+use Rattle.spec_node.specs.declared.node_ref.NodeRef.{NodeRef}
 use Rattle.xt_engine.specs.Progress.{Progress, Gift, Start, Goes, Halts, received}
 use Rattle.xt_driver.specs.declared.globals.Globals.{Globals}
 use Rattle.xt_driver.specs.View.{setting_of, past_of}

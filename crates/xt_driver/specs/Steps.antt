@@ -5,7 +5,7 @@ use Rattle.std.specs.declared.vec.Vec.{Vec}
 use Rattle.spec_meaning.specs.Question.{Question, Answer}
 use Rattle.spec_run.specs.Plan.{Call}
 use Rattle.spec_run.specs.Meaning.{settled}
-use Rattle.xt_tree.specs.declared.node_ref.NodeRef.{NodeRef}
+use Rattle.spec_node.specs.declared.node_ref.NodeRef.{NodeRef}
 use Rattle.xt_engine.specs.declared.call.Call.{Call as CodeCall}
 use Rattle.xt_engine.specs.declared.event.Ended.{Ended}
 use Rattle.xt_engine.specs.declared.event.Event.{Event}

@@ -8,7 +8,7 @@ use Rattle.spec_run.specs.Direct as plain
 use Rattle.spec_run.specs.Direct.{Supplied, Known, Failed}
 use Rattle.spec_run.specs.Meaning as means
 use Rattle.spec_run.specs.Meaning.{Setting, Past, going_into, global_call, held_by, value_of, meaning}
-use Rattle.xt_tree.specs.declared.node_ref.NodeRef.{NodeRef}
+use Rattle.spec_node.specs.declared.node_ref.NodeRef.{NodeRef}
 use Rattle.xt_tree.specs.StreamView.{stream_of}
 use Rattle.xt_tree.specs.ValueView as view
 use Rattle.xt_engine.specs.declared.call.Refused.{Refused}

@@ -12,8 +12,8 @@ use Rattle.spec_run.specs.Direct as plain
 use Rattle.spec_run.specs.Direct.{Supplied, Known, Failed, Finished, Gave, Halted}
 use Rattle.spec_run.specs.Meaning as means
 use Rattle.spec_run.specs.Meaning.{Setting, Past, element_named, refer, needs_itself, held_by, going_into, global_call, meaning}
-use Rattle.xt_tree.specs.declared.node_ref.NodeRef.{NodeRef}
-use Rattle.xp_axes.specs.View.{same_ref}
+use Rattle.spec_node.specs.declared.node_ref.NodeRef.{NodeRef}
+use Rattle.spec_node.specs.Naming.{same_ref}
 use Rattle.xt_tree.specs.ValueView.{value_of}
 use Rattle.xt_tree.specs.StreamView.{stream_of}
 use Rattle.xt_engine.specs.View.{refused_of, named_of}

@@ -11,7 +11,7 @@ use Rattle.xt_edit.specs.declared.change.Change.{Change}
 use Rattle.xt_edit.specs.declared.change.Way.{Way}
 use Rattle.xt_edit.specs.declared.change.Rests as code
 use Rattle.xt_tree.specs.declared.node.Node.{Node}
-use Rattle.xt_tree.specs.declared.node_ref.NodeId.{NodeId}
+use Rattle.spec_node.specs.declared.node_ref.NodeId.{NodeId}
 use Rattle.xt_tree.specs.View.{tree_of, forest_of}
 
 abbrev pub numbers_in : List NodeId → List ℕ

@@ -11,7 +11,7 @@ use Rattle.spec_run.specs.Direct.{Ending, Finished, Gave, Halted}
 use Rattle.spec_run.specs.Going.{Event, Going, closed}
 use Rattle.spec_run.specs.Passes.{Passes}
 use Rattle.xt_syntax.specs.PartView.{place_of}
-use Rattle.xt_tree.specs.declared.node_ref.NodeRef.{NodeRef}
+use Rattle.spec_node.specs.declared.node_ref.NodeRef.{NodeRef}
 use Rattle.xt_tree.specs.declared.value.Value as code
 use Rattle.xt_tree.specs.StreamView.{stream_of}
 use Rattle.xt_tree.specs.ValueView.{value_of}

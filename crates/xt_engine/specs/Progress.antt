@@ -10,8 +10,8 @@ use Rattle.spec_run.specs.Plan.{Refused, Call, Plan}
 use Rattle.spec_run.specs.Going.{Going, at_start, opened, given}
 use Rattle.spec_run.specs.Meaning.{current_by}
 use Rattle.spec_run.specs.Content.{plan_of}
-use Rattle.xt_tree.specs.declared.node_ref.NodeRef.{NodeRef}
-use Rattle.xp_axes.specs.View.{same_ref}
+use Rattle.spec_node.specs.declared.node_ref.NodeRef.{NodeRef}
+use Rattle.spec_node.specs.Naming.{same_ref}
 
 -- what a run waits for
 pub data Waiting (N : Type 0) : Type 0 where

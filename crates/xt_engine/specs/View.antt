@@ -8,7 +8,7 @@ use Rattle.spec_run.specs.Going as going
 use Rattle.spec_run.specs.Meaning as meant
 use Rattle.xt_syntax.specs.PartView.{place_of}
 use Rattle.xt_names.specs.View.{entry_of}
-use Rattle.xt_tree.specs.declared.node_ref.NodeRef.{NodeRef}
+use Rattle.spec_node.specs.declared.node_ref.NodeRef.{NodeRef}
 use Rattle.xt_tree.specs.StreamView.{streams_of}
 use Rattle.xt_questions.specs.View.{question_of, answer_of, wanted_of, given_of, bindings_of, current_of}
 use Rattle.xt_engine.specs.declared.call.Refused.{Refused}

@@ -11,7 +11,7 @@ use Rattle.spec_run.specs.Content.{Here, context_at, asked}
 use Rattle.spec_run.specs.Plan.{Plan, lift, Refused}
 use Rattle.spec_run.specs.Going.{Going, closed}
 use Rattle.spec_run.specs.Passes.{Passes}
-use Rattle.xt_tree.specs.declared.node_ref.NodeRef.{NodeRef}
+use Rattle.spec_node.specs.declared.node_ref.NodeRef.{NodeRef}
 use Rattle.xt_questions.specs.declared.read.Read.{Read}
 use Rattle.xt_questions.specs.declared.fault.EvalFault.{EvalFault}
 use Rattle.xt_questions.specs.declared.fault.EvalFault.TheVariants as faults

@@ -3,7 +3,7 @@ use Rattle.std.proofs.Common.{◌≡◌, ℕ, suc, [], ◌∷◌, ◌++◌, leng
 use Rattle.spec_meaning.specs.Question.{Question, Answer}
 use Rattle.spec_run.specs.Plan.{Plan}
 use Rattle.spec_run.specs.Passes.{Passes, stays}
-use Rattle.xt_tree.specs.declared.node_ref.NodeRef.{NodeRef}
+use Rattle.spec_node.specs.declared.node_ref.NodeRef.{NodeRef}
 use Rattle.xt_engine.specs.Advances.{Misses}
 use Rattle.xt_progress.specs.View.{going_of}
 use Rattle.xt_frames.specs.declared.frame.Frame.{Frame}

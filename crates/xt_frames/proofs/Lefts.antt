@@ -19,7 +19,7 @@ use Rattle.spec_run.specs.Passes.{Passes, stays, begins, goes_deep, is_too_deep}
 use Rattle.xt_syntax.specs.declared.instr.Instr.{Instr}
 use Rattle.xt_syntax.specs.InstrView.{instr_of}
 use Rattle.xt_syntax.specs.PartView.{place_of}
-use Rattle.xt_tree.specs.declared.node_ref.NodeRef.{NodeRef}
+use Rattle.spec_node.specs.declared.node_ref.NodeRef.{NodeRef}
 use Rattle.xt_questions.specs.declared.context.Supplies.{Supplies}
 use Rattle.xt_questions.specs.View.{supplies_of}
 use Rattle.xt_engine.specs.declared.call.Refused as declared

@@ -9,7 +9,7 @@ use Rattle.spec_run.specs.Plan.{Plan, End, Put, Take, Inquire}
 use Rattle.spec_run.specs.Going.{Going, Asked, noted, put, taken, aside, closed}
 use Rattle.spec_run.specs.Passes.{Passes, stays, asks, uses, puts, begins, wraps, takes, goes_deep, is_too_deep}
 use Rattle.xt_syntax.specs.PartView.{place_of}
-use Rattle.xt_tree.specs.declared.node_ref.NodeRef.{NodeRef}
+use Rattle.spec_node.specs.declared.node_ref.NodeRef.{NodeRef}
 use Rattle.xt_tree.proofs.Streams.{followed-Ended}
 use Rattle.xt_engine.specs.declared.call.Refused.{Refused}
 use Rattle.xt_engine.specs.View.{refused_of}

@@ -12,7 +12,7 @@ use Rattle.spec_run.specs.Going as plain
 use Rattle.spec_run.specs.Going.{Asked, Saw, noted, put, begun, wrap, taken, aside, deepened, closed}
 use Rattle.spec_run.specs.Passes.{Passes}
 use Rattle.xt_syntax.specs.PartView.{place_of}
-use Rattle.xt_tree.specs.declared.node_ref.NodeRef.{NodeRef}
+use Rattle.spec_node.specs.declared.node_ref.NodeRef.{NodeRef}
 use Rattle.xt_tree.specs.ValueView.{value_of}
 use Rattle.xt_questions.specs.View.{supplies_of}
 use Rattle.xt_engine.specs.View.{call_of, refused_of}

@@ -7,7 +7,7 @@ use Rattle.spec_meaning.specs.Program.{State}
 use Rattle.spec_run.specs.Plan.{located}
 use Rattle.spec_run.specs.Direct.{Known}
 use Rattle.spec_run.specs.Going.{Event, Asked, Saw, Going}
-use Rattle.xt_tree.specs.declared.node_ref.NodeRef.{NodeRef}
+use Rattle.spec_node.specs.declared.node_ref.NodeRef.{NodeRef}
 use Rattle.xt_questions.specs.declared.read.Read.{Read}
 use Rattle.xt_questions.specs.declared.fault.EvalFault.{EvalFault}
 use Rattle.xt_questions.specs.declared.fault.EvalFault.TheVariants as faults

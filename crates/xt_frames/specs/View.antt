@@ -16,8 +16,8 @@ use Rattle.spec_run.specs.Content.{Here, deeper, at, with_variable, each, applie
 use Rattle.xt_syntax.specs.PartView.{place_of, sort_key_of}
 use Rattle.xt_syntax.specs.InstrView.{instr_of, branch_of, binding_of}
 use Rattle.xt_syntax.specs.SheetView.{alias_of, declared_of}
-use Rattle.xp_axes.specs.View.{same_ref}
-use Rattle.xt_tree.specs.declared.node_ref.NodeRef.{NodeRef}
+use Rattle.spec_node.specs.Naming.{same_ref}
+use Rattle.spec_node.specs.declared.node_ref.NodeRef.{NodeRef}
 use Rattle.xt_questions.specs.View.{bindings_of, template_of, sets_of}
 use Rattle.xt_engine.specs.declared.call.Target.{Target}
 use Rattle.xt_engine.specs.View.{target_of, call_of, wrapping_of}

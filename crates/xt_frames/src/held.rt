@@ -12,7 +12,7 @@ ghost use Rattle.spec_run.specs.Content.{asked, is_empty, valued};
 ghost use Rattle.xt_syntax.specs.View.{expr_of};
 ghost use Rattle.xt_syntax.specs.PartView.{site_of};
 ghost use Rattle.xt_syntax.specs.InstrView.{instr_of};
-ghost use Rattle.xt_tree.specs.declared.node_ref.NodeRef.{NodeRef};
+ghost use Rattle.spec_node.specs.declared.node_ref.NodeRef.{NodeRef};
 ghost use Rattle.xt_tree.specs.ValueView.{value_of};
 ghost use Rattle.xt_progress.specs.View.{going_of};
 ghost use Rattle.xt_frames.specs.declared.frame.Frame.TheVariants as Frame;

@@ -7,7 +7,7 @@ ghost use Rattle.spec_run.specs.Going.{begun};
 ghost use Rattle.spec_run.specs.Content.{text_item};
 ghost use Rattle.xt_syntax.specs.PartView.{place_of};
 ghost use Rattle.xt_syntax.specs.InstrView.{instr_of};
-ghost use Rattle.xt_tree.specs.declared.node_ref.NodeRef.{NodeRef};
+ghost use Rattle.spec_node.specs.declared.node_ref.NodeRef.{NodeRef};
 ghost use Rattle.xt_engine.specs.View.{call_of, wrapping_of};
 ghost use Rattle.xt_progress.specs.View.{going_of};
 ghost use Rattle.xt_frames.specs.View.{here_of, inside, left_frame};

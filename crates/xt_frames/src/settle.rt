@@ -3,7 +3,7 @@ ghost use Rattle.std.specs.Prelude.{◌≡◌, List, map, IfOk, OnOk};
 ghost use Rattle.spec_run.specs.Plan.{located};
 ghost use Rattle.spec_run.specs.Going as plain;
 ghost use Rattle.xt_syntax.specs.PartView.{place_of};
-ghost use Rattle.xt_tree.specs.declared.node_ref.NodeRef.{NodeRef};
+ghost use Rattle.spec_node.specs.declared.node_ref.NodeRef.{NodeRef};
 ghost use Rattle.xt_questions.specs.declared.read.Read as declared;
 ghost use Rattle.xt_questions.specs.View.{read_of, refusal_of};
 ghost use Rattle.xt_engine.specs.View.{refused_of, event_of};

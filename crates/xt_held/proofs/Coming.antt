@@ -19,8 +19,8 @@ use Rattle.spec_run.specs.Outcome as spec
 use Rattle.spec_run.specs.Outcome.{Comes, document_of, outcome_by, refused_static, no_main, no_source}
 use Rattle.spec_run.specs.World.{setting_of}
 use Rattle.xt_tree.specs.Numbers.{IsNumbered}
-use Rattle.xt_tree.specs.declared.node_ref.NodeRef.{NodeRef}
-use Rattle.xp_axes.specs.View.{same_ref}
+use Rattle.spec_node.specs.declared.node_ref.NodeRef.{NodeRef}
+use Rattle.spec_node.specs.Naming.{same_ref}
 use Rattle.xt_text.specs.declared.memory.Memory.{Memory}
 use Rattle.xt_syntax.specs.SheetView.{space_rules_of}
 use Rattle.xt_syntax.specs.declared.space_rules.SpaceRules.{SpaceRules}

@@ -11,7 +11,7 @@ use Rattle.xt_world.specs.ParameterView.{parameters_of}
 use Rattle.xt_held.specs.OutcomeView.{outcome_of}
 use Rattle.xt_held.specs.StylesheetView.{AreCompiled, IsThere, without_one}
 use Rattle.xt_held.specs.Tried.{AreSame}
-use Rattle.xt_tree.specs.declared.node_ref.NodeId.{NodeId}
+use Rattle.spec_node.specs.declared.node_ref.NodeId.{NodeId}
 use Rattle.xt_held.specs.View.{AreAllBelow, HasBelow, IsCurrent, IsKept, IsReady, documents_of, made_of, outcome_in}
 use Rattle.xt_held.specs.declared.held.Held.{Held}
 use Rattle.xt_held.specs.declared.outcome.Outcome.{Outcome}

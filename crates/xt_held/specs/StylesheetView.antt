@@ -8,7 +8,7 @@ use Rattle.spec_compile.specs.Sheet.{IsSheet}
 use Rattle.spec_meaning.specs.Question.{Question}
 use Rattle.spec_run.specs.Documents.{Parameters, main_name}
 use Rattle.spec_run.specs.World.{globals_of}
-use Rattle.xt_tree.specs.declared.node_ref.NodeRef.{NodeRef}
+use Rattle.spec_node.specs.declared.node_ref.NodeRef.{NodeRef}
 use Rattle.xt_syntax.specs.SheetView.{space_rules_of}
 use Rattle.xt_compile.specs.View.{refusal_in}
 use Rattle.xt_engine.specs.View.{named_of}

@@ -10,7 +10,7 @@ use Rattle.spec_run.specs.Going.{Going, noted, Asked}
 use Rattle.spec_run.specs.Passes.{Passes, stays, asks}
 use Rattle.spec_run.specs.Content.{namespaces_read}
 use Rattle.xt_names.specs.View.{Entry}
-use Rattle.xt_tree.specs.declared.node_ref.NodeRef.{NodeRef}
+use Rattle.spec_node.specs.declared.node_ref.NodeRef.{NodeRef}
 use Rattle.xt_progress.specs.View.{going_of}
 use Rattle.xt_frames.specs.declared.run.Run.{Run}
 use Rattle.xt_frames.specs.declared.run.Next.{Next}

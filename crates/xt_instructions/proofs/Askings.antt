@@ -8,7 +8,7 @@ use Rattle.spec_run.specs.Plan.{Plan}
 use Rattle.spec_run.specs.Going.{Going, closed}
 use Rattle.spec_run.specs.Passes.{Passes, stays}
 use Rattle.xt_syntax.specs.PartView.{place_of}
-use Rattle.xt_tree.specs.declared.node_ref.NodeRef.{NodeRef}
+use Rattle.spec_node.specs.declared.node_ref.NodeRef.{NodeRef}
 use Rattle.xt_engine.specs.declared.call.Refused.{Refused}
 use Rattle.xt_engine.specs.View.{refused_of}
 use Rattle.xt_engine.specs.Advances.{Stops, Misses}

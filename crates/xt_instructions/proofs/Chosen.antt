@@ -15,7 +15,7 @@ use Rattle.spec_run.specs.Passes.{Passes, stays, puts}
 use Rattle.xt_syntax.specs.declared.instr.Branch.{Branch}
 use Rattle.xt_syntax.specs.InstrView.{branch_of}
 use Rattle.xt_syntax.specs.PartView.{place_of}
-use Rattle.xt_tree.specs.declared.node_ref.NodeRef.{NodeRef}
+use Rattle.spec_node.specs.declared.node_ref.NodeRef.{NodeRef}
 use Rattle.xt_questions.specs.Runs.{itself}
 use Rattle.xt_engine.specs.declared.call.Refused.{Refused}
 use Rattle.xt_engine.specs.View.{refused_of}

@@ -10,7 +10,7 @@ use Rattle.spec_run.specs.Plan.{Plan}
 use Rattle.spec_run.specs.Content.{Here, is_empty, planned, valued, with_variable}
 use Rattle.xt_syntax.specs.declared.instr.Instr.{Instr}
 use Rattle.xt_syntax.specs.InstrView.{instr_of}
-use Rattle.xt_tree.specs.declared.node_ref.NodeRef.{NodeRef}
+use Rattle.spec_node.specs.declared.node_ref.NodeRef.{NodeRef}
 use Rattle.xt_frames.specs.declared.standing.Standing.{Standing}
 use Rattle.xt_frames.specs.declared.frame.Body.{Body}
 use Rattle.xt_frames.specs.declared.frame.Frame.TheVariants as frames

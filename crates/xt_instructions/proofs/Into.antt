@@ -8,7 +8,7 @@ use Rattle.spec_run.specs.Plan.{Plan, End, Inquire, Put}
 use Rattle.spec_run.specs.Going.{Asked, noted, put}
 use Rattle.spec_run.specs.Passes.{stays, asks, puts}
 use Rattle.spec_run.specs.Content.{Here}
-use Rattle.xt_tree.specs.declared.node_ref.NodeRef.{NodeRef}
+use Rattle.spec_node.specs.declared.node_ref.NodeRef.{NodeRef}
 use Rattle.xt_frames.specs.declared.standing.Standing.{Standing}
 use Rattle.xt_frames.specs.declared.frame.Body.{Body}
 use Rattle.xt_frames.specs.declared.frame.Frame.{Frame}

@@ -18,7 +18,7 @@ use Rattle.xt_syntax.specs.declared.with_content.WithContent.{WithContent}
 use Rattle.xt_syntax.specs.declared.with_content.WithContent.TheVariants as with
 use Rattle.xt_syntax.specs.InstrView.{instr_of}
 use Rattle.xt_syntax.specs.PartView.{with_content_of, literal_attribute_of, avt_of}
-use Rattle.xt_tree.specs.declared.node_ref.NodeRef.{NodeRef}
+use Rattle.spec_node.specs.declared.node_ref.NodeRef.{NodeRef}
 use Rattle.xt_progress.specs.View.{going_of}
 use Rattle.xt_frames.specs.declared.frame.Attributes.{Attributes}
 use Rattle.xt_frames.specs.declared.frame.Frame.{Frame}

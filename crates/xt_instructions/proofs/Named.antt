@@ -15,7 +15,7 @@ use Rattle.spec_run.specs.Content.{Here, kind_in, copied_as, value_copied, text_
 use Rattle.xt_questions.specs.declared.answer.Answer.{Answer}
 use Rattle.xt_questions.specs.declared.answer.Answer.TheVariants as answers
 use Rattle.xt_questions.specs.View.{answer_of}
-use Rattle.xt_tree.specs.declared.node_ref.NodeRef.{NodeRef}
+use Rattle.spec_node.specs.declared.node_ref.NodeRef.{NodeRef}
 use Rattle.xt_instructions.specs.Copied.{element_copied}
 
 pub copied_number : (n : Number) (after : Plan NodeRef) → value_copied (value.Number n) after ≡ Put (text_item (text_of n)) after

@@ -10,7 +10,7 @@ use Rattle.spec_run.specs.Plan.{Plan, Put}
 use Rattle.spec_run.specs.Content.{Here, at, asked, criteria_asked, keys_asked, rows_asked, sorted}
 use Rattle.xt_syntax.specs.declared.sort_key.SortKey.{SortKey}
 use Rattle.xt_syntax.specs.PartView.{place_of, sort_key_of}
-use Rattle.xt_tree.specs.declared.node_ref.NodeRef.{NodeRef}
+use Rattle.spec_node.specs.declared.node_ref.NodeRef.{NodeRef}
 use Rattle.xt_sort.specs.declared.row.Criterion.{Criterion}
 use Rattle.xt_sort.specs.declared.row.KeyValue.{KeyValue}
 use Rattle.xt_sort.specs.declared.row.Row.{Row}

@@ -11,7 +11,7 @@ use Rattle.spec_run.specs.Direct.{Known}
 use Rattle.spec_run.specs.Going.{Going, Saw, noted}
 use Rattle.spec_run.specs.Passes.{Passes, stays, uses}
 use Rattle.spec_run.specs.Content.{Here, imports_applied, planned_without}
-use Rattle.xt_tree.specs.declared.node_ref.NodeRef.{NodeRef}
+use Rattle.spec_node.specs.declared.node_ref.NodeRef.{NodeRef}
 use Rattle.xt_questions.specs.View.{supplies_of}
 use Rattle.xt_frames.specs.declared.run.Run.{Run}
 use Rattle.xt_frames.specs.declared.run.Next.{Next}

@@ -11,7 +11,7 @@ use Rattle.spec_run.specs.Going.{begun}
 use Rattle.spec_run.specs.Passes.{stays, begins}
 use Rattle.spec_run.specs.Content.{Here, elements_named, set_call, sets_entered, sets_used}
 use Rattle.xt_syntax.specs.PartView.{place_of}
-use Rattle.xt_tree.specs.declared.node_ref.NodeRef.{NodeRef}
+use Rattle.spec_node.specs.declared.node_ref.NodeRef.{NodeRef}
 use Rattle.xt_questions.specs.declared.answer.NamedSets.{NamedSets}
 use Rattle.xt_questions.specs.View.{sets_of}
 use Rattle.xt_engine.specs.declared.wrapping.Wrapping.{Wrapping}

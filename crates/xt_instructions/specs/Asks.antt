@@ -10,7 +10,7 @@ use Rattle.spec_run.specs.Plan.{Plan, nowhere}
 use Rattle.spec_run.specs.Going as plain
 use Rattle.spec_run.specs.Going.{closed}
 use Rattle.spec_run.specs.Passes.{Passes}
-use Rattle.xt_tree.specs.declared.node_ref.NodeRef.{NodeRef}
+use Rattle.spec_node.specs.declared.node_ref.NodeRef.{NodeRef}
 use Rattle.xt_engine.specs.View.{refused_of}
 use Rattle.xt_engine.specs.Advances.{Stops, Misses}
 use Rattle.xt_progress.specs.View.{going_of}

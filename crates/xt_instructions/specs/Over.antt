@@ -2,7 +2,7 @@
 use Rattle.std.specs.Prelude.{◌≡◌, ℕ, ◌≤◌, ◌+◌, suc, length}
 use Rattle.spec_run.specs.Plan.{Plan, Wrap}
 use Rattle.spec_run.specs.Going.{begun}
-use Rattle.xt_tree.specs.declared.node_ref.NodeRef.{NodeRef}
+use Rattle.spec_node.specs.declared.node_ref.NodeRef.{NodeRef}
 use Rattle.xt_engine.specs.declared.wrapping.Wrapping.{Wrapping}
 use Rattle.xt_engine.specs.View.{wrapping_of}
 use Rattle.xt_progress.specs.View.{going_of}

@@ -5,7 +5,7 @@ ghost use Rattle.spec_meaning.specs.Question as question;
 ghost use Rattle.spec_run.specs.Plan.{Plan};
 ghost use Rattle.spec_run.specs.Content.{planned_branches};
 ghost use Rattle.xt_syntax.specs.InstrView.{branch_of};
-ghost use Rattle.xt_tree.specs.declared.node_ref.NodeRef.{NodeRef};
+ghost use Rattle.spec_node.specs.declared.node_ref.NodeRef.{NodeRef};
 ghost use Rattle.xt_questions.specs.Runs.{itself};
 ghost use Rattle.xt_progress.specs.View.{going_of};
 ghost use Rattle.xt_frames.specs.View.{here_of, inside};

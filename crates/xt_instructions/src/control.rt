@@ -11,7 +11,7 @@ ghost use Rattle.spec_run.specs.Content.{each};
 ghost use Rattle.xt_syntax.specs.View.{expr_of};
 ghost use Rattle.xt_syntax.specs.PartView.{place_of, site_of, sort_key_of};
 ghost use Rattle.xt_syntax.specs.InstrView.{instr_of, control_of, binding_of, branch_of, selection_of};
-ghost use Rattle.xt_tree.specs.declared.node_ref.NodeRef.{NodeRef};
+ghost use Rattle.spec_node.specs.declared.node_ref.NodeRef.{NodeRef};
 ghost use Rattle.xt_questions.specs.View.{template_of};
 ghost use Rattle.xt_engine.specs.View.{ruling_of};
 ghost use Rattle.xt_frames.specs.declared.frame.Frame.TheVariants as Frame;

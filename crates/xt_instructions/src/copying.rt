@@ -13,7 +13,7 @@ ghost use Rattle.spec_run.specs.Content.{value_copied, nodes_copied, copied_as, 
 ghost use Rattle.xt_names.specs.View.{entry_of};
 ghost use Rattle.xt_syntax.specs.PartView.{site_of};
 ghost use Rattle.xt_syntax.specs.InstrView.{instr_of};
-ghost use Rattle.xt_tree.specs.declared.node_ref.NodeRef.{NodeRef};
+ghost use Rattle.spec_node.specs.declared.node_ref.NodeRef.{NodeRef};
 ghost use Rattle.xt_tree.specs.ValueView.{value_of};
 ghost use Rattle.xt_questions.specs.View.{answer_of};
 ghost use Rattle.xt_engine.specs.View.{wrapping_of};

@@ -9,7 +9,7 @@ ghost use Rattle.spec_run.specs.Going as goings;
 ghost use Rattle.spec_run.specs.Passes.{Passes};
 ghost use Rattle.spec_run.specs.Content as contents;
 ghost use Rattle.xt_syntax.specs.PartView.{place_of, site_of};
-ghost use Rattle.xt_tree.specs.declared.node_ref.NodeRef.{NodeRef};
+ghost use Rattle.spec_node.specs.declared.node_ref.NodeRef.{NodeRef};
 ghost use Rattle.xt_questions.specs.View.{bindings_of, chosen_of, current_of};
 ghost use Rattle.xt_engine.specs.View.{call_of, target_of, ruling_of};
 ghost use Rattle.xt_progress.specs.View.{going_of};

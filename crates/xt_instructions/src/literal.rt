@@ -8,7 +8,7 @@ ghost use Rattle.spec_run.specs.Content.{element_aliased, planned_with, sets_use
 ghost use Rattle.xt_syntax.specs.SheetView.{alias_of};
 ghost use Rattle.xt_syntax.specs.PartView.{site_of, literal_tag_of};
 ghost use Rattle.xt_syntax.specs.InstrView.{instr_of};
-ghost use Rattle.xt_tree.specs.declared.node_ref.NodeRef.{NodeRef};
+ghost use Rattle.spec_node.specs.declared.node_ref.NodeRef.{NodeRef};
 ghost use Rattle.xt_engine.specs.View.{wrapping_of};
 ghost use Rattle.xt_frames.specs.declared.frame.Frame.TheVariants as Frame;
 ghost use Rattle.xt_frames.specs.View.{here_of, inside, after_body, left_frame};

@@ -6,7 +6,7 @@ ghost use Rattle.spec_run.specs.Plan.{Plan, Inquire};
 ghost use Rattle.spec_run.specs.Passes.{Passes};
 ghost use Rattle.spec_run.specs.Content.{namespaces_read};
 ghost use Rattle.xt_names.specs.View.{entry_of};
-ghost use Rattle.xt_tree.specs.declared.node_ref.NodeRef.{NodeRef};
+ghost use Rattle.spec_node.specs.declared.node_ref.NodeRef.{NodeRef};
 ghost use Rattle.xt_questions.specs.View.{answer_of};
 ghost use Rattle.xt_progress.specs.View.{going_of};
 

@@ -7,7 +7,7 @@ ghost use Rattle.spec_run.specs.Plan.{Begin, Wrap};
 ghost use Rattle.spec_run.specs.Content as contents;
 ghost use Rattle.xt_syntax.specs.PartView.{place_of, site_of};
 ghost use Rattle.xt_syntax.specs.InstrView.{instr_of};
-ghost use Rattle.xt_tree.specs.declared.node_ref.NodeRef.{NodeRef};
+ghost use Rattle.spec_node.specs.declared.node_ref.NodeRef.{NodeRef};
 ghost use Rattle.xt_questions.specs.View.{sets_of};
 ghost use Rattle.xt_engine.specs.View.{call_of, wrapping_of};
 ghost use Rattle.xt_frames.specs.declared.frame.Frame.TheVariants as Frame;

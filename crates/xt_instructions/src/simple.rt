@@ -9,7 +9,7 @@ ghost use Rattle.spec_run.specs.Content.{planned_without, text_item};
 ghost use Rattle.xt_syntax.specs.View.{expr_of};
 ghost use Rattle.xt_syntax.specs.PartView.{place_of, site_of, without_content_of};
 ghost use Rattle.xt_syntax.specs.InstrView.{instr_of};
-ghost use Rattle.xt_tree.specs.declared.node_ref.NodeRef.{NodeRef};
+ghost use Rattle.spec_node.specs.declared.node_ref.NodeRef.{NodeRef};
 ghost use Rattle.xt_questions.specs.Runs.{itself};
 ghost use Rattle.xt_progress.specs.View.{going_of};
 ghost use Rattle.xt_frames.specs.declared.run.Run as declared;

@@ -6,7 +6,7 @@ ghost use Rattle.spec_transform.specs.Sorted as sorts;
 ghost use Rattle.spec_run.specs.Plan.{Plan, Put};
 ghost use Rattle.spec_run.specs.Content.{at, criteria_asked, rows_asked};
 ghost use Rattle.xt_syntax.specs.PartView.{sort_key_of};
-ghost use Rattle.xt_tree.specs.declared.node_ref.NodeRef.{NodeRef};
+ghost use Rattle.spec_node.specs.declared.node_ref.NodeRef.{NodeRef};
 ghost use Rattle.xt_frames.specs.declared.frame.Frame.TheVariants as Frame;
 ghost use Rattle.xt_frames.specs.View.{here_of, left_frame, ordered_left};
 ghost use Rattle.xt_frames.specs.Left.{StepsFrom, Pushed, HasNeeds};

@@ -10,7 +10,7 @@ ghost use Rattle.spec_run.specs.Content.{is_empty, passed, valued, with_variable
 ghost use Rattle.xt_syntax.specs.View.{expr_of};
 ghost use Rattle.xt_syntax.specs.PartView.{site_of};
 ghost use Rattle.xt_syntax.specs.InstrView.{binding_of, instr_of};
-ghost use Rattle.xt_tree.specs.declared.node_ref.NodeRef.{NodeRef};
+ghost use Rattle.spec_node.specs.declared.node_ref.NodeRef.{NodeRef};
 ghost use Rattle.xt_frames.specs.declared.frame.Frame.TheVariants as Frame;
 ghost use Rattle.xt_frames.specs.View.{here_of, inside, following, passed_to};
 ghost use Rattle.xt_frames.specs.Left.{left_in, Does, Performs};

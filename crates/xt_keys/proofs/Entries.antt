@@ -6,8 +6,8 @@ use Rattle.std.specs.declared.alloc.Global.{Global}
 use Rattle.std.proofs.lemmas.List.{append-nil, take-append-drop, drop_more, set_split, take-map, drop-map, get_or-map, length-map, map-set}
 use Rattle.spec_meaning.specs.Naming.{AllDiffer}
 use Rattle.spec_transform.specs.Key.{Entry, entry}
-use Rattle.xt_tree.specs.declared.node_ref.NodeRef.{NodeRef}
-use Rattle.xp_axes.specs.View.{same_ref}
+use Rattle.spec_node.specs.declared.node_ref.NodeRef.{NodeRef}
+use Rattle.spec_node.specs.Naming.{same_ref}
 use Rattle.xt_questions.specs.Runs.{itself, items}
 use Rattle.xt_keys.specs.View.{AreNodesApart, texts_at, all_texts}
 

@@ -4,8 +4,8 @@ use Rattle.std.specs.Prelude.{◌&&◌, ◌||◌, bytes_eq}
 use Rattle.std.specs.List.{filter, list_any}
 use Rattle.std.proofs.lemmas.List.{take-append-drop, drop_more, take_more, length-take-le}
 use Rattle.spec_transform.specs.Key.{Entry, has}
-use Rattle.xt_tree.specs.declared.node_ref.NodeRef.{NodeRef}
-use Rattle.xp_axes.specs.View.{same_ref}
+use Rattle.spec_node.specs.declared.node_ref.NodeRef.{NodeRef}
+use Rattle.spec_node.specs.Naming.{same_ref}
 use Rattle.xt_keys.specs.View.{AreNodesApart, texts_at, all_texts, having, is_last, with_node, with_each}
 use Rattle.xt_keys.proofs.Entries.{differs_from}
 

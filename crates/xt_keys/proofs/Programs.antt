@@ -4,8 +4,8 @@ use Rattle.spec_document.specs.Name.{Expanded, same_name}
 use Rattle.spec_meaning.specs.Question.{Refusal}
 use Rattle.spec_meaning.specs.Program.{Wanted, Supply, Program, Give, Refuse, Ask, Need, then, State, Said, Gives, Refuses, Lacks, Ending, run}
 use Rattle.spec_transform.specs.Key.{KeyAt, Entry, entry, indexed, indexed_by, key_in, values_at}
-use Rattle.xt_tree.specs.declared.node_ref.NodeRef.{NodeRef}
-use Rattle.xp_axes.specs.View.{same_ref}
+use Rattle.spec_node.specs.declared.node_ref.NodeRef.{NodeRef}
+use Rattle.spec_node.specs.Naming.{same_ref}
 use Rattle.xt_syntax.specs.SheetView.{declared_of, unit_of}
 use Rattle.xt_syntax.specs.declared.unit.Key.{Key}
 use Rattle.xt_syntax.specs.declared.unit.Unit.{Unit}

@@ -9,7 +9,7 @@ use Rattle.spec_document.specs.Scope.{root_scope}
 use Rattle.spec_meaning.specs.Naming.{AllDiffer, AreApart}
 use Rattle.xt_tree.specs.Numbers.{IsNumbered}
 use Rattle.xt_tree.specs.View as view
-use Rattle.xp_axes.specs.View.{ref_of, same_ref}
+use Rattle.spec_node.specs.Naming.{ref_of, same_ref}
 use Rattle.xp_axes.proofs.Told.{all_told}
 use Rattle.xt_questions.specs.Runs.{itself}
 use Rattle.xt_keys.specs.Nodes.{namespace_ref, namespace_refs, attribute_ref, attribute_refs, refs_in}

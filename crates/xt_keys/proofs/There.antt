@@ -5,7 +5,7 @@ use Rattle.spec_meaning.specs.Program.{Given, Supply, Saw, Program, Give, Refuse
 use Rattle.spec_transform.specs.Key.{refusal_there, refused_there}
 use Rattle.xt_base.specs.declared.place.Place.{Place}
 use Rattle.xt_syntax.specs.PartView.{place_of}
-use Rattle.xt_tree.specs.declared.node_ref.NodeRef.{NodeRef}
+use Rattle.spec_node.specs.declared.node_ref.NodeRef.{NodeRef}
 use Rattle.xt_questions.specs.declared.fault.EvalFault.{EvalFault}
 use Rattle.xt_questions.specs.declared.fault.EvalFault.TheVariants.{Memory, Refused, Wants}
 use Rattle.xt_questions.specs.declared.fault.Refusal.TheVariants.{Here, At}

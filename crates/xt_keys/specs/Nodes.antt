@@ -6,8 +6,8 @@ use Rattle.spec_document.specs.Forest.{Content, Forest, Empty, Node, Written}
 use Rattle.spec_document.specs.Place.{attributes_in, namespaces_by}
 use Rattle.spec_document.specs.Scope.{Scope}
 use Rattle.xt_tree.specs.View.{itself}
-use Rattle.xt_tree.specs.declared.node_ref.NodeRef.{NodeRef}
-use Rattle.xt_tree.specs.declared.node_ref.Part.TheVariants as part
+use Rattle.spec_node.specs.declared.node_ref.NodeRef.{NodeRef}
+use Rattle.spec_node.specs.declared.node_ref.Part.TheVariants as part
 
 -- a namespace node of the node of this label, and an attribute
 abbrev pub namespace_ref : ℕ → ℕ → NodeRef

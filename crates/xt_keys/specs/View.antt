@@ -8,8 +8,8 @@ use Rattle.std.specs.declared.string.String.{String}
 use Rattle.spec_meaning.specs.Naming.{AreApart}
 use Rattle.spec_meaning.specs.Program.{Program, Give, Supply, State, then}
 use Rattle.spec_transform.specs.Key.{KeyAt, Entry}
-use Rattle.xt_tree.specs.declared.node_ref.NodeRef.{NodeRef}
-use Rattle.xp_axes.specs.View.{same_ref}
+use Rattle.spec_node.specs.declared.node_ref.NodeRef.{NodeRef}
+use Rattle.spec_node.specs.Naming.{same_ref}
 use Rattle.xt_syntax.specs.PartView.{site_of}
 use Rattle.xt_syntax.specs.SheetView.{key_of}
 use Rattle.xt_syntax.specs.declared.site.Site.{Site}

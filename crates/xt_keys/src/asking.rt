@@ -4,7 +4,7 @@ ghost use Rattle.std.specs.List.{filter};
 ghost use Rattle.spec_meaning.specs.Program.{Give, then as and_then};
 ghost use Rattle.spec_transform.specs.Key as definition;
 ghost use Rattle.spec_transform.specs.Key.{no_globals};
-ghost use Rattle.xp_axes.specs.View.{same_ref};
+ghost use Rattle.spec_node.specs.Naming.{same_ref};
 ghost use Rattle.xt_questions.specs.Runs.{Runs};
 ghost use Rattle.xt_keys.specs.View.{AreNodesApart, nodes_found};
 ghost use Rattle.xt_match.specs.Context.{units_in};

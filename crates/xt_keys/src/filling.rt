@@ -3,7 +3,7 @@ ghost use Rattle.std.specs.Prelude.{◌≡◌, ◌++◌, [], length, IfOk, OnOk}
 ghost use Rattle.spec_meaning.specs.Program.{Give, then as and_then};
 ghost use Rattle.spec_meaning.specs.Supplies.{at_hand};
 ghost use Rattle.spec_transform.specs.Key as definition;
-ghost use Rattle.xp_axes.specs.View.{same_ref};
+ghost use Rattle.spec_node.specs.Naming.{same_ref};
 ghost use Rattle.xt_syntax.specs.SheetView.{unit_of};
 ghost use Rattle.xt_questions.specs.Runs.{Runs};
 ghost use Rattle.xt_questions.specs.View.{supplies_of};

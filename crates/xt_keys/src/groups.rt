@@ -1,7 +1,7 @@
 // The nodes of each value.
 ghost use Rattle.std.specs.Prelude.{◌≡◌, ℕ, List, [], ◌∷◌, map, length, IfOk, OnOk, if◌then◌else◌, bytes_eq};
 ghost use Rattle.std.specs.Str.{chars};
-ghost use Rattle.xp_axes.specs.View.{same_ref as is_same_ref};
+ghost use Rattle.spec_node.specs.Naming.{same_ref as is_same_ref};
 ghost use Rattle.xt_questions.specs.Runs.{items};
 ghost use Rattle.xt_keys.specs.View as view;
 ghost use Rattle.xt_keys.specs.View.{AreNodesApart, having, nodes_found, with_each, with_node};

@@ -3,7 +3,7 @@ ghost use Rattle.std.specs.Prelude.{◌≡◌, ◌<◌, ◌≤◌, ◌+◌, ◌-
 ghost use Rattle.spec_document.specs.Declaration.{declared_all, namespaces_in, within};
 ghost use Rattle.spec_document.specs.Forest as spec;
 ghost use Rattle.spec_document.specs.Order.{entries_of};
-ghost use Rattle.xp_axes.specs.View.{ref_of};
+ghost use Rattle.spec_node.specs.Naming.{ref_of};
 ghost use Rattle.xt_keys.specs.Nodes.{attribute_refs, attributes_among, namespace_refs, own_refs, refs_in};
 ghost use Rattle.xt_keys.specs.View.{AreNodesApart};
 ghost use Rattle.xt_tree.specs.View.{content_of, forest_of, written_of};

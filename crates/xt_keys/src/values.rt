@@ -5,14 +5,14 @@ ghost use Rattle.spec_meaning.specs.Meaning.{meaning};
 ghost use Rattle.spec_meaning.specs.Program.{Give, Program, State, Supply, then as and_then};
 ghost use Rattle.spec_meaning.specs.Supplies.{at_hand};
 ghost use Rattle.spec_transform.specs.Key as definition;
-ghost use Rattle.xp_axes.specs.View.{same_ref};
+ghost use Rattle.spec_node.specs.Naming.{same_ref};
 ghost use Rattle.xt_syntax.specs.PartView.{place_of};
 ghost use Rattle.xt_syntax.specs.View.{expr_of};
 ghost use Rattle.xt_questions.specs.Runs.{Runs, items, itself};
 ghost use Rattle.xt_questions.specs.View.{context_of, supplies_of};
 ghost use Rattle.xt_keys.specs.View.{IsContextOf, alone, key_at};
 ghost use Rattle.xt_tree.specs.ValueView.{value_of};
-ghost use Rattle.xt_tree.specs.declared.node_ref.NodeRef.{NodeRef};
+ghost use Rattle.spec_node.specs.declared.node_ref.NodeRef.{NodeRef};
 
 use std::alloc::Global;
 use xp_values::to_text;

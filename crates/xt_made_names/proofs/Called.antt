@@ -4,7 +4,7 @@ use Rattle.spec_document.specs.Name.{Expanded}
 use Rattle.spec_meaning.specs.Program.{Program, Give, Supply, State, Gives, then}
 use Rattle.spec_run.specs.Plan.{AsElement, AsAttribute}
 use Rattle.spec_run.specs.Names.{element_in, attribute_in}
-use Rattle.xt_tree.specs.declared.node_ref.NodeRef.{NodeRef}
+use Rattle.spec_node.specs.declared.node_ref.NodeRef.{NodeRef}
 use Rattle.xt_questions.specs.declared.fault.EvalFault.{EvalFault}
 use Rattle.xt_questions.specs.declared.fault.EvalFault.TheVariants.{Memory, Refused, Wants}
 use Rattle.xt_questions.specs.Runs.{Runs, RunsSo, itself}

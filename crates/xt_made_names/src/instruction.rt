@@ -8,7 +8,7 @@ ghost use Rattle.spec_meaning.specs.Supplies.{at_hand};
 ghost use Rattle.spec_run.specs.Names as names;
 ghost use Rattle.spec_run.specs.Plan as plan;
 ghost use Rattle.xt_syntax.specs.PartView.{avt_of};
-ghost use Rattle.xt_tree.specs.declared.node_ref.NodeRef.{NodeRef};
+ghost use Rattle.spec_node.specs.declared.node_ref.NodeRef.{NodeRef};
 ghost use Rattle.xt_questions.specs.View.{context_of, supplies_of};
 ghost use Rattle.xt_questions.specs.Runs.{Runs};
 ghost use Rattle.xt_engine.specs.View.{wrapping_of};

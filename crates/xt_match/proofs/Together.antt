@@ -8,7 +8,7 @@ use Rattle.spec_stylesheet.specs.declared.pattern.Separator.{Separator}
 use Rattle.spec_meaning.specs.Question.{Question, Answer, Step, Key, nodes_in}
 use Rattle.spec_meaning.specs.Program.{Given, Supply, Saw, Program, Give, Refuse, Ask, Need, State, asked, noted, Ending, Said, Gives, Refuses, Lacks, if_given, then, run}
 use Rattle.spec_transform.specs.Match.{caught, axis_above, holds_of_one, when_called}
-use Rattle.xt_tree.specs.declared.node_ref.NodeRef.{NodeRef}
+use Rattle.spec_node.specs.declared.node_ref.NodeRef.{NodeRef}
 use Rattle.xt_questions.specs.declared.fault.EvalFault.{EvalFault}
 use Rattle.xt_questions.specs.declared.fault.EvalFault.TheVariants.{Memory, Refused, Wants}
 use Rattle.xt_questions.specs.Runs.{Runs, RunsSo, Continues, itself}

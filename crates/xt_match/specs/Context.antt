@@ -4,7 +4,7 @@ use Rattle.std.specs.declared.rc.Rc.{Rc}
 use Rattle.std.specs.Global.{Global}
 use Rattle.spec_stylesheet.specs.Sheet as sheet
 use Rattle.spec_transform.specs.Choice.{context_for}
-use Rattle.xt_tree.specs.declared.node_ref.NodeRef.{NodeRef}
+use Rattle.spec_node.specs.declared.node_ref.NodeRef.{NodeRef}
 use Rattle.xt_syntax.specs.SheetView.{unit_of}
 use Rattle.xt_questions.specs.declared.answer.ResolvedUnit.{ResolvedUnit}
 use Rattle.xt_questions.specs.declared.context.Context.{Context}

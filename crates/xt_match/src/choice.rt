@@ -2,7 +2,7 @@
 ghost use Rattle.std.specs.Prelude.{◌≡◌, IfOk, map};
 ghost use Rattle.spec_meaning.specs.Supplies.{at_hand};
 ghost use Rattle.spec_transform.specs.Choice as definition;
-ghost use Rattle.xp_axes.specs.View.{same_ref};
+ghost use Rattle.spec_node.specs.Naming.{same_ref};
 ghost use Rattle.xt_syntax.specs.SheetView.{rule_of, rules_of};
 ghost use Rattle.xt_questions.specs.View.{answer_of, candidates_of, context_of, supplies_of};
 ghost use Rattle.xt_questions.specs.Runs.{Runs, itself};

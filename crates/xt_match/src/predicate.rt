@@ -8,10 +8,10 @@ ghost use Rattle.spec_meaning.specs.Program.{Supply, State, Program, Give, then 
 ghost use Rattle.spec_meaning.specs.Supplies.{at_hand};
 ghost use Rattle.spec_meaning.specs.Value as plain;
 ghost use Rattle.spec_transform.specs.Match as definition;
-ghost use Rattle.xp_axes.specs.View.{same_ref};
+ghost use Rattle.spec_node.specs.Naming.{same_ref};
 ghost use Rattle.xt_syntax.specs.View.{expr_of};
 ghost use Rattle.xt_tree.specs.ValueView.{value_of};
-ghost use Rattle.xt_tree.specs.declared.node_ref.NodeRef.{NodeRef};
+ghost use Rattle.spec_node.specs.declared.node_ref.NodeRef.{NodeRef};
 ghost use Rattle.xt_questions.specs.View.{context_of, supplies_of};
 ghost use Rattle.xt_questions.specs.Runs.{Runs, itself, items};
 ghost use Rattle.xt_questions.specs.declared.context.Focus as code;

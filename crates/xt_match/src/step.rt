@@ -7,7 +7,7 @@ ghost use Rattle.spec_meaning.specs.Program.{Ask};
 ghost use Rattle.spec_meaning.specs.Question as question;
 ghost use Rattle.spec_meaning.specs.Supplies.{at_hand};
 ghost use Rattle.spec_transform.specs.Match as definition;
-ghost use Rattle.xp_axes.specs.View.{same_ref};
+ghost use Rattle.spec_node.specs.Naming.{same_ref};
 ghost use Rattle.xt_syntax.specs.View.{step_of};
 ghost use Rattle.xt_questions.specs.View.{answer_of, context_of, supplies_of};
 ghost use Rattle.xt_questions.specs.Runs.{Runs, itself};

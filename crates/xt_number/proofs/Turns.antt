@@ -8,8 +8,8 @@ use Rattle.spec_stylesheet.specs.Pattern.{Pattern}
 use Rattle.spec_meaning.specs.Context.{Context}
 use Rattle.spec_meaning.specs.Program.{Program, Give, then}
 use Rattle.spec_transform.specs.Numbering.{on_axis, nearest_first, cut_by, backward}
-use Rattle.xt_tree.specs.declared.node_ref.NodeRef.{NodeRef}
-use Rattle.xt_tree.specs.declared.node_ref.Part.TheVariants as part
+use Rattle.spec_node.specs.declared.node_ref.NodeRef.{NodeRef}
+use Rattle.spec_node.specs.declared.node_ref.Part.TheVariants as part
 use Rattle.xt_questions.specs.declared.context.Focus.{Focus}
 
 -- a node, for a place in a list that has none

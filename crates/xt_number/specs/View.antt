@@ -1,7 +1,7 @@
 -- What is counted, as the program has it.
 use Rattle.spec_transform.specs.Numbering as plain
 use Rattle.xt_syntax.specs.PartView.{pattern_of}
-use Rattle.xt_tree.specs.declared.node_ref.NodeRef.{NodeRef}
+use Rattle.spec_node.specs.declared.node_ref.NodeRef.{NodeRef}
 use Rattle.xt_questions.specs.View.{answer_of}
 use Rattle.xt_number.specs.declared.counted.Counted.{Counted}
 use Rattle.xt_number.specs.declared.counted.Counted.TheVariants as counted

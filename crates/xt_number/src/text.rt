@@ -7,11 +7,11 @@ ghost use Rattle.spec_meaning.specs.Convert.{to_number};
 ghost use Rattle.spec_meaning.specs.Program.{Supply};
 ghost use Rattle.spec_meaning.specs.Supplies.{at_hand};
 ghost use Rattle.spec_transform.specs.Numbering as definition;
-ghost use Rattle.xp_axes.specs.View.{same_ref};
+ghost use Rattle.spec_node.specs.Naming.{same_ref};
 ghost use Rattle.xt_syntax.specs.PartView.{avt_of, number_source_of, numbering_of};
 ghost use Rattle.xt_syntax.specs.View.{expr_of};
 ghost use Rattle.xt_tree.specs.ValueView.{value_of};
-ghost use Rattle.xt_tree.specs.declared.node_ref.NodeRef.{NodeRef};
+ghost use Rattle.spec_node.specs.declared.node_ref.NodeRef.{NodeRef};
 ghost use Rattle.xt_questions.specs.View.{context_of, supplies_of};
 ghost use Rattle.xt_questions.specs.Runs.{Runs, itself, items};
 

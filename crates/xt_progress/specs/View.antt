@@ -3,7 +3,7 @@ use Rattle.std.specs.Prelude.{List, [], ◌∷◌, map}
 use Rattle.spec_meaning.specs.Stream.{Stream}
 use Rattle.spec_run.specs.Going as plain
 use Rattle.xt_tree.specs.declared.items.Items.{Items}
-use Rattle.xt_tree.specs.declared.node_ref.NodeRef.{NodeRef}
+use Rattle.spec_node.specs.declared.node_ref.NodeRef.{NodeRef}
 use Rattle.xt_tree.specs.StreamView.{stream_of, streams_of}
 use Rattle.xt_engine.specs.View.{event_of}
 use Rattle.xt_progress.specs.declared.going.Going.{Going}

@@ -2,7 +2,7 @@
 use Rattle.std.proofs.Common.{◌≡◌, ℕ, zero, suc, ◌<◌, ◌≤◌, ◌+◌, List, [], ◌∷◌, map, take, drop, length, get_or, refl, ap, subst, arith}
 use Rattle.spec_meaning.specs.Question.{Question, Answer}
 use Rattle.spec_meaning.specs.Program.{Read, Asked, Saw}
-use Rattle.xt_tree.specs.declared.node_ref.NodeRef.{NodeRef}
+use Rattle.spec_node.specs.declared.node_ref.NodeRef.{NodeRef}
 use Rattle.xt_questions.specs.Change.{Stands, AllStand, Changes, FirstChanges, asked_by, asked_in}
 
 pub stand_more : {X : Type 0} (truth : Question NodeRef → Answer NodeRef) (f : X → Read NodeRef) (xs : List X) (i : ℕ) (x : X) → i < length xs → x ≡ get_or xs i x

@@ -2,7 +2,7 @@
 use Rattle.std.specs.Prelude.{◌≡◌, ℕ, Result, Ok, Err, List, Vec}
 use Rattle.std.specs.Global.{Global as Allocator}
 use Rattle.spec_meaning.specs.Program.{Global, Gives, Refuses, Lacks, Supply, Program, State, run}
-use Rattle.xt_tree.specs.declared.node_ref.NodeRef.{NodeRef}
+use Rattle.spec_node.specs.declared.node_ref.NodeRef.{NodeRef}
 use Rattle.xt_questions.specs.declared.fault.EvalFault.{EvalFault}
 use Rattle.xt_questions.specs.declared.fault.EvalFault.TheVariants as faults
 use Rattle.xt_questions.specs.View.{refusal_of}

@@ -9,7 +9,7 @@ use Rattle.xt_syntax.specs.View.{test_of}
 use Rattle.xt_syntax.specs.PartView.{place_of}
 use Rattle.xt_syntax.specs.SheetView.{alias_of, unit_of}
 use Rattle.xt_tree.specs.ValueView.{value_of}
-use Rattle.xt_tree.specs.declared.node_ref.NodeRef.{NodeRef}
+use Rattle.spec_node.specs.declared.node_ref.NodeRef.{NodeRef}
 use Rattle.xt_questions.specs.declared.question.Candidates.{Candidates}
 use Rattle.xt_questions.specs.declared.question.Candidates.TheVariants as candidates
 use Rattle.xt_questions.specs.declared.question.Question.{Question}

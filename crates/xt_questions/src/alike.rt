@@ -3,7 +3,7 @@ ghost use Rattle.std.specs.Prelude.{◌≡◌, List, map, ℕ};
 ghost use Rattle.std.specs.Bool.{Decides};
 ghost use Rattle.spec_meaning.specs.Question as plain;
 ghost use Rattle.xt_names.specs.View.{entry_of};
-ghost use Rattle.xt_tree.specs.declared.node_ref.NodeRef.{NodeRef};
+ghost use Rattle.spec_node.specs.declared.node_ref.NodeRef.{NodeRef};
 ghost use Rattle.spec_stylesheet.specs.Sheet as sheet;
 ghost use Rattle.xt_syntax.specs.SheetView.{alias_of};
 ghost use Rattle.xt_questions.specs.View.{template_of, sets_of};

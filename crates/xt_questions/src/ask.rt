@@ -5,7 +5,7 @@ ghost use Rattle.spec_meaning.specs.Program.{Ask, Give, Supply};
 ghost use Rattle.spec_meaning.specs.Convert.{text_at};
 ghost use Rattle.spec_meaning.specs.Operation.{in_order};
 ghost use Rattle.xt_syntax.specs.View.{test_of};
-ghost use Rattle.xt_tree.specs.declared.node_ref.NodeRef.{NodeRef};
+ghost use Rattle.spec_node.specs.declared.node_ref.NodeRef.{NodeRef};
 ghost use Rattle.xt_questions.specs.Runs.{Runs, itself, items};
 
 use crate::{EvalFault, Question, World};

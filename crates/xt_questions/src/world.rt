@@ -1,7 +1,7 @@
 // Worlds.
 ghost use Rattle.std.specs.Prelude.{◌≡◌, ℕ, List, IfOk, OnOk, OnErr};
 ghost use Rattle.spec_meaning.specs.Program.{State, Saw, asked, noted};
-ghost use Rattle.xt_tree.specs.declared.node_ref.NodeRef.{NodeRef};
+ghost use Rattle.spec_node.specs.declared.node_ref.NodeRef.{NodeRef};
 ghost use Rattle.xt_questions.specs.View.{question_of, answer_of, wanted_of, given_of};
 
 use crate::{Answer, Given, Question, Wanted};

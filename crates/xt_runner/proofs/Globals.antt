@@ -17,7 +17,7 @@ use Rattle.xt_syntax.specs.declared.instr.Binding.{Binding, out-Binding}
 use Rattle.xt_syntax.specs.View.{expr_of}
 use Rattle.xt_syntax.specs.PartView.{site_of}
 use Rattle.xt_syntax.specs.InstrView.{instr_of, binding_of}
-use Rattle.xt_tree.specs.declared.node_ref.NodeRef.{NodeRef}
+use Rattle.spec_node.specs.declared.node_ref.NodeRef.{NodeRef}
 use Rattle.xt_tree.specs.declared.value.Value.{Value}
 use Rattle.xt_tree.specs.ValueView.{value_of}
 use Rattle.xt_progress.specs.View.{going_of}

@@ -17,7 +17,7 @@ use Rattle.xt_syntax.specs.declared.instr.Instr.{Instr}
 use Rattle.xt_syntax.specs.InstrView.{instr_of}
 use Rattle.xt_syntax.specs.PartView.{place_of}
 use Rattle.xt_base.specs.declared.place.Place.{Place}
-use Rattle.xt_tree.specs.declared.node_ref.NodeRef.{NodeRef}
+use Rattle.spec_node.specs.declared.node_ref.NodeRef.{NodeRef}
 use Rattle.xt_questions.specs.View.{bindings_of}
 use Rattle.xt_engine.specs.declared.wrapping.Wrapping.{Wrapping}
 use Rattle.xt_engine.specs.View.{wrapping_of}

@@ -21,7 +21,7 @@ use Rattle.xt_syntax.specs.View.{expr_of}
 use Rattle.xt_syntax.specs.PartView.{site_of, sort_key_of}
 use Rattle.xt_syntax.specs.declared.sort_key.SortKey.{SortKey}
 use Rattle.xt_syntax.specs.InstrView.{instr_of, binding_of}
-use Rattle.xt_tree.specs.declared.node_ref.NodeRef.{NodeRef}
+use Rattle.spec_node.specs.declared.node_ref.NodeRef.{NodeRef}
 use Rattle.xt_questions.specs.View.{bindings_of}
 use Rattle.xt_engine.specs.declared.call.Call.{Call}
 use Rattle.xt_engine.specs.View.{call_of}

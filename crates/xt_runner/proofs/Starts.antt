@@ -22,9 +22,9 @@ use Rattle.spec_run.specs.Going.{Asked, noted, put}
 use Rattle.spec_run.specs.Content.{built_in, children_applied, text_put, text_item, applied_to, kind_in, Here, elements_named, sets_entered, sets_used, planned, unit_planned, global_planned, may_be_given, held, unless_given}
 use Rattle.spec_run.specs.Passes.{Passes, asks, puts, stays}
 use Rattle.xt_syntax.specs.PartView.{place_of}
-use Rattle.xp_axes.specs.View.{same_ref}
+use Rattle.spec_node.specs.Naming.{same_ref}
 use Rattle.xt_base.specs.declared.place.Place.{Place}
-use Rattle.xt_tree.specs.declared.node_ref.NodeRef.{NodeRef}
+use Rattle.spec_node.specs.declared.node_ref.NodeRef.{NodeRef}
 use Rattle.xt_tree.specs.declared.value.Value.{Value}
 use Rattle.xt_tree.specs.ValueView.{value_of}
 use Rattle.xt_questions.specs.declared.answer.Answer as code

@@ -1,7 +1,7 @@
 -- How a run goes on from where it is.
 use Rattle.std.specs.Prelude.{Result}
 use Rattle.spec_meaning.specs.Question.{Question, Answer}
-use Rattle.xt_tree.specs.declared.node_ref.NodeRef.{NodeRef}
+use Rattle.spec_node.specs.declared.node_ref.NodeRef.{NodeRef}
 use Rattle.xt_engine.specs.Progress.{Progress, Start}
 use Rattle.xt_engine.specs.Advances.{AdvancesSo}
 use Rattle.xt_engine.specs.declared.turn.Turn.{Turn}

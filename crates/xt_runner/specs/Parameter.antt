@@ -7,7 +7,7 @@ use Rattle.spec_meaning.specs.Context as context
 use Rattle.spec_run.specs.Plan.{Plan}
 use Rattle.spec_run.specs.Content.{Here, is_empty, valued, unless_passed}
 use Rattle.xt_syntax.specs.PartView.{place_of}
-use Rattle.xt_tree.specs.declared.node_ref.NodeRef.{NodeRef}
+use Rattle.spec_node.specs.declared.node_ref.NodeRef.{NodeRef}
 use Rattle.xt_questions.specs.View.{bindings_of}
 use Rattle.xt_frames.specs.declared.frame.Application.{Application}
 use Rattle.xt_frames.specs.declared.frame.Passing.{Passing}

@@ -4,7 +4,7 @@ use Rattle.spec_stylesheet.specs.Sheet.{Declared}
 use Rattle.spec_meaning.specs.Value as value
 use Rattle.spec_run.specs.Plan.{Plan, Yield}
 use Rattle.xt_syntax.specs.SheetView.{declared_of}
-use Rattle.xt_tree.specs.declared.node_ref.NodeRef.{NodeRef}
+use Rattle.spec_node.specs.declared.node_ref.NodeRef.{NodeRef}
 use Rattle.xt_frames.specs.declared.standing.Standing.{Standing}
 use Rattle.xt_frames.specs.declared.run.Run.{Run}
 use Rattle.xt_frames.specs.Left.{left_in}

@@ -7,7 +7,7 @@ ghost use Rattle.spec_run.specs.Going.{Asked, noted, put};
 ghost use Rattle.spec_run.specs.Content.{at, rule_call};
 ghost use Rattle.spec_run.specs.Copy.{stream_in};
 ghost use Rattle.xt_syntax.specs.PartView.{place_of};
-ghost use Rattle.xt_tree.specs.declared.node_ref.NodeRef.{NodeRef};
+ghost use Rattle.spec_node.specs.declared.node_ref.NodeRef.{NodeRef};
 ghost use Rattle.xt_questions.specs.View.{bindings_of};
 ghost use Rattle.xt_engine.specs.View.{call_of};
 ghost use Rattle.xt_progress.specs.View.{going_of};

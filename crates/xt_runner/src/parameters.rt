@@ -9,7 +9,7 @@ ghost use Rattle.spec_run.specs.Content.{asked, held};
 ghost use Rattle.xt_syntax.specs.View.{expr_of};
 ghost use Rattle.xt_syntax.specs.PartView.{site_of};
 ghost use Rattle.xt_syntax.specs.InstrView.{binding_of};
-ghost use Rattle.xt_tree.specs.declared.node_ref.NodeRef.{NodeRef};
+ghost use Rattle.spec_node.specs.declared.node_ref.NodeRef.{NodeRef};
 ghost use Rattle.xt_tree.specs.ValueView.{value_of};
 ghost use Rattle.xt_questions.specs.View.{bindings_of};
 ghost use Rattle.xt_frames.specs.declared.frame.Frame.TheVariants as Frame;

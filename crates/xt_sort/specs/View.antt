@@ -1,7 +1,7 @@
 -- What criteria, keys and rows of the program stand for.
 use Rattle.std.specs.Prelude.{map}
 use Rattle.spec_transform.specs.Sorted as plain
-use Rattle.xt_tree.specs.declared.node_ref.NodeRef.{NodeRef}
+use Rattle.spec_node.specs.declared.node_ref.NodeRef.{NodeRef}
 use Rattle.xt_sort.specs.declared.row.Criterion.{Criterion}
 use Rattle.xt_sort.specs.declared.row.KeyValue.{KeyValue}
 use Rattle.xt_sort.specs.declared.row.KeyValue.TheVariants as values

@@ -5,7 +5,7 @@ ghost use Rattle.spec_meaning.specs.Program.{State, Supply};
 ghost use Rattle.spec_meaning.specs.Supplies.{at_hand};
 ghost use Rattle.spec_transform.specs.Sorted as plain;
 ghost use Rattle.xt_syntax.specs.PartView.{sort_key_of};
-ghost use Rattle.xt_tree.specs.declared.node_ref.NodeRef.{NodeRef};
+ghost use Rattle.spec_node.specs.declared.node_ref.NodeRef.{NodeRef};
 ghost use Rattle.xt_questions.specs.View.{context_of, supplies_of};
 ghost use Rattle.xt_questions.specs.Runs.{Runs, itself};
 ghost use Rattle.xt_sort.specs.View.{criterion_of, key_of};

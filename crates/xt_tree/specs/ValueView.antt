@@ -1,6 +1,6 @@
 -- The values that the code's values stand for.
 use Rattle.spec_meaning.specs.Value.{Value, Number, Text, Boolean, Nodes, Fragment}
-use Rattle.xt_tree.specs.declared.node_ref.NodeRef.{NodeRef}
+use Rattle.spec_node.specs.declared.node_ref.NodeRef.{NodeRef}
 use Rattle.xt_tree.specs.declared.value.Value as code
 use Rattle.xt_tree.specs.declared.value.Value.TheVariants as codes
 

@@ -12,9 +12,9 @@ use Rattle.xt_tree.specs.declared.node.Written.{Written}
 use Rattle.xt_tree.specs.declared.node.Content.{Content}
 use Rattle.xt_tree.specs.declared.node.Content.TheVariants as code
 use Rattle.xt_tree.specs.declared.node.Node.{Node, Node-F, fold-Node}
-use Rattle.xt_tree.specs.declared.node_ref.NodeRef.{NodeRef}
-use Rattle.xt_tree.specs.declared.node_ref.Part.{Part}
-use Rattle.xt_tree.specs.declared.node_ref.Part.TheVariants as part
+use Rattle.spec_node.specs.declared.node_ref.NodeRef.{NodeRef}
+use Rattle.spec_node.specs.declared.node_ref.Part.{Part}
+use Rattle.spec_node.specs.declared.node_ref.Part.TheVariants as part
 
 abbrev pub written_of : Written → spec.Written
 written_of a = record { name = a.name; value = a.value }

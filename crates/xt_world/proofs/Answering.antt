@@ -19,8 +19,8 @@ use Rattle.spec_transform.specs.Key.{no_globals}
 use Rattle.spec_run.specs.Documents.{Parameters}
 use Rattle.spec_run.specs.World as definition
 use Rattle.spec_run.specs.World.{rule_by, rule_at, source_by}
-use Rattle.xt_tree.specs.declared.node_ref.NodeRef.{NodeRef}
-use Rattle.xp_axes.specs.View.{ref_of, same_ref}
+use Rattle.spec_node.specs.declared.node_ref.NodeRef.{NodeRef}
+use Rattle.spec_node.specs.Naming.{ref_of, same_ref}
 use Rattle.xt_syntax.specs.SheetView.{rules_of}
 use Rattle.xt_questions.specs.View.{question_of, resolved_of}
 use Rattle.xt_questions.specs.declared.question.Question as code

@@ -6,7 +6,7 @@ use Rattle.spec_meaning.specs.Program.{Program, State, Supply, Said, Gives, Endi
 use Rattle.spec_meaning.specs.Supplies.{Supplies, at_hand}
 use Rattle.spec_meaning.proofs.Runs.{run_is}
 use Rattle.spec_transform.specs.Key.{no_globals}
-use Rattle.xt_tree.specs.declared.node_ref.NodeRef.{NodeRef}
+use Rattle.spec_node.specs.declared.node_ref.NodeRef.{NodeRef}
 use Rattle.xt_questions.specs.Runs.{Runs, itself}
 use Rattle.xt_questions.specs.declared.fault.EvalFault.{EvalFault}
 use Rattle.xt_questions.specs.declared.fault.EvalFault.TheVariants as faults

@@ -9,7 +9,7 @@ use Rattle.spec_stylesheet.specs.Place.{Place}
 use Rattle.spec_stylesheet.specs.Sheet.{Unit as Piece}
 use Rattle.spec_run.specs.World.{same_module, same_element}
 use Rattle.spec_run.proofs.Truths.{OfUnit, this, that}
-use Rattle.xp_axes.specs.View.{same_ref}
+use Rattle.spec_node.specs.Naming.{same_ref}
 use Rattle.xt_syntax.specs.PartView.{place_of}
 use Rattle.xt_base.specs.declared.place.Place as base
 use Rattle.xt_world.specs.Numbered.{index_from, element_called}

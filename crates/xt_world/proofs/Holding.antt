@@ -8,7 +8,7 @@ use Rattle.spec_document.specs.Forest.{Document}
 use Rattle.spec_meaning.specs.Program.{State, asked}
 use Rattle.spec_meaning.specs.Question as question
 use Rattle.spec_meaning.specs.Question.{Question, Answer}
-use Rattle.xt_tree.specs.declared.node_ref.NodeRef.{NodeRef}
+use Rattle.spec_node.specs.declared.node_ref.NodeRef.{NodeRef}
 use Rattle.xt_match.specs.Context.{units_in}
 use Rattle.xt_world.specs.KeyView.{answer_found, found_for, keyed_in}
 use Rattle.xt_world.specs.SourceView.{answer_or, source_in}

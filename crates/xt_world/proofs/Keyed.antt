@@ -7,8 +7,8 @@ use Rattle.spec_meaning.specs.Question.{Question, Answer, SomeNodes}
 use Rattle.spec_meaning.specs.Question as question
 use Rattle.spec_meaning.specs.Program.{Program, Give, Refuse, Ask, Need, Wanted, Given, Supply, State, Said, Gives, Refuses, Lacks, if_given, outcome_of, then}
 use Rattle.spec_transform.specs.Key.{Entry, has, indexed, keyed, keys_named, no_globals}
-use Rattle.xt_tree.specs.declared.node_ref.NodeRef.{NodeRef}
-use Rattle.xp_axes.specs.View.{same_ref}
+use Rattle.spec_node.specs.declared.node_ref.NodeRef.{NodeRef}
+use Rattle.spec_node.specs.Naming.{same_ref}
 use Rattle.xt_questions.specs.Runs.{Runs}
 use Rattle.xt_questions.specs.declared.fault.EvalFault.{EvalFault}
 use Rattle.xt_questions.specs.declared.fault.EvalFault.TheVariants as faults

@@ -9,9 +9,9 @@ use Rattle.spec_stylesheet.specs.Sheet.{Unit as Piece}
 use Rattle.spec_meaning.specs.Naming.{AllDiffer, AreApart}
 use Rattle.spec_run.specs.World.{InSource, InModule, same_node}
 use Rattle.spec_run.proofs.Truths.{AreStrangers}
-use Rattle.xt_tree.specs.declared.node_ref.Part.{Part}
-use Rattle.xt_tree.specs.declared.node_ref.Part.TheVariants as part
-use Rattle.xp_axes.specs.View.{ref_of, number_of, same_ref, same_part}
+use Rattle.spec_node.specs.declared.node_ref.Part.{Part}
+use Rattle.spec_node.specs.declared.node_ref.Part.TheVariants as part
+use Rattle.spec_node.specs.Naming.{ref_of, number_of, same_ref, same_part}
 use Rattle.xt_world.specs.Numbered.{element_called}
 
 -- ---- by places

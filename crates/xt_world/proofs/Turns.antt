@@ -12,9 +12,9 @@ use Rattle.spec_stylesheet.specs.Sheet.{Alias, Unit as Piece}
 use Rattle.spec_meaning.specs.Question as question
 use Rattle.spec_meaning.specs.Question.{Answer, Gone, Resolved}
 use Rattle.spec_run.specs.World.{same_element, unit_at, unit_by}
-use Rattle.xt_tree.specs.declared.node_ref.NodeRef.{NodeRef}
-use Rattle.xt_tree.specs.declared.node_ref.Part.TheVariants as part
-use Rattle.xp_axes.specs.View.{same_ref, same_part}
+use Rattle.spec_node.specs.declared.node_ref.NodeRef.{NodeRef}
+use Rattle.spec_node.specs.declared.node_ref.Part.TheVariants as part
+use Rattle.spec_node.specs.Naming.{same_ref, same_part}
 use Rattle.xt_questions.specs.View.{resolved_of}
 use Rattle.xt_questions.specs.declared.answer.ResolvedUnit.{ResolvedUnit}
 use Rattle.xt_world.specs.Numbered.{index_from, element_called}

@@ -7,8 +7,8 @@ use Rattle.spec_stylesheet.specs.Sheet.{Unit}
 use Rattle.spec_meaning.specs.Question.{Answer, SomeNodes}
 use Rattle.spec_meaning.specs.Question as question
 use Rattle.spec_run.specs.World.{keyed_at}
-use Rattle.xt_tree.specs.declared.node_ref.NodeRef.{NodeRef}
-use Rattle.xp_axes.specs.View.{ref_of, same_ref}
+use Rattle.spec_node.specs.declared.node_ref.NodeRef.{NodeRef}
+use Rattle.spec_node.specs.Naming.{ref_of, same_ref}
 use Rattle.xt_questions.specs.View.{refusal_of}
 use Rattle.xt_questions.specs.declared.fault.EvalFault.{EvalFault}
 use Rattle.xt_questions.specs.declared.fault.EvalFault.TheVariants as faults

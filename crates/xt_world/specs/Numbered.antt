@@ -10,9 +10,9 @@ use Rattle.spec_meaning.specs.Question.{Question, Answer}
 use Rattle.spec_run.specs.Documents.{Parameters}
 use Rattle.spec_run.specs.Meaning.{Setting}
 use Rattle.spec_run.specs.World.{globals_of, same_element, truth_by}
-use Rattle.xt_tree.specs.declared.node_ref.NodeRef.{NodeRef}
-use Rattle.xt_tree.specs.declared.node_ref.Part.TheVariants as part
-use Rattle.xp_axes.specs.View.{ref_of, same_ref}
+use Rattle.spec_node.specs.declared.node_ref.NodeRef.{NodeRef}
+use Rattle.spec_node.specs.declared.node_ref.Part.TheVariants as part
+use Rattle.spec_node.specs.Naming.{ref_of, same_ref}
 
 abbrev pub index_from : ℕ → Place → List Unit → ℕ
 index_from index place [] = index

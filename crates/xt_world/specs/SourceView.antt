@@ -4,7 +4,7 @@ use Rattle.spec_document.specs.Name.{Expanded}
 use Rattle.spec_document.specs.Forest.{Document}
 use Rattle.spec_meaning.specs.Question.{Question, Answer}
 use Rattle.spec_meaning.specs.Question as question
-use Rattle.xt_tree.specs.declared.node_ref.NodeRef.{NodeRef}
+use Rattle.spec_node.specs.declared.node_ref.NodeRef.{NodeRef}
 use Rattle.xt_match.specs.Context.{units_in}
 use Rattle.xt_document_world.specs.View.{truth_of}
 use Rattle.xt_world.specs.KeyView.{answer_found, found_for, keyed_in}

@@ -11,7 +11,7 @@ use Rattle.spec_stylesheet.specs.Sheet as sheet
 use Rattle.spec_meaning.specs.Question as question
 use Rattle.spec_run.specs.Meaning.{NamedGlobal}
 use Rattle.spec_run.specs.World.{global_by, global_in, globals_of, is_set, resolved_in}
-use Rattle.xt_tree.specs.declared.node_ref.NodeRef.{NodeRef}
+use Rattle.spec_node.specs.declared.node_ref.NodeRef.{NodeRef}
 use Rattle.xt_syntax.specs.SheetView.{alias_of, unit_of}
 use Rattle.xt_syntax.specs.PartView.{place_of}
 use Rattle.xt_syntax.specs.declared.sheet.Alias.{Alias}

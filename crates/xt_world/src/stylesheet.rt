@@ -7,7 +7,7 @@ ghost use Rattle.spec_run.specs.World.{globals_of};
 ghost use Rattle.xt_syntax.specs.SheetView.{sheet_of, unit_of};
 ghost use Rattle.xt_syntax.specs.PartView.{place_of};
 ghost use Rattle.xt_questions.specs.View.{resolved_of};
-ghost use Rattle.xt_tree.specs.declared.node_ref.NodeRef.{NodeRef};
+ghost use Rattle.spec_node.specs.declared.node_ref.NodeRef.{NodeRef};
 ghost use Rattle.xt_world.specs.Numbered.{element_called, truth_by_numbers};
 ghost use Rattle.xt_engine.specs.View.{named_of};
 ghost use Rattle.xt_world.specs.Units.{called_among, global_before, globals_among, plain_aliases, plain_units, resolved_among};

@@ -2,7 +2,7 @@ use Rattle.spec_document.specs.Order.{entries_of, is_same_place}
 use Rattle.spec_meaning.specs.Naming.{unlabelled}
 use Rattle.spec_meaning.proofs.Matching.{matching, meaning_match}
 use Rattle.spec_meaning.proofs.Named.{worlds, documents_alike, places_apart}
-use Rattle.xp_axes.specs.View.{ref_of, same_ref}
+use Rattle.spec_node.specs.Naming.{ref_of, same_ref}
 use Rattle.xp_axes.proofs.Told.{all_told}
 use Rattle.xp_axes.proofs.laws.same_meaning.Goals as goal
 

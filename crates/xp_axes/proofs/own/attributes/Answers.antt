@@ -3,8 +3,8 @@ use Rattle.std.specs.Prelude.{map}
 use Rattle.std.specs.List.{range_with_len}
 use Rattle.spec_document.specs.Place.{attributes_of}
 use Rattle.xt_tree.specs.View.{written_of}
-use Rattle.xt_tree.specs.declared.node_ref.NodeRef.{NodeRef}
-use Rattle.xt_tree.specs.declared.node_ref.Part.TheVariants as part
+use Rattle.spec_node.specs.declared.node_ref.NodeRef.{NodeRef}
+use Rattle.spec_node.specs.declared.node_ref.Part.TheVariants as part
 use Rattle.xp_axes.proofs.Reached.{length_map, more_known}
 use Rattle.xp_axes.proofs.own.attributes.Goals as goal
 

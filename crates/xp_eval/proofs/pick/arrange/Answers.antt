@@ -2,7 +2,7 @@ use Rattle.std.proofs.Common.{◌≡◌, ◌≤◌, List, [], ◌∷◌, length,
 use Rattle.spec_document.specs.declared.axis.Axis.{Axis}
 use Rattle.spec_meaning.specs.Call.{arranged}
 use Rattle.spec_meaning.specs.Operation.{in_order}
-use Rattle.xt_tree.specs.declared.node_ref.NodeRef.{NodeRef}
+use Rattle.spec_node.specs.declared.node_ref.NodeRef.{NodeRef}
 use Rattle.xp_eval.proofs.Turns.{is_some}
 use Rattle.xp_eval.proofs.pick.arrange.Goals as goal
 

@@ -3,7 +3,7 @@ use Rattle.spec_meaning.specs.Program.{Program}
 use Rattle.spec_meaning.specs.Call.{all_texts}
 use Rattle.xt_tree.specs.ValueView.{value_of}
 use Rattle.xt_tree.specs.declared.value.Value.{Value}
-use Rattle.xt_tree.specs.declared.node_ref.NodeRef.{NodeRef}
+use Rattle.spec_node.specs.declared.node_ref.NodeRef.{NodeRef}
 use Rattle.xt_questions.proofs.Steps.{runs_stop, runs_memory, runs_from, goes_on, exits}
 use Rattle.xp_functions.proofs.Within.{continues_as}
 use Rattle.xp_functions.proofs.argument.all_texts.Goals as goal

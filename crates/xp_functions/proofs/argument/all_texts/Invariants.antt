@@ -2,7 +2,7 @@ use Rattle.std.proofs.Common.{◌≡◌, ℕ, map, []}
 use Rattle.spec_meaning.specs.Program.{Supply}
 use Rattle.spec_meaning.specs.Call.{all_texts}
 use Rattle.xt_tree.specs.ValueView.{value_of}
-use Rattle.xt_tree.specs.declared.node_ref.NodeRef.{NodeRef}
+use Rattle.spec_node.specs.declared.node_ref.NodeRef.{NodeRef}
 use Rattle.xt_questions.specs.Runs.{Continues}
 use Rattle.xp_functions.proofs.argument.all_texts.Given as goal
 

@@ -1,7 +1,7 @@
 use Rattle.std.proofs.Common.{◌≡◌, ℕ, [], drop}
 use Rattle.spec_meaning.specs.Program.{Supply}
 use Rattle.spec_meaning.specs.Call.{nodes_of_keys}
-use Rattle.xt_tree.specs.declared.node_ref.NodeRef.{NodeRef}
+use Rattle.spec_node.specs.declared.node_ref.NodeRef.{NodeRef}
 use Rattle.xt_questions.specs.Runs.{Continues}
 use Rattle.xp_functions.proofs.key.nodes_of_keys.Given as goal
 

@@ -1,6 +1,6 @@
 use Rattle.std.proofs.Common.{◌≡◌, ◌==◌, true, false, List, length, sym, ap, ◌∙◌}
 use Rattle.spec_meaning.specs.Call.{language_of}
-use Rattle.xt_tree.specs.declared.node_ref.NodeRef.{NodeRef}
+use Rattle.spec_node.specs.declared.node_ref.NodeRef.{NodeRef}
 use Rattle.xt_questions.proofs.Steps.{runs_stop, runs_from, goes_on, next_turn, exits}
 use Rattle.xp_functions.proofs.Within.{continues_as, runs_as, language_is, language_of_first, no_language, is_some, is_none}
 use Rattle.xp_functions.proofs.language.language_of.Goals as goal

@@ -4,7 +4,7 @@ use Rattle.spec_meaning.specs.Value.{Text}
 use Rattle.spec_meaning.specs.Program.{Ask, Give}
 use Rattle.xp_functions.specs.Part.{told_by}
 use Rattle.xt_questions.specs.View.{question_of}
-use Rattle.xt_tree.specs.declared.node_ref.NodeRef.{NodeRef}
+use Rattle.spec_node.specs.declared.node_ref.NodeRef.{NodeRef}
 use Rattle.xt_questions.proofs.Steps.{runs_gives}
 use Rattle.xp_functions.proofs.Within.{runs_as, asks}
 use Rattle.xp_functions.proofs.nodes.of_node.Goals as goal

@@ -2,7 +2,7 @@ use Rattle.std.proofs.Common.{◌≡◌, ℕ, pos, drop}
 use Rattle.spec_expression.specs.Number.{Whole}
 use Rattle.spec_meaning.specs.Program.{Supply}
 use Rattle.spec_meaning.specs.Call.{summed}
-use Rattle.xt_tree.specs.declared.node_ref.NodeRef.{NodeRef}
+use Rattle.spec_node.specs.declared.node_ref.NodeRef.{NodeRef}
 use Rattle.xt_questions.specs.Runs.{Continues}
 use Rattle.xp_functions.proofs.nodes.sum.Given as goal
 

@@ -1,7 +1,7 @@
 use Rattle.std.proofs.Common.{◌≡◌, ℕ, map, drop}
 use Rattle.spec_meaning.specs.Program.{Supply}
 use Rattle.spec_meaning.specs.Compare.{any_left}
-use Rattle.xt_tree.specs.declared.node_ref.NodeRef.{NodeRef}
+use Rattle.spec_node.specs.declared.node_ref.NodeRef.{NodeRef}
 use Rattle.xt_questions.specs.Runs.{Continues}
 use Rattle.xp_values.specs.OperandView.{operand_of}
 use Rattle.xp_values.proofs.comparison.any_left.Given as goal

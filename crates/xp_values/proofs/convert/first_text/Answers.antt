@@ -1,7 +1,7 @@
 use Rattle.std.proofs.Common.{ℕ, List, [], ◌∷◌, ◌<◌, length, get_or, arith, Result}
 use Rattle.spec_meaning.specs.Program.{State, Supply}
 use Rattle.spec_meaning.specs.Convert.{first_text, text_at}
-use Rattle.xt_tree.specs.declared.node_ref.NodeRef.{NodeRef}
+use Rattle.spec_node.specs.declared.node_ref.NodeRef.{NodeRef}
 use Rattle.xt_questions.specs.declared.fault.EvalFault.{EvalFault}
 use Rattle.xt_questions.specs.Runs.{Runs, itself}
 use Rattle.xp_values.proofs.convert.first_text.Goals as goal

@@ -2,7 +2,7 @@ use Rattle.std.proofs.Common.{sym, ap, ◌∙◌}
 use Rattle.spec_document.specs.Order.{entries_of}
 use Rattle.spec_meaning.specs.Question.{SomeNodes}
 use Rattle.spec_meaning.specs.Step.{stepped}
-use Rattle.xp_axes.specs.View.{ref_of, same_ref}
+use Rattle.spec_node.specs.Naming.{ref_of, same_ref}
 use Rattle.xt_syntax.specs.View.{test_of}
 use Rattle.xt_document_world.proofs.Told.{told_any, told_none}
 use Rattle.xt_document_world.proofs.world.stepped.Goals as goal

@@ -4,7 +4,7 @@ use Rattle.spec_meaning.specs.Stream.{filled, holes}
 use Rattle.spec_run.specs.Direct.{Outcome}
 use Rattle.spec_run.specs.Meaning.{meaning}
 use Rattle.xt_syntax.specs.PartView.{place_of}
-use Rattle.xt_tree.specs.declared.node_ref.NodeRef.{NodeRef}
+use Rattle.spec_node.specs.declared.node_ref.NodeRef.{NodeRef}
 use Rattle.xt_tree.specs.StreamView.{streams_of}
 use Rattle.xt_engine.specs.View.{call_of}
 use Rattle.xt_engine.specs.declared.turn.Turn.TheVariants.{Done}

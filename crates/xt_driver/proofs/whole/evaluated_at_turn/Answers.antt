@@ -3,7 +3,7 @@ use Rattle.spec_document.specs.Name.{Expanded}
 use Rattle.spec_meaning.specs.Stream.{holes}
 use Rattle.spec_run.specs.Direct.{Outcome}
 use Rattle.spec_run.specs.Meaning.{Past, global_call}
-use Rattle.xt_tree.specs.declared.node_ref.NodeRef.{NodeRef}
+use Rattle.spec_node.specs.declared.node_ref.NodeRef.{NodeRef}
 use Rattle.xt_engine.specs.View.{call_of, named_of}
 use Rattle.xt_driver.specs.View.{setting_of, past_of}
 use Rattle.xt_driver.specs.Remembered.{Remembers}

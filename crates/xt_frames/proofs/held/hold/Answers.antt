@@ -7,7 +7,7 @@ use Rattle.spec_run.specs.Content.{is_empty, valued}
 use Rattle.xt_syntax.specs.View.{expr_of}
 use Rattle.xt_syntax.specs.PartView.{site_of}
 use Rattle.xt_syntax.specs.InstrView.{instr_of}
-use Rattle.xt_tree.specs.declared.node_ref.NodeRef.{NodeRef}
+use Rattle.spec_node.specs.declared.node_ref.NodeRef.{NodeRef}
 use Rattle.xt_frames.specs.View.{here_of, inside, left_with}
 use Rattle.xt_frames.specs.Left.{left_in, Performs}
 use Rattle.xt_frames.proofs.Lefts.{if_ok}

@@ -10,7 +10,7 @@ use Rattle.xt_frames.specs.Left.{left_in, Does}
 use Rattle.spec_run.specs.Content.{Here}
 use Rattle.spec_run.specs.Going.{begun}
 use Rattle.xt_progress.specs.View.{going_of}
-use Rattle.xt_tree.specs.declared.node_ref.NodeRef.{NodeRef}
+use Rattle.spec_node.specs.declared.node_ref.NodeRef.{NodeRef}
 use Rattle.xt_frames.proofs.Lefts.{if_ok, no_content, some_content, held_in_sink}
 use Rattle.xt_frames.proofs.held.hold_content.Goals as goal
 

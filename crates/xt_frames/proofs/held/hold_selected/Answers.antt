@@ -2,7 +2,7 @@ use Rattle.spec_meaning.specs.Stream.{Ended}
 use Rattle.spec_meaning.specs.Value.{Value}
 use Rattle.spec_run.specs.Plan.{Plan, Put}
 use Rattle.xt_syntax.specs.PartView.{place_of}
-use Rattle.xt_tree.specs.declared.node_ref.NodeRef.{NodeRef}
+use Rattle.spec_node.specs.declared.node_ref.NodeRef.{NodeRef}
 use Rattle.xt_tree.specs.ValueView.{value_of}
 use Rattle.xt_frames.specs.View.{left_with}
 use Rattle.xt_frames.specs.Left.{left_in}

@@ -1,7 +1,7 @@
 use Rattle.std.proofs.Common.{suc, length, subst}
 use Rattle.spec_meaning.specs.Stream.{Ended}
 use Rattle.spec_run.specs.Plan.{Plan, Put}
-use Rattle.xt_tree.specs.declared.node_ref.NodeRef.{NodeRef}
+use Rattle.spec_node.specs.declared.node_ref.NodeRef.{NodeRef}
 use Rattle.xt_frames.specs.declared.run.Next.TheVariants.{Went}
 use Rattle.xt_frames.specs.Left.{left_in, Does}
 use Rattle.xt_frames.proofs.Performs.{one_frame}

@@ -2,7 +2,7 @@ use Rattle.std.proofs.Common.{[], refl, ap, ◌∙◌}
 use Rattle.spec_meaning.specs.Stream.{Stream, filled}
 use Rattle.spec_meaning.specs.Value.{Fragment}
 use Rattle.spec_run.specs.Plan.{Plan}
-use Rattle.xt_tree.specs.declared.node_ref.NodeRef.{NodeRef}
+use Rattle.spec_node.specs.declared.node_ref.NodeRef.{NodeRef}
 use Rattle.xt_frames.specs.declared.run.Run.{Run}
 use Rattle.xt_frames.specs.View.{left_with}
 use Rattle.xt_frames.specs.Left.{left_in}

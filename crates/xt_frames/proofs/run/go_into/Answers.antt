@@ -4,7 +4,7 @@ use Rattle.spec_stylesheet.specs.Instruction.{instrs}
 use Rattle.xt_syntax.specs.PartView.{place_of}
 use Rattle.xt_syntax.specs.InstrView.{instr_of}
 use Rattle.xt_syntax.specs.SheetView.{alias_of}
-use Rattle.xp_axes.specs.View.{same_ref}
+use Rattle.spec_node.specs.Naming.{same_ref}
 use Rattle.xt_questions.specs.View.{bindings_of, template_of, sets_of}
 use Rattle.xt_frames.specs.declared.run.Run.{Run}
 use Rattle.xt_frames.specs.View.{here_of}

@@ -4,7 +4,7 @@ use Rattle.xt_syntax.specs.PartView.{literal_attribute_of}
 use Rattle.xt_frames.specs.View.{left_frame}
 use Rattle.xt_frames.proofs.Performs.{put_does}
 use Rattle.spec_run.specs.Content.{attribute_aliased}
-use Rattle.xt_tree.specs.declared.node_ref.NodeRef.{NodeRef}
+use Rattle.spec_node.specs.declared.node_ref.NodeRef.{NodeRef}
 use Rattle.spec_run.specs.Plan.{Plan}
 use Rattle.xt_syntax.specs.PartView.{place_of}
 use Rattle.xt_frames.specs.declared.frame.Frame.TheVariants as frames

@@ -4,7 +4,7 @@ use Rattle.spec_stylesheet.specs.Instruction as made
 use Rattle.spec_run.specs.Plan.{Plan}
 use Rattle.spec_run.specs.Content.{planned_branches}
 use Rattle.spec_run.specs.Passes.{stays}
-use Rattle.xt_tree.specs.declared.node_ref.NodeRef.{NodeRef}
+use Rattle.spec_node.specs.declared.node_ref.NodeRef.{NodeRef}
 use Rattle.xt_questions.specs.Runs.{itself}
 use Rattle.xt_progress.specs.View.{going_of}
 use Rattle.xt_frames.specs.declared.run.Came.TheVariants as came

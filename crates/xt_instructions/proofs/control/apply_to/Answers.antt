@@ -7,7 +7,7 @@ use Rattle.spec_run.specs.Content.{Here, passed, applied_to, sorted}
 use Rattle.xt_syntax.specs.declared.instr.Binding.{Binding}
 use Rattle.xt_syntax.specs.PartView.{place_of, sort_key_of}
 use Rattle.xt_syntax.specs.InstrView.{binding_of}
-use Rattle.xt_tree.specs.declared.node_ref.NodeRef.{NodeRef}
+use Rattle.spec_node.specs.declared.node_ref.NodeRef.{NodeRef}
 use Rattle.xt_frames.specs.View.{here_of, after_body, passed_to}
 use Rattle.xt_frames.specs.Left.{left_in, Does}
 use Rattle.xt_frames.proofs.Lefts.{if_ok}

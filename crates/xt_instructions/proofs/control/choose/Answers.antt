@@ -2,7 +2,7 @@ use Rattle.std.proofs.Common.{◌+◌, map, subst, suc, length}
 use Rattle.spec_stylesheet.specs.Instruction.{branches}
 use Rattle.spec_run.specs.Content.{Here, planned_branches}
 use Rattle.xt_syntax.specs.InstrView.{branch_of}
-use Rattle.xt_tree.specs.declared.node_ref.NodeRef.{NodeRef}
+use Rattle.spec_node.specs.declared.node_ref.NodeRef.{NodeRef}
 use Rattle.xt_frames.specs.declared.frame.Body.{Body}
 use Rattle.xt_frames.specs.declared.frame.Frame.TheVariants as frames
 use Rattle.xt_frames.specs.View.{here_of, left_frame}

@@ -5,7 +5,7 @@ use Rattle.spec_run.specs.Plan.{Plan, Put}
 use Rattle.spec_run.specs.Content.{Here, each, sorted}
 use Rattle.xt_syntax.specs.InstrView.{instr_of}
 use Rattle.xt_syntax.specs.PartView.{place_of, sort_key_of}
-use Rattle.xt_tree.specs.declared.node_ref.NodeRef.{NodeRef}
+use Rattle.spec_node.specs.declared.node_ref.NodeRef.{NodeRef}
 use Rattle.xt_frames.specs.View.{here_of, inside_at}
 use Rattle.xt_frames.specs.Left.{left_in, Does}
 use Rattle.xt_frames.proofs.Lefts.{if_ok}

@@ -10,7 +10,7 @@ use Rattle.xt_syntax.specs.declared.instr.Instr.{Instr}
 use Rattle.xt_syntax.specs.declared.sort_key.SortKey.{SortKey}
 use Rattle.xt_syntax.specs.InstrView.{instr_of}
 use Rattle.xt_syntax.specs.PartView.{place_of, sort_key_of}
-use Rattle.xt_tree.specs.declared.node_ref.NodeRef.{NodeRef}
+use Rattle.spec_node.specs.declared.node_ref.NodeRef.{NodeRef}
 use Rattle.xt_frames.specs.declared.standing.Standing.{Standing}
 use Rattle.xt_frames.specs.declared.frame.Ordered.TheVariants as ordereds
 use Rattle.xt_frames.specs.declared.frame.Frame.TheVariants as frames

@@ -7,7 +7,7 @@ use Rattle.spec_run.specs.Plan.{Plan}
 use Rattle.spec_run.specs.Content.{Here, applied, applied_to, each, sorted}
 use Rattle.xt_syntax.specs.declared.sort_key.SortKey.{SortKey}
 use Rattle.xt_syntax.specs.PartView.{place_of, sort_key_of}
-use Rattle.xt_tree.specs.declared.node_ref.NodeRef.{NodeRef}
+use Rattle.spec_node.specs.declared.node_ref.NodeRef.{NodeRef}
 use Rattle.xt_frames.specs.View.{here_of}
 use Rattle.xt_instructions.proofs.Rows.{not_sorted}
 use Rattle.xt_instructions.proofs.control.to_rules.Goals as goal

@@ -2,7 +2,7 @@ use Rattle.std.proofs.Common.{refl, map, subst, suc, length}
 use Rattle.spec_stylesheet.specs.Instruction.{instrs}
 use Rattle.spec_meaning.specs.Question.{Name, Answer}
 use Rattle.spec_run.specs.Plan.{Plan}
-use Rattle.xt_tree.specs.declared.node_ref.NodeRef.{NodeRef}
+use Rattle.spec_node.specs.declared.node_ref.NodeRef.{NodeRef}
 use Rattle.xt_frames.specs.Left.{Does}
 use Rattle.spec_run.specs.Content.{copied_as}
 use Rattle.xt_syntax.specs.PartView.{place_of}

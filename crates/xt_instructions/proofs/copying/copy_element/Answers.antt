@@ -9,7 +9,7 @@ use Rattle.spec_run.specs.Content.{namespaces_read, sets_used}
 use Rattle.xt_syntax.specs.PartView.{place_of}
 use Rattle.xt_syntax.specs.InstrView.{instr_of}
 use Rattle.xt_names.specs.View.{Entry}
-use Rattle.xt_tree.specs.declared.node_ref.NodeRef.{NodeRef}
+use Rattle.spec_node.specs.declared.node_ref.NodeRef.{NodeRef}
 use Rattle.xt_questions.specs.View.{answer_of}
 use Rattle.xt_frames.specs.declared.run.Run.{Run}
 use Rattle.xt_frames.specs.View.{here_of, inside, after_body}

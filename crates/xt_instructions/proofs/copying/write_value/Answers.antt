@@ -1,6 +1,6 @@
 use Rattle.std.proofs.Common.{suc, length, subst, sym}
 use Rattle.spec_run.specs.Plan.{Plan}
-use Rattle.xt_tree.specs.declared.node_ref.NodeRef.{NodeRef}
+use Rattle.spec_node.specs.declared.node_ref.NodeRef.{NodeRef}
 use Rattle.xt_frames.specs.View.{after_body}
 use Rattle.xt_frames.specs.Left.{left_in, Does}
 use Rattle.xt_frames.proofs.Lefts.{if_ok}

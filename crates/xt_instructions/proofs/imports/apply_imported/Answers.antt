@@ -3,7 +3,7 @@ use Rattle.spec_meaning.specs.Question.{Answer, Choice, Imported}
 use Rattle.spec_run.specs.Plan.{Plan, Enter}
 use Rattle.spec_run.specs.Content.{imported_call}
 use Rattle.xt_syntax.specs.PartView.{site_of}
-use Rattle.xt_tree.specs.declared.node_ref.NodeRef.{NodeRef}
+use Rattle.spec_node.specs.declared.node_ref.NodeRef.{NodeRef}
 use Rattle.xt_frames.specs.declared.run.Run.{Run}
 use Rattle.xt_frames.specs.View.{here_of, after_body}
 use Rattle.xt_frames.specs.Left.{left_in}

@@ -6,7 +6,7 @@ use Rattle.spec_run.specs.Content.{Here, element_aliased, sets_used}
 use Rattle.xt_syntax.specs.declared.instr.Instr as code
 use Rattle.xt_syntax.specs.InstrView.{instr_of}
 use Rattle.xt_syntax.specs.PartView.{place_of, literal_tag_of}
-use Rattle.xt_tree.specs.declared.node_ref.NodeRef.{NodeRef}
+use Rattle.spec_node.specs.declared.node_ref.NodeRef.{NodeRef}
 use Rattle.xt_engine.specs.View.{wrapping_of}
 use Rattle.xt_frames.specs.declared.run.Next.TheVariants.{Went}
 use Rattle.xt_frames.specs.declared.frame.Frame.TheVariants as frames

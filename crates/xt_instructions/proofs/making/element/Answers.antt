@@ -4,7 +4,7 @@ use Rattle.spec_run.specs.Plan.{Wrapping, Begin, Wrap}
 use Rattle.spec_run.specs.Content.{sets_used}
 use Rattle.xt_syntax.specs.InstrView.{instr_of}
 use Rattle.xt_engine.specs.View.{wrapping_of}
-use Rattle.xt_tree.specs.declared.node_ref.NodeRef.{NodeRef}
+use Rattle.spec_node.specs.declared.node_ref.NodeRef.{NodeRef}
 use Rattle.spec_run.specs.Plan.{Plan}
 use Rattle.xt_syntax.specs.PartView.{site_of, place_of}
 use Rattle.xt_frames.specs.declared.frame.Frame.TheVariants as frames

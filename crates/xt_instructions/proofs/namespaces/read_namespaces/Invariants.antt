@@ -4,7 +4,7 @@ use Rattle.spec_run.specs.Plan.{Plan}
 use Rattle.spec_run.specs.Passes.{Passes}
 use Rattle.spec_run.specs.Content.{namespaces_read}
 use Rattle.xt_names.specs.View.{entry_of, Entry}
-use Rattle.xt_tree.specs.declared.node_ref.NodeRef.{NodeRef}
+use Rattle.spec_node.specs.declared.node_ref.NodeRef.{NodeRef}
 use Rattle.xt_progress.specs.View.{going_of}
 use Rattle.xt_instructions.proofs.namespaces.read_namespaces.Given as goal
 

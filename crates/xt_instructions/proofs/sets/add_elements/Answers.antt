@@ -2,7 +2,7 @@ use Rattle.std.proofs.Common.{◌≡◌, ◌++◌, map, true, Vec, Global, sym, 
 use Rattle.std.proofs.lemmas.List.{append-nil}
 use Rattle.spec_document.specs.Name.{same_name}
 use Rattle.spec_run.specs.Content.{elements_named}
-use Rattle.xt_tree.specs.declared.node_ref.NodeRef.{NodeRef}
+use Rattle.spec_node.specs.declared.node_ref.NodeRef.{NodeRef}
 use Rattle.xt_questions.specs.View.{sets_of}
 use Rattle.xt_instructions.proofs.Used.{set_here, no_set}
 use Rattle.xt_instructions.proofs.sets.add_elements.Goals as goal

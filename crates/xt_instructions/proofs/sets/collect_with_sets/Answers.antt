@@ -5,7 +5,7 @@ use Rattle.spec_run.specs.Plan.{Plan, Begin, Wrap}
 use Rattle.spec_run.specs.Content.{Here, sets_used}
 use Rattle.xt_syntax.specs.InstrView.{instr_of}
 use Rattle.xt_syntax.specs.PartView.{place_of}
-use Rattle.xt_tree.specs.declared.node_ref.NodeRef.{NodeRef}
+use Rattle.spec_node.specs.declared.node_ref.NodeRef.{NodeRef}
 use Rattle.xt_engine.specs.View.{wrapping_of}
 use Rattle.xt_frames.specs.View.{here_of, inside, after_body}
 use Rattle.xt_frames.specs.Left.{left_in, Does}

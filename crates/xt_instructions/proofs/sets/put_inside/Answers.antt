@@ -7,7 +7,7 @@ use Rattle.spec_run.specs.Content.{elements_named, sets_used}
 use Rattle.xt_syntax.specs.declared.instr.Instr.{Instr}
 use Rattle.xt_syntax.specs.InstrView.{instr_of}
 use Rattle.xt_syntax.specs.PartView.{place_of}
-use Rattle.xt_tree.specs.declared.node_ref.NodeRef.{NodeRef}
+use Rattle.spec_node.specs.declared.node_ref.NodeRef.{NodeRef}
 use Rattle.xt_frames.specs.declared.frame.Frame.TheVariants as frames
 use Rattle.xt_frames.specs.declared.standing.Standing.{Standing}
 use Rattle.xt_frames.specs.View.{here_of, inside}

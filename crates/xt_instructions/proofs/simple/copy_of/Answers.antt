@@ -1,7 +1,7 @@
 use Rattle.spec_meaning.specs.Value.{Value}
 use Rattle.spec_run.specs.Content.{value_copied}
 use Rattle.xt_tree.specs.ValueView.{value_of}
-use Rattle.xt_tree.specs.declared.node_ref.NodeRef.{NodeRef}
+use Rattle.spec_node.specs.declared.node_ref.NodeRef.{NodeRef}
 use Rattle.spec_run.specs.Plan.{Plan}
 use Rattle.xt_syntax.specs.PartView.{place_of}
 use Rattle.xt_frames.specs.declared.frame.Frame.TheVariants as frames

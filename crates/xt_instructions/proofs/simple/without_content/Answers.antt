@@ -1,7 +1,7 @@
 use Rattle.std.proofs.Common.{ℕ, List}
 use Rattle.spec_run.specs.Plan.{Plan, Put}
 use Rattle.spec_run.specs.Content.{text_item}
-use Rattle.xt_tree.specs.declared.node_ref.NodeRef.{NodeRef}
+use Rattle.spec_node.specs.declared.node_ref.NodeRef.{NodeRef}
 use Rattle.xt_frames.specs.declared.frame.Frame.TheVariants as frames
 use Rattle.xt_frames.specs.View.{after_body}
 use Rattle.xt_frames.specs.Left.{left_in}

@@ -4,7 +4,7 @@ use Rattle.spec_transform.specs.Sorted.{criterion_meant}
 use Rattle.spec_run.specs.Plan.{Plan}
 use Rattle.spec_run.specs.Content.{asked, criteria_asked}
 use Rattle.xt_syntax.specs.PartView.{sort_key_of}
-use Rattle.xt_tree.specs.declared.node_ref.NodeRef.{NodeRef}
+use Rattle.spec_node.specs.declared.node_ref.NodeRef.{NodeRef}
 use Rattle.xt_sort.specs.View.{criterion_of}
 use Rattle.xt_frames.specs.View.{here_of, keys_in}
 use Rattle.xt_instructions.specs.Asks.{with_criteria}

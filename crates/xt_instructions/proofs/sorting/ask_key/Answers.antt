@@ -4,7 +4,7 @@ use Rattle.spec_transform.specs.Sorted.{key_meant}
 use Rattle.spec_run.specs.Plan.{Plan}
 use Rattle.spec_run.specs.Content.{asked, Here, keys_asked}
 use Rattle.xt_syntax.specs.PartView.{sort_key_of}
-use Rattle.xt_tree.specs.declared.node_ref.NodeRef.{NodeRef}
+use Rattle.spec_node.specs.declared.node_ref.NodeRef.{NodeRef}
 use Rattle.xt_sort.specs.View.{criterion_of, key_of}
 use Rattle.xt_frames.specs.declared.frame.Frame.TheVariants as frames
 use Rattle.xt_frames.specs.View.{here_of, keys_in, left_frame}

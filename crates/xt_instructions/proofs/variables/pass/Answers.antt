@@ -5,7 +5,7 @@ use Rattle.spec_meaning.specs.Context.{Bound}
 use Rattle.spec_run.specs.Plan.{Put}
 use Rattle.spec_run.specs.Content.{passed}
 use Rattle.xt_syntax.specs.InstrView.{binding_of}
-use Rattle.xt_tree.specs.declared.node_ref.NodeRef.{NodeRef}
+use Rattle.spec_node.specs.declared.node_ref.NodeRef.{NodeRef}
 use Rattle.xt_questions.specs.declared.context.Bindings.TheVariants.{Empty}
 use Rattle.xt_frames.specs.declared.frame.Frame.TheVariants as frames
 use Rattle.xt_frames.specs.declared.run.Next.TheVariants.{Went}

@@ -2,8 +2,8 @@ use Rattle.std.proofs.Common.{◌≡◌, ℕ, List, [], map, refl, ap, ◌∙◌
 use Rattle.std.specs.List.{filter}
 use Rattle.spec_meaning.specs.Program.{Program, Give, then}
 use Rattle.spec_transform.specs.Key.{Entry, has, indexed, keys_named}
-use Rattle.xp_axes.specs.View.{same_ref}
-use Rattle.xt_tree.specs.declared.node_ref.NodeRef.{NodeRef}
+use Rattle.spec_node.specs.Naming.{same_ref}
+use Rattle.spec_node.specs.declared.node_ref.NodeRef.{NodeRef}
 use Rattle.xt_questions.specs.Runs.{items}
 use Rattle.xt_questions.proofs.Steps.{runs_then, runs_stop, runs_gives, runs_memory, exits}
 use Rattle.xt_match.proofs.Together.{runs_as}

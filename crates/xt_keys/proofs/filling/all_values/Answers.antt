@@ -1,7 +1,7 @@
 use Rattle.std.proofs.Common.{◌+◌, List, drop, ap, ◌∙◌, arith}
 use Rattle.spec_meaning.specs.Program.{Give}
 use Rattle.spec_transform.specs.Key.{Entry, key_in, keys_named}
-use Rattle.xt_tree.specs.declared.node_ref.NodeRef.{NodeRef}
+use Rattle.spec_node.specs.declared.node_ref.NodeRef.{NodeRef}
 use Rattle.xt_questions.specs.declared.answer.ResolvedUnit.{ResolvedUnit}
 use Rattle.xt_questions.specs.Runs.{itself}
 use Rattle.xt_questions.proofs.Steps.{runs_stop, runs_gives, runs_from, next_turn, last_turn, exits}

@@ -1,7 +1,7 @@
 use Rattle.std.proofs.Common.{◌+◌, ◌++◌, ◌∷◌, [], length, map, sym, ap, ◌∙◌, arith}
 use Rattle.std.proofs.lemmas.List.{length_push, map_push, map_more}
-use Rattle.xt_tree.specs.declared.node_ref.NodeRef.{NodeRef}
-use Rattle.xt_tree.specs.declared.node_ref.Part.TheVariants as part
+use Rattle.spec_node.specs.declared.node_ref.NodeRef.{NodeRef}
+use Rattle.spec_node.specs.declared.node_ref.Part.TheVariants as part
 use Rattle.xt_questions.specs.Runs.{items}
 use Rattle.xt_keys.specs.View.{texts_at}
 use Rattle.xt_keys.proofs.filling.empty_lists.Goals as goal

@@ -2,8 +2,8 @@ use Rattle.std.proofs.Common.{◌<◌, ◌++◌, length, map, get_or, refl, ◌�
 use Rattle.std.proofs.lemmas.List.{length-set}
 use Rattle.spec_meaning.specs.Program.{Give}
 use Rattle.spec_transform.specs.Key.{entry}
-use Rattle.xt_tree.specs.declared.node_ref.NodeRef.{NodeRef}
-use Rattle.xt_tree.specs.declared.node_ref.Part.TheVariants as part
+use Rattle.spec_node.specs.declared.node_ref.NodeRef.{NodeRef}
+use Rattle.spec_node.specs.declared.node_ref.Part.TheVariants as part
 use Rattle.xt_questions.proofs.Steps.{runs_stop, runs_gives, runs_memory, runs_from, goes_on, last_turn, exits}
 use Rattle.xt_match.proofs.Together.{continues_as}
 use Rattle.xt_keys.specs.View.{all_texts, key_at, texts_in}

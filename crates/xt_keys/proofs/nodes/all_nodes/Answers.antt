@@ -1,7 +1,7 @@
 use Rattle.std.proofs.Common.{◌≡◌, ◌++◌, ◌∷◌, [], sym, ap, subst, ◌∙◌}
 use Rattle.spec_document.specs.Scope.{root_scope}
 use Rattle.xt_tree.specs.View.{itself}
-use Rattle.xt_tree.specs.declared.node_ref.NodeRef.{NodeRef}
+use Rattle.spec_node.specs.declared.node_ref.NodeRef.{NodeRef}
 use Rattle.xt_keys.specs.Nodes.{refs_in}
 use Rattle.xt_keys.specs.View.{AreNodesApart}
 use Rattle.xt_keys.proofs.Refs.{all_named, all_apart}

@@ -5,7 +5,7 @@ use Rattle.spec_meaning.specs.Convert.{to_text}
 use Rattle.spec_meaning.specs.Program.{Give, then}
 use Rattle.spec_transform.specs.Key.{values_of}
 use Rattle.xt_tree.specs.ValueView.{value_of}
-use Rattle.xt_tree.specs.declared.node_ref.NodeRef.{NodeRef}
+use Rattle.spec_node.specs.declared.node_ref.NodeRef.{NodeRef}
 use Rattle.xt_tree.specs.declared.value.Value.{Value}
 use Rattle.xt_tree.specs.declared.value.Value.TheVariants.{Number, Text, Boolean, Nodes, Fragment}
 use Rattle.xt_match.proofs.Together.{runs_as}

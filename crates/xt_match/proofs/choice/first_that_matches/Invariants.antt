@@ -1,7 +1,7 @@
 use Rattle.std.proofs.Common.{◌≡◌, drop, map}
 use Rattle.spec_meaning.specs.Supplies.{at_hand}
 use Rattle.spec_transform.specs.Choice.{context_for, first_that_matches}
-use Rattle.xp_axes.specs.View.{same_ref}
+use Rattle.spec_node.specs.Naming.{same_ref}
 use Rattle.xt_match.specs.Context.{units_in}
 use Rattle.xt_syntax.specs.SheetView.{rule_of}
 use Rattle.xt_questions.specs.View.{answer_of, candidates_of, supplies_of}

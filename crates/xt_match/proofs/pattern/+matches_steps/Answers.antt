@@ -1,6 +1,6 @@
 use Rattle.std.proofs.Common.{refl, sym, ◌∙◌, arith, map, reverse}
 use Rattle.spec_transform.specs.Match.{holds_of_one, when_called, matches_steps}
-use Rattle.xp_axes.specs.View.{same_ref}
+use Rattle.spec_node.specs.Naming.{same_ref}
 use Rattle.xt_syntax.specs.PartView.{pattern_step_of}
 use Rattle.xt_questions.specs.View.{context_of}
 use Rattle.xt_questions.proofs.Steps.{runs_then, runs_stop, runs_gives, runs_from, goes_on, next_turn, last_turn, exits}

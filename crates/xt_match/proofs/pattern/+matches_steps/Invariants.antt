@@ -3,9 +3,9 @@ use Rattle.spec_meaning.specs.Question.{Answer}
 use Rattle.spec_meaning.specs.Program.{Program}
 use Rattle.spec_meaning.specs.Supplies.{at_hand}
 use Rattle.spec_transform.specs.Match.{holds_of_one, when_called, matches_steps}
-use Rattle.xp_axes.specs.View.{same_ref}
+use Rattle.spec_node.specs.Naming.{same_ref}
 use Rattle.xt_syntax.specs.PartView.{pattern_step_of}
-use Rattle.xt_tree.specs.declared.node_ref.NodeRef.{NodeRef}
+use Rattle.spec_node.specs.declared.node_ref.NodeRef.{NodeRef}
 use Rattle.xt_questions.specs.declared.context.Focus.{Focus}
 use Rattle.xt_questions.specs.View.{context_of, supplies_of}
 use Rattle.xt_questions.specs.Runs.{Continues}

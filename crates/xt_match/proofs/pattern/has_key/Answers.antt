@@ -2,7 +2,7 @@ use Rattle.std.proofs.Common.{ap, ◌∙◌}
 use Rattle.std.specs.List.{list_any}
 use Rattle.spec_meaning.specs.Question.{Key, nodes_in}
 use Rattle.spec_meaning.specs.Program.{Give}
-use Rattle.xp_axes.specs.View.{same_ref}
+use Rattle.spec_node.specs.Naming.{same_ref}
 use Rattle.xt_questions.proofs.Steps.{runs_gives}
 use Rattle.xt_match.proofs.Together.{asks, runs_as, key_so}
 use Rattle.xt_match.proofs.pattern.has_key.Goals as goal

@@ -1,7 +1,7 @@
 use Rattle.std.proofs.Common.{map}
 use Rattle.spec_meaning.specs.Question.{Name}
 use Rattle.spec_transform.specs.Match.{matches_one}
-use Rattle.xp_axes.specs.View.{same_ref}
+use Rattle.spec_node.specs.Naming.{same_ref}
 use Rattle.xt_syntax.specs.PartView.{alternative_of}
 use Rattle.xt_questions.specs.View.{context_of}
 use Rattle.xt_questions.proofs.Steps.{runs_then, runs_stop, exits}

@@ -1,7 +1,7 @@
 use Rattle.std.proofs.Common.{◌≡◌, drop, map}
 use Rattle.spec_meaning.specs.Supplies.{at_hand}
 use Rattle.spec_transform.specs.Match.{matches_one}
-use Rattle.xp_axes.specs.View.{same_ref}
+use Rattle.spec_node.specs.Naming.{same_ref}
 use Rattle.xt_syntax.specs.PartView.{alternative_of}
 use Rattle.xt_questions.specs.declared.context.Focus.{Focus}
 use Rattle.xt_questions.specs.View.{answer_of, context_of, supplies_of}

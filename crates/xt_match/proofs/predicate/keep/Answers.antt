@@ -1,6 +1,6 @@
 use Rattle.std.proofs.Common.{refl, ap}
 use Rattle.spec_transform.specs.Match.{keep}
-use Rattle.xp_axes.specs.View.{same_ref}
+use Rattle.spec_node.specs.Naming.{same_ref}
 use Rattle.xt_questions.specs.View.{context_of}
 use Rattle.xt_questions.proofs.Steps.{runs_gives}
 use Rattle.xt_match.proofs.Together.{runs_as}

@@ -1,7 +1,7 @@
 use Rattle.std.proofs.Common.{◌+◌, ◌++◌, ◌∷◌, [], map, drop, ◌∙◌, arith}
 use Rattle.spec_expression.specs.Syntax.{exprs}
 use Rattle.spec_transform.specs.Match.{keep}
-use Rattle.xp_axes.specs.View.{same_ref}
+use Rattle.spec_node.specs.Naming.{same_ref}
 use Rattle.xt_syntax.specs.View.{expr_of}
 use Rattle.xt_questions.specs.View.{context_of}
 use Rattle.xt_questions.proofs.Steps.{runs_stop, runs_from, goes_on, next_turn, last_turn, exits}

@@ -2,7 +2,7 @@ use Rattle.std.proofs.Common.{◌≡◌, ◌++◌, ◌∷◌, [], map, drop}
 use Rattle.spec_expression.specs.Syntax.{exprs}
 use Rattle.spec_meaning.specs.Supplies.{at_hand}
 use Rattle.spec_transform.specs.Match.{keep}
-use Rattle.xp_axes.specs.View.{same_ref}
+use Rattle.spec_node.specs.Naming.{same_ref}
 use Rattle.xt_syntax.specs.View.{expr_of}
 use Rattle.xt_questions.specs.declared.context.Focus.{Focus}
 use Rattle.xt_questions.specs.View.{context_of, supplies_of}

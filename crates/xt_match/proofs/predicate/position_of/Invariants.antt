@@ -1,6 +1,6 @@
 use Rattle.std.proofs.Common.{◌≡◌, ◌+◌, drop}
 use Rattle.spec_transform.specs.Match.{position_of}
-use Rattle.xp_axes.specs.View.{same_ref}
+use Rattle.spec_node.specs.Naming.{same_ref}
 use Rattle.xt_match.proofs.predicate.position_of.Given as goal
 
 abbrev pub invariant-loop-i : goal.invariant-loop-i

@@ -4,7 +4,7 @@ use Rattle.spec_expression.specs.Syntax.{OfType}
 use Rattle.spec_meaning.specs.Question as question
 use Rattle.spec_meaning.specs.Question.{nodes_in}
 use Rattle.spec_transform.specs.Match.{holds_of_one, is_given_below}
-use Rattle.xp_axes.specs.View.{same_ref}
+use Rattle.spec_node.specs.Naming.{same_ref}
 use Rattle.xt_syntax.specs.View.{step_of}
 use Rattle.xt_questions.specs.View.{context_of}
 use Rattle.xt_questions.proofs.Steps.{runs_then, runs_stop, exits}

@@ -1,7 +1,7 @@
 use Rattle.std.proofs.Common.{sym, ap, ◌∙◌, map, List}
 use Rattle.spec_expression.specs.Syntax.{exprs}
 use Rattle.spec_transform.specs.Position.{read_no_position}
-use Rattle.xp_axes.specs.View.{same_ref}
+use Rattle.spec_node.specs.Naming.{same_ref}
 use Rattle.xt_syntax.specs.View.{expr_of}
 use Rattle.xt_syntax.specs.declared.expr.Expr.{Expr}
 use Rattle.xt_questions.specs.View.{context_of}

@@ -1,6 +1,6 @@
 use Rattle.std.proofs.Common.{refl, ◌∙◌, arith}
 use Rattle.spec_transform.specs.Numbering.{how_many, is_counted}
-use Rattle.xp_axes.specs.View.{same_ref}
+use Rattle.spec_node.specs.Naming.{same_ref}
 use Rattle.xt_questions.specs.View.{context_of}
 use Rattle.xt_questions.proofs.Steps.{runs_stop, runs_gives, runs_from, goes_on, next_turn, last_turn, exits}
 use Rattle.xt_number.specs.View.{counted_of}

@@ -1,6 +1,6 @@
 use Rattle.std.proofs.Common.{refl, ◌∙◌, arith}
 use Rattle.spec_transform.specs.Numbering.{is_counted, of_first}
-use Rattle.xp_axes.specs.View.{same_ref}
+use Rattle.spec_node.specs.Naming.{same_ref}
 use Rattle.xt_questions.specs.View.{context_of}
 use Rattle.xt_questions.proofs.Steps.{runs_then, runs_stop, runs_gives, runs_memory, runs_from, goes_on, next_turn, last_turn, exits}
 use Rattle.xt_number.specs.View.{counted_of}

@@ -1,6 +1,6 @@
 use Rattle.std.proofs.Common.{refl, ap, ◌∷◌, ◌∙◌}
 use Rattle.std.specs.Option.{option_map}
-use Rattle.xp_axes.specs.View.{same_ref}
+use Rattle.spec_node.specs.Naming.{same_ref}
 use Rattle.xt_syntax.specs.PartView.{pattern_of}
 use Rattle.xt_questions.specs.View.{context_of}
 use Rattle.xt_questions.proofs.Steps.{runs_then, runs_stop, runs_gives, runs_memory, exits}

@@ -1,7 +1,7 @@
 use Rattle.std.proofs.Common.{◌≡◌, drop, []}
 use Rattle.spec_meaning.specs.Supplies.{at_hand}
 use Rattle.spec_transform.specs.Numbering.{matches_there, up_to}
-use Rattle.xp_axes.specs.View.{same_ref}
+use Rattle.spec_node.specs.Naming.{same_ref}
 use Rattle.xt_syntax.specs.PartView.{pattern_of}
 use Rattle.xt_questions.specs.declared.context.Focus.{Focus}
 use Rattle.xt_questions.specs.View.{context_of, supplies_of}

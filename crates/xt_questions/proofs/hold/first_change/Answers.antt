@@ -1,6 +1,6 @@
 use Rattle.std.proofs.Common.{◌∙◌, subst, arith, add-one}
 use Rattle.spec_meaning.specs.Question.{Question, Answer}
-use Rattle.xt_tree.specs.declared.node_ref.NodeRef.{NodeRef}
+use Rattle.spec_node.specs.declared.node_ref.NodeRef.{NodeRef}
 use Rattle.xt_questions.specs.View.{read_of}
 use Rattle.xt_questions.specs.Change.{Stands, AllStand, Changes}
 use Rattle.xt_questions.proofs.Standing.{stand_more, change_at, take-map}

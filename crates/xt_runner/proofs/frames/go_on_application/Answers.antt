@@ -1,7 +1,7 @@
 use Rattle.std.proofs.Common.{◌+◌, get_or, length, ap, arith, refl}
 use Rattle.spec_meaning.specs.Question.{Choice, AllRules}
-use Rattle.xt_tree.specs.declared.node_ref.NodeRef.{NodeRef}
-use Rattle.xt_tree.specs.declared.node_ref.Part.TheVariants.{Itself}
+use Rattle.spec_node.specs.declared.node_ref.NodeRef.{NodeRef}
+use Rattle.spec_node.specs.declared.node_ref.Part.TheVariants.{Itself}
 use Rattle.xt_frames.specs.declared.run.Run.{Run}
 use Rattle.xt_frames.specs.declared.frame.Application.{Application}
 use Rattle.xt_frames.specs.declared.frame.Frame.TheVariants as frames

@@ -3,7 +3,7 @@ use Rattle.spec_stylesheet.specs.Instruction.{instrs}
 use Rattle.spec_run.specs.Content.{Here, at}
 use Rattle.xt_syntax.specs.InstrView.{instr_of}
 use Rattle.xt_syntax.specs.PartView.{place_of}
-use Rattle.xt_tree.specs.declared.node_ref.NodeRef.{NodeRef}
+use Rattle.spec_node.specs.declared.node_ref.NodeRef.{NodeRef}
 use Rattle.xt_frames.specs.declared.frame.Loop.{Loop}
 use Rattle.xt_frames.specs.declared.frame.Frame.TheVariants as frames
 use Rattle.xt_frames.specs.View.{here_of, inside}

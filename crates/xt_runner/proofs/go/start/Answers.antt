@@ -1,10 +1,10 @@
 use Rattle.std.proofs.Common.{List, None, ap, ◌∙◌}
-use Rattle.xt_tree.specs.declared.node_ref.NodeRef.{NodeRef}
+use Rattle.spec_node.specs.declared.node_ref.NodeRef.{NodeRef}
 use Rattle.spec_meaning.specs.Context.{Bound}
 use Rattle.spec_run.specs.Plan.{Target, SameRule, nowhere}
 use Rattle.spec_run.specs.Going.{at_start}
 use Rattle.spec_run.specs.Content.{plan_of}
-use Rattle.xp_axes.specs.View.{same_ref}
+use Rattle.spec_node.specs.Naming.{same_ref}
 use Rattle.xt_engine.specs.Progress.{Progress, ForNothing, supplies_for}
 use Rattle.xt_questions.specs.View.{bindings_of}
 use Rattle.xt_engine.specs.View.{call_of, target_of}

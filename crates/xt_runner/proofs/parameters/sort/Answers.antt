@@ -3,7 +3,7 @@ use Rattle.std.proofs.lemmas.Bool.Decides.{nat_tests}
 use Rattle.spec_run.specs.Plan.{Plan}
 use Rattle.spec_run.specs.Content.{applied_to}
 use Rattle.xt_syntax.specs.PartView.{place_of}
-use Rattle.xt_tree.specs.declared.node_ref.NodeRef.{NodeRef}
+use Rattle.spec_node.specs.declared.node_ref.NodeRef.{NodeRef}
 use Rattle.xt_questions.specs.View.{bindings_of}
 use Rattle.xt_frames.specs.View.{here_of}
 use Rattle.xt_frames.specs.Left.{left_in}

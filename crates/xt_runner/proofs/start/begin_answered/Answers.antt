@@ -5,8 +5,8 @@ use Rattle.spec_run.specs.Content.{Here, unit_planned, declared_planned, here_in
 use Rattle.xt_syntax.specs.PartView.{place_of}
 use Rattle.xt_syntax.specs.SheetView.{declared_of}
 use Rattle.xt_syntax.specs.declared.unit.Unit.{Unit}
-use Rattle.xp_axes.specs.View.{same_ref}
-use Rattle.xt_tree.specs.declared.node_ref.NodeRef.{NodeRef}
+use Rattle.spec_node.specs.Naming.{same_ref}
+use Rattle.spec_node.specs.declared.node_ref.NodeRef.{NodeRef}
 use Rattle.xt_questions.specs.declared.answer.ResolvedUnit.{ResolvedUnit}
 use Rattle.xt_questions.specs.View.{answer_of, bindings_of, resolved_of}
 use Rattle.xt_frames.specs.View.{here_of}

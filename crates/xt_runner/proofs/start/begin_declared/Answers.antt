@@ -4,7 +4,7 @@ use Rattle.spec_run.specs.Content.{declared_planned}
 use Rattle.xt_syntax.specs.declared.unit.Declared.{Declared}
 use Rattle.xt_syntax.specs.PartView.{place_of}
 use Rattle.xt_syntax.specs.SheetView.{declared_of}
-use Rattle.xt_tree.specs.declared.node_ref.NodeRef.{NodeRef}
+use Rattle.spec_node.specs.declared.node_ref.NodeRef.{NodeRef}
 use Rattle.xt_questions.specs.View.{bindings_of}
 use Rattle.xt_frames.specs.View.{here_of}
 use Rattle.xt_frames.proofs.Lefts.{if_ok}

@@ -4,7 +4,7 @@ use Rattle.spec_meaning.specs.Question.{Answer, External}
 use Rattle.spec_run.specs.Plan.{Plan, Inquire}
 use Rattle.spec_run.specs.Content.{held, unless_given}
 use Rattle.xt_syntax.specs.SheetView.{global_of}
-use Rattle.xt_tree.specs.declared.node_ref.NodeRef.{NodeRef}
+use Rattle.spec_node.specs.declared.node_ref.NodeRef.{NodeRef}
 use Rattle.xt_tree.specs.declared.value.Value.TheVariants as values
 use Rattle.xt_frames.specs.declared.run.Run.{Run}
 use Rattle.xt_frames.specs.declared.run.Next.TheVariants.{Gave}

@@ -2,9 +2,9 @@ use Rattle.std.proofs.Common.{refl, ap, arith}
 use Rattle.spec_meaning.specs.Question.{Answer, Unit}
 use Rattle.spec_run.specs.Plan.{Plan}
 use Rattle.spec_run.specs.Content.{unit_planned}
-use Rattle.xp_axes.specs.View.{same_ref}
+use Rattle.spec_node.specs.Naming.{same_ref}
 use Rattle.xt_questions.specs.View.{bindings_of}
-use Rattle.xt_tree.specs.declared.node_ref.NodeRef.{NodeRef}
+use Rattle.spec_node.specs.declared.node_ref.NodeRef.{NodeRef}
 use Rattle.xt_frames.specs.declared.run.Run.{Run}
 use Rattle.xt_frames.proofs.Lefts.{if_ok}
 use Rattle.xt_runner.proofs.Starts.{begun_does, comes_in}

@@ -2,10 +2,10 @@ use Rattle.std.proofs.Common.{◌≡◌, ℕ, List, map, refl, ap, ◌∙◌}
 use Rattle.std.proofs.lemmas.Result.{IfOk-weaker}
 use Rattle.spec_document.specs.Order.{entries_of}
 use Rattle.spec_run.specs.World.{keyed_at}
-use Rattle.xp_axes.specs.View.{ref_of, same_ref}
+use Rattle.spec_node.specs.Naming.{ref_of, same_ref}
 use Rattle.xt_match.specs.Context.{units_in}
 use Rattle.xt_document_world.specs.View.{truth_of}
-use Rattle.xt_tree.specs.declared.node_ref.NodeRef.{NodeRef}
+use Rattle.spec_node.specs.declared.node_ref.NodeRef.{NodeRef}
 use Rattle.xt_world.specs.KeyView.{IsFoundBy, answer_found, keyed_in}
 use Rattle.xt_world.specs.declared.found.Found.{Found}
 use Rattle.xt_world.proofs.Keyed.{found_is}

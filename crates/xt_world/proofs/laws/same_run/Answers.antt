@@ -6,7 +6,7 @@ use Rattle.spec_run.specs.World.{InSource, InModule, same_node, setting_of}
 use Rattle.spec_run.proofs.Copies.{documents_copied}
 use Rattle.spec_run.proofs.Truths.{in_source, settings}
 use Rattle.spec_run.proofs.Meanings.{same_run}
-use Rattle.xp_axes.specs.View.{ref_of, same_ref}
+use Rattle.spec_node.specs.Naming.{ref_of, same_ref}
 use Rattle.xp_axes.proofs.Told.{all_told}
 use Rattle.xt_world.specs.Numbered.{element_called, setting_by_numbers}
 use Rattle.xt_world.proofs.Elements.{elements_told}

@@ -6,7 +6,7 @@ use Rattle.spec_run.specs.Meaning.{NamedGlobal}
 use Rattle.spec_run.specs.World.{is_global}
 use Rattle.xt_syntax.specs.SheetView.{declared_of, global_of, unit_of}
 use Rattle.xt_engine.specs.View.{named_of}
-use Rattle.xt_tree.specs.declared.node_ref.NodeRef.{NodeRef}
+use Rattle.spec_node.specs.declared.node_ref.NodeRef.{NodeRef}
 use Rattle.xt_world.specs.Numbered.{element_called}
 use Rattle.xt_world.specs.Units.{plain_units}
 use Rattle.xt_world.proofs.Globals.{hidden, last}

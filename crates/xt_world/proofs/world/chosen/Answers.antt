@@ -2,7 +2,7 @@ use Rattle.std.proofs.Common.{Option, ap, sym, ◌∙◌}
 use Rattle.spec_meaning.specs.Question.{Chosen, ChosenRule}
 use Rattle.xt_questions.specs.View.{candidates_of}
 use Rattle.xt_document_world.proofs.Told.{told_any, told_none}
-use Rattle.xt_tree.specs.declared.node_ref.NodeRef.{NodeRef}
+use Rattle.spec_node.specs.declared.node_ref.NodeRef.{NodeRef}
 use Rattle.xt_world.specs.SourceView.{source_of}
 use Rattle.xt_world.specs.View.{rule_held, said_of}
 use Rattle.xt_world.proofs.world.chosen.Goals as goal

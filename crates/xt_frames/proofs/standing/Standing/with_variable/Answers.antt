@@ -1,6 +1,6 @@
 use Rattle.std.proofs.Common.{ap, map}
 use Rattle.xt_syntax.specs.SheetView.{alias_of}
-use Rattle.xp_axes.specs.View.{same_ref}
+use Rattle.spec_node.specs.Naming.{same_ref}
 use Rattle.xt_questions.specs.View.{template_of, sets_of}
 use Rattle.xt_frames.proofs.standing.Standing.with_variable.Goals as goal
 

@@ -1,6 +1,6 @@
 use Rattle.std.proofs.Common.{ap}
 use Rattle.spec_meaning.specs.Question.{Question, Answer}
-use Rattle.xt_tree.specs.declared.node_ref.NodeRef.{NodeRef}
+use Rattle.spec_node.specs.declared.node_ref.NodeRef.{NodeRef}
 use Rattle.xt_world.specs.ParameterView.{parameters_of}
 use Rattle.xt_world.specs.View.{truth_over}
 use Rattle.xt_world.proofs.Holding.{always_err, always_ok, one_state}

@@ -1,6 +1,6 @@
 // Names of nodes.
 ghost use Rattle.std.specs.Prelude.{◌≡◌};
-ghost use Rattle.xt_tree.specs.declared.node_ref.Part.TheVariants as Part;
+ghost use Rattle.spec_node.specs.declared.node_ref.Part.TheVariants as Part;
 
 /// The number of a node. Numbers that a document's nodes have are below 2^62.
 #[derive(Clone, Copy, Debug, PartialEq, Eq)]
