@@ -1,8 +1,9 @@
-use Rattle.std.proofs.Common.{sym, ◌∙◌}
-use Rattle.std.specs.Str.{encode_utf8_all}
-use Rattle.std.proofs.lemmas.Str.{encodes-chars, IsUtf8-string_bytes}
-use Rattle.std.proofs.Common.{ap}
 use Rattle.xt_text.proofs.text.Text.as_str.Goals as goal
+use Rattle.std.proofs.Common.{◌∙◌, ap}
+use Rattle.std.specs.Str.{encode_utf8_all}
+
+pub returns-clause-characters : goal.returns-clause-characters
+returns-clause-characters c = c.letters.ensures.characters ∙ c.self.view_is
 
 pub returns-clause-bytes : goal.returns-clause-bytes
-returns-clause-bytes c = c.as_str.ensures.value ∙ sym (encodes-chars _ (IsUtf8-string_bytes c.self.inside.inner)) ∙ ap encode_utf8_all c.self.view_is
+returns-clause-bytes c = c.letters.ensures.bytes ∙ ap encode_utf8_all c.self.view_is
