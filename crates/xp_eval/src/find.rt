@@ -11,10 +11,8 @@ ghost use Rattle.xt_questions.specs.Runs.{Runs};
 ghost use Rattle.xp_eval.specs.View.{given_in};
 
 use std::alloc::Global;
-use xt_names::Expanded;
-use xt_questions::{
-    Context, EvalFault, Given, Known, Supplies, Wanted, World, copy_name, copy_value,
-};
+use xt_names::{Expanded, copy_name};
+use xt_questions::{Context, EvalFault, Given, Known, Supplies, Wanted, World, copy_value};
 use xt_text::Memory;
 use xt_tree::Value;
 

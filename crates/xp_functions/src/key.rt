@@ -13,10 +13,8 @@ use crate::argument::take_first;
 use crate::name::name_meant;
 use std::alloc::Global;
 use xp_values::to_text;
-use xt_names::Expanded;
-use xt_questions::{
-    Answer, Context, EvalFault, Focus, Question, World, ask_order, ask_text, copy_name,
-};
+use xt_names::{Expanded, copy_name};
+use xt_questions::{Answer, Context, EvalFault, Focus, Question, World, ask_order, ask_text};
 use xt_text::Text;
 use xt_tree::{NodeRef, Value};
 

@@ -7,7 +7,7 @@ ghost use Rattle.xt_syntax.specs.SheetView.{rule_of};
 ghost use Rattle.xt_compile.specs.Rules.{rule_by, rules_by};
 
 use std::alloc::Global;
-use xt_names::Expanded;
+use xt_names::{Expanded, copy_name_if};
 use xt_pattern::priority as default_priority;
 use xt_syntax::{Alternative, Pattern, Rule};
 use xt_text::Memory;
@@ -66,7 +66,7 @@ fn rule_for(
 {
     let priority = common.priority.unwrap_or(default_priority(&alternative));
     let pattern = pattern_alone(alloc, alternative)?;
-    let mode = copy_mode(alloc, &common.mode)?;
+    let mode = copy_name_if(alloc, &common.mode)?;
     Ok(Rule {
         pattern,
         precedence: common.precedence,
@@ -85,21 +85,4 @@ fn pattern_alone(alloc: Global, alternative: Alternative) -> Result<Pattern, Mem
     let mut alternatives = Vec::new(alloc);
     alternatives.push(alternative)?;
     Ok(Pattern { alternatives })
-}
-
-fn copy_mode(alloc: Global, mode: &Option<Expanded>) -> Result<Option<Expanded>, Memory>
-    ensures { IfOk result (λ copy. copy ≡ mode.now) }
-{
-    match mode {
-        None => Ok(None),
-        Some(name) => Ok(Some(copy_name(alloc, name)?)),
-    }
-}
-
-fn copy_name(alloc: Global, name: &Expanded) -> Result<Expanded, Memory>
-    ensures { IfOk result (λ copy. copy ≡ name.now) }
-{
-    let uri = name.uri().copy(alloc)?;
-    let local = name.local().copy(alloc)?;
-    Ok(Expanded::new(uri, local))
 }

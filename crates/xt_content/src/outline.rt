@@ -13,7 +13,7 @@ use crate::value::or_nowhere;
 use spec_structure::XsltElement;
 use std::alloc::Global;
 use xt_attributes::{Entries, add_template_variables};
-use xt_names::Expanded;
+use xt_names::{Expanded, copy_name};
 use xt_syntax::{LiteralAttribute, LiteralTag, Site};
 use xt_text::Memory;
 
@@ -47,14 +47,6 @@ pub struct Outlined {
 }
 
 // ---- Names
-
-fn copy_name(alloc: Global, name: &Expanded) -> Result<Expanded, Memory>
-    ensures { IfOk result (λ n. n ≡ name.now) }
-{
-    let uri = name.uri().copy(alloc)?;
-    let local = name.local().copy(alloc)?;
-    Ok(Expanded::new(uri, local))
-}
 
 fn copy_names(alloc: Global, names: &[Expanded]) -> Result<Vec<Expanded>, Memory>
     ensures { IfOk result (λ list. list.items ≡ names.now) }

@@ -16,8 +16,8 @@ use crate::level::Needed;
 use crate::memo::{Memo, Referred, Remembered, recall, remember_none, set_aside};
 use std::alloc::Global;
 use xt_engine::{Call, Entered, NamedGlobal};
-use xt_names::Expanded;
-use xt_questions::{copy_name, copy_value};
+use xt_names::{Expanded, copy_name};
+use xt_questions::copy_value;
 use xt_text::{Memory, Text};
 use xt_tree::{NodeRef, Value};
 

@@ -13,8 +13,8 @@ use std::alloc::Global;
 use std::mem;
 use std::rc::Rc;
 use xt_engine::{Entered, NamedGlobal};
-use xt_names::Expanded;
-use xt_questions::{copy_name, copy_value};
+use xt_names::{Expanded, copy_name};
+use xt_questions::copy_value;
 use xt_text::{Memory, Text};
 use xt_tree::{Items, NodeRef, Value};
 

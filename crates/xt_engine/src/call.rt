@@ -2,8 +2,8 @@
 use spec_expression::DynCode;
 use std::alloc::Global;
 use xt_base::Place;
-use xt_names::Expanded;
-use xt_questions::{Bindings, CurrentRule, copy_name_if, copy_place, copy_rule_if};
+use xt_names::{Expanded, copy_name_if};
+use xt_questions::{Bindings, CurrentRule, copy_place, copy_rule_if};
 use xt_text::Memory;
 use xt_tree::NodeRef;
 

@@ -9,7 +9,7 @@ ghost use Rattle.xt_held.specs.StylesheetView.{AreCompiled, Holds, IsCompiledFro
 use indexmap::IndexMap;
 use std::alloc::Global;
 use xt_compile::{SheetFault, StaticRefusal, sheet};
-use xt_questions::copy_name;
+use xt_names::copy_name;
 use xt_syntax::{Method, Sheet, SpaceRules};
 use xt_text::{Memory, Text};
 use xt_tree::Doc;

@@ -29,8 +29,8 @@ use xt_frames::{
     Application, Body, Branches, Came, Frame, Loop, Next, Ordered, Passing, Run, Standing, lack,
     nodes, push, share_bindings, share_content, share_keys, truth,
 };
-use xt_names::Expanded;
-use xt_questions::{Bindings, NamedTemplate, World, copy_name_if, copy_place};
+use xt_names::{Expanded, copy_name_if};
+use xt_questions::{Bindings, NamedTemplate, World, copy_place};
 use xt_syntax::{Binding, Branch, Control, Expr, Instr, Selection, Site, SortKey};
 use xt_text::Memory;
 use xt_tree::NodeRef;

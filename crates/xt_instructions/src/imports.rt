@@ -23,11 +23,11 @@ use std::alloc::Global;
 use xt_base::Place;
 use xt_engine::{Call, Event, Refused, Ruling, Target};
 use xt_frames::{Body, Frame, Next, Run, Standing, want};
-use xt_names::Expanded;
+use xt_names::{Expanded, copy_name_if};
 use xt_progress::Going;
 use xt_questions::{
     Bindings, Candidates, ChosenRule, CurrentRule, Focus, Given, Question, Wanted, World,
-    copy_name_if, copy_place, copy_rule_if,
+    copy_place, copy_rule_if,
 };
 use xt_syntax::Site;
 use xt_text::Memory;

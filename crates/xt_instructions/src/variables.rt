@@ -21,8 +21,8 @@ use std::rc::Rc;
 use xt_frames::{
     Arguments, Body, Frame, Holder, Next, Passing, Run, Standing, hold, push, share_content,
 };
-use xt_names::Expanded;
-use xt_questions::{Bindings, World, copy_name};
+use xt_names::{Expanded, copy_name};
+use xt_questions::{Bindings, World};
 use xt_syntax::{Binding, Expr, Instr, Site};
 use xt_text::Memory;
 

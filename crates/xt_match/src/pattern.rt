@@ -20,10 +20,8 @@ use crate::test::is_root;
 use spec_document::Axis;
 use spec_stylesheet::Separator;
 use std::alloc::Global;
-use xt_names::Expanded;
-use xt_questions::{
-    Answer, Context, EvalFault, Evaluate, Question, Supplies, World, ask_nodes, copy_name,
-};
+use xt_names::{Expanded, copy_name};
+use xt_questions::{Answer, Context, EvalFault, Evaluate, Question, Supplies, World, ask_nodes};
 use xt_syntax::{Alternative, NodeType, Pattern, PatternStep, Start, Test};
 use xt_text::Text;
 use xt_tree::NodeRef;

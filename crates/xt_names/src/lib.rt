@@ -23,7 +23,7 @@ pub use attribute_names::AttributeNames;
 pub use barred::{is_barred, is_reserved_target};
 pub use character::{is_char, is_name_part, is_name_start};
 pub use declaration::{AttributeUse, is_declaration, use_of};
-pub use name::{Expanded, QName, is_ncname};
+pub use name::{Expanded, QName, copy_name, copy_name_if, is_ncname};
 pub use namespace::Namespace;
 pub use scope::Scope;
 pub use uri::{XML_URI, XMLNS_URI, XSLT_URI};

@@ -1,12 +1,13 @@
 // Names (Namespaces in XML 1.0, productions 4 and 7 to 11).
-ghost use Rattle.std.specs.Prelude.{◌≡◌};
+ghost use Rattle.std.specs.Prelude.{◌≡◌, IfOk};
 ghost use Rattle.std.specs.Option.{option_map};
 ghost use Rattle.std.specs.Str.{chars};
 ghost use Rattle.spec_document.specs.Name as spec;
 
 use crate::character::{is_name_part, is_name_start};
+use std::alloc::Global;
 use std::marker::Model;
-use xt_text::{Text, split_first};
+use xt_text::{Memory, Text, split_first};
 
 /// Whether the text is an NCName: a name without a colon (production 4). Takes no memory.
 pub fn is_ncname(text: &str) -> bool
@@ -120,5 +121,24 @@ impl Expanded {
         ensures { result ≡ spec.same_name self.now other.now }
     {
         self.uri.same(&other.uri) && self.local.same(&other.local)
+    }
+}
+
+/// The same name.
+pub fn copy_name(alloc: Global, name: &Expanded) -> Result<Expanded, Memory>
+    ensures { IfOk result (λ n. n ≡ name.now) }
+{
+    let uri = name.uri().copy(alloc)?;
+    let local = name.local().copy(alloc)?;
+    Ok(Expanded::new(uri, local))
+}
+
+/// The same name, where there is one.
+pub fn copy_name_if(alloc: Global, name: &Option<Expanded>) -> Result<Option<Expanded>, Memory>
+    ensures { IfOk result (λ n. n ≡ name.now) }
+{
+    match name {
+        None => Ok(None),
+        Some(name) => Ok(Some(copy_name(alloc, name)?)),
     }
 }

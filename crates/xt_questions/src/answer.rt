@@ -5,12 +5,12 @@ ghost use Rattle.xt_questions.specs.View.{resolved_of};
 
 use crate::Refusal;
 use crate::alike::{all_alike, same_name_if, same_nodes, same_text_if};
-use crate::copies::{copy_name_if, copy_text_if};
+use crate::copies::copy_text_if;
 use crate::pieces::same_streams;
 use spec_document::Kind;
 use std::alloc::Global;
 use std::rc::Rc;
-use xt_names::Expanded;
+use xt_names::{Expanded, copy_name_if};
 use xt_syntax::{Alias, Unit};
 use xt_text::{Memory, Text};
 use xt_tree::{Fragment, NodeRef};

@@ -6,29 +6,10 @@ ghost use Rattle.xt_tree.specs.ValueView.{value_of};
 
 use std::alloc::Global;
 use xt_base::Place;
-use xt_names::Expanded;
+use xt_names::copy_name;
 use xt_syntax::Test;
 use xt_text::{Memory, Text};
 use xt_tree::{Fragment, Value};
-
-/// The same name, in memory of its own.
-pub fn copy_name(alloc: Global, name: &Expanded) -> Result<Expanded, Memory>
-    ensures { IfOk result (λ n. n ≡ name.now) }
-{
-    let uri = name.uri().copy(alloc)?;
-    let local = name.local().copy(alloc)?;
-    Ok(Expanded::new(uri, local))
-}
-
-/// The same name, where there is one, in memory of its own.
-pub fn copy_name_if(alloc: Global, name: &Option<Expanded>) -> Result<Option<Expanded>, Memory>
-    ensures { IfOk result (λ n. n ≡ name.now) }
-{
-    match name {
-        None => Ok(None),
-        Some(name) => Ok(Some(copy_name(alloc, name)?)),
-    }
-}
 
 /// The same text, where there is one, in memory of its own.
 pub(crate) fn copy_text_if(alloc: Global, text: &Option<Text>) -> Result<Option<Text>, Memory>

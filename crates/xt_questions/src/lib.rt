@@ -24,7 +24,7 @@ mod world;
 pub use answer::{Answer, ChosenRule, NamedSets, NamedTemplate, ResolvedUnit};
 pub use ask::{ask_nodes, ask_order, ask_text};
 pub use context::{Binding, Bindings, Context, Focus, Known, Supplies};
-pub use copies::{copy_name, copy_name_if, copy_place, copy_test, copy_value};
+pub use copies::{copy_place, copy_test, copy_value};
 pub use evaluate::Evaluate;
 pub use fault::{EvalFault, Refusal};
 pub use hold::holds;

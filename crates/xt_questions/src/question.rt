@@ -3,11 +3,10 @@ ghost use Rattle.std.specs.Prelude.{◌≡◌, IfOk};
 ghost use Rattle.std.specs.Option.{option_map};
 ghost use Rattle.xt_questions.specs.View.{current_of};
 
-use crate::copies::copy_name_if;
-use crate::{copy_name, copy_test, copy_value};
+use crate::{copy_test, copy_value};
 use spec_document::Axis;
 use std::alloc::Global;
-use xt_names::Expanded;
+use xt_names::{Expanded, copy_name, copy_name_if};
 use xt_syntax::Test;
 use xt_text::{Memory, Text};
 use xt_tree::{NodeRef, Value};

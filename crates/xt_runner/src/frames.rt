@@ -25,8 +25,9 @@ use xt_frames::{
     share_content, want,
 };
 use xt_instructions::{call_of_choice, perform, put_copy};
+use xt_names::copy_name_if;
 use xt_progress::Going;
-use xt_questions::{Candidates, Focus, Question, World, copy_name_if, copy_place};
+use xt_questions::{Candidates, Focus, Question, World, copy_place};
 use xt_text::Memory;
 use xt_tree::NodeRef;
 

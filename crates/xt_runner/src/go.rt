@@ -23,9 +23,9 @@ use std::rc::Rc;
 use xt_base::Place;
 use xt_engine::{Call, Entered, Ran, Refused, Ruling, RunFault, Turn};
 use xt_frames::{Frame, Next, Run, Waiting};
-use xt_names::Expanded;
+use xt_names::{Expanded, copy_name};
 use xt_progress::Going;
-use xt_questions::{CurrentRule, Known, Supplies, World, copy_name, copy_place, copy_rule_if};
+use xt_questions::{CurrentRule, Known, Supplies, World, copy_place, copy_rule_if};
 use xt_text::Memory;
 use xt_tree::{Items, Value};
 

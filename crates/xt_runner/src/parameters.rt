@@ -30,8 +30,8 @@ use xt_frames::{
     Standing, hold, holding, lack, push, share_bindings, share_content, share_keys, value,
 };
 use xt_instructions::{go_on_sorting, unsorted};
-use xt_names::Expanded;
-use xt_questions::{Bindings, World, copy_name, copy_name_if, copy_place};
+use xt_names::{Expanded, copy_name, copy_name_if};
+use xt_questions::{Bindings, World, copy_place};
 use xt_syntax::{Binding, Declared, Expr, Site, SortKey};
 use xt_text::{Memory, Text};
 use xt_tree::Value;
