@@ -18,6 +18,7 @@ mod names;
 mod numbers;
 mod piece;
 mod read;
+mod shared_names;
 mod top;
 mod write;
 

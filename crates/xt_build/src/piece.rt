@@ -8,6 +8,7 @@ ghost use Rattle.xt_build.specs.Front.{attributes_first, data_first, text_first,
 ghost use Rattle.xt_build.specs.View.{located_of, piece_of, pieces_of};
 
 use crate::read::Located;
+use crate::shared_names::SharedNames;
 use std::alloc::Global;
 use xt_pyx::Event;
 use xt_text::{Memory, Text};
@@ -28,15 +29,16 @@ pub(crate) enum Piece {
 }
 
 /// The pieces of balanced events: attributes stand at their element, adjacent data is one text, and empty
-/// data none.
+/// data none. Names that stand there many times are shared.
 pub(crate) fn pieces(alloc: Global, events: &[Located]) -> Result<Vec<Piece>, Memory>
     ensures { IfOk result (λ pieces. (f : Forest LineNumbers) → forest_of (map located_of events.now) ≡ Some f
         → spec.IsWhole (pieces_of pieces.items) × (spec.forest_in (pieces_of pieces.items) ≡ f)) }
 {
     let mut pieces = Vec::new(alloc);
+    let mut names = SharedNames::new(alloc);
     let mut rest = events;
     while !rest.is_empty() {
-        let taken = push_first(alloc, &mut pieces, rest)?;
+        let taken = push_first(alloc, &mut names, &mut pieces, rest)?;
         rest = rest.split_at(taken).1;
     }
     Ok(pieces)
@@ -44,7 +46,12 @@ pub(crate) fn pieces(alloc: Global, events: &[Located]) -> Result<Vec<Piece>, Me
 
 // Adds what the first event stands for, and says how many events that takes: data is taken with all that
 // follows it, and an attribute has been taken with its start.
-fn push_first(alloc: Global, pieces: &mut Vec<Piece>, events: &[Located]) -> Result<usize, Memory>
+fn push_first(
+    alloc: Global,
+    names: &mut SharedNames,
+    pieces: &mut Vec<Piece>,
+    events: &[Located],
+) -> Result<usize, Memory>
     requires { 0 < length events.now }
     ensures taken { IfOk result (λ taken. taken ≡ events_first (map located_of events.now)) }
     ensures pieces { OnOk result (pieces_of pieces.new.items ≡ pieces_of pieces.old.items ++ pieces_first (map located_of events.now)) }
@@ -52,8 +59,8 @@ fn push_first(alloc: Global, pieces: &mut Vec<Piece>, events: &[Located]) -> Res
     let first = &events[0];
     match &first.event {
         Event::Start { name } => {
-            let name = name.copy(alloc)?;
-            pieces.push(element(alloc, first.line, name, &events[1..])?)?;
+            let name = names.share(alloc, name)?;
+            pieces.push(element(alloc, names, first.line, name, &events[1..])?)?;
             Ok(1)
         }
         Event::Attribute { .. } => Ok(1),
@@ -88,12 +95,18 @@ fn leaf(alloc: Global, line: u64, content: Content) -> Piece
 }
 
 // The element of this name with the attributes that follow directly behind its start.
-fn element(alloc: Global, line: u64, name: Text, behind: &[Located]) -> Result<Piece, Memory>
+fn element(
+    alloc: Global,
+    names: &mut SharedNames,
+    line: u64,
+    name: Text,
+    behind: &[Located],
+) -> Result<Piece, Memory>
     ensures { IfOk result (λ piece. piece_of piece ≡ spec.Begins
         (record { first = line; attributes = map (λ a. a.0) (attributes_first (map located_of behind.now)) })
         (Element name (map (λ a. a.1) (attributes_first (map located_of behind.now))))) }
 {
-    let (attributes, attribute_lines) = leading_attributes(alloc, behind)?;
+    let (attributes, attribute_lines) = leading_attributes(alloc, names, behind)?;
     Ok(Piece::Begins {
         line,
         attribute_lines,
@@ -102,7 +115,11 @@ fn element(alloc: Global, line: u64, name: Text, behind: &[Located]) -> Result<P
 }
 
 // The attributes at the front and their lines.
-fn leading_attributes(alloc: Global, events: &[Located]) -> Result<(Vec<Written>, Vec<u64>), Memory>
+fn leading_attributes(
+    alloc: Global,
+    names: &mut SharedNames,
+    events: &[Located],
+) -> Result<(Vec<Written>, Vec<u64>), Memory>
     ensures attributes { IfOk result (λ found. map written_of found.0.items ≡ map (λ a. a.1) (attributes_first (map located_of events.now))) }
     ensures lines { IfOk result (λ found. found.1.items ≡ map (λ a. a.0) (attributes_first (map located_of events.now))) }
 {
@@ -111,7 +128,7 @@ fn leading_attributes(alloc: Global, events: &[Located]) -> Result<(Vec<Written>
     for located in events {
         match &located.event {
             Event::Attribute { name, value } => {
-                let name = name.copy(alloc)?;
+                let name = names.share(alloc, name)?;
                 let value = value.copy(alloc)?;
                 attributes.push(Written { name, value })?;
                 lines.push(located.line)?;
