@@ -8,9 +8,12 @@ use Rattle.spec_document.specs.Scope.{Scope, root_scope}
 use Rattle.spec_document.specs.declared.kind.Kind.TheVariants as kind
 use Rattle.spec_document.specs.Declaration.{within, namespaces_in, scope_of as scope_in}
 use Rattle.spec_document.specs.Place.{kind_by, namespaces_by, scope_at, Found, found_in, child_at, node_from, node_at, root_of, first_in}
+use Rattle.spec_document.specs.Place.{AttributeNode, at_number, attribute_at, attributes_of}
+use Rattle.spec_node.specs.declared.node_ref.NodeRef.{NodeRef}
+use Rattle.spec_node.specs.declared.node_ref.Part.TheVariants as part
 use Rattle.xt_tree.specs.declared.node.Node.{Node, out-Node}
 use Rattle.xt_tree.specs.View.{scope_from, content_of, Tree, tree_of, forest_of, tree_at, number_from, way_to, first_tree, itself}
-use Rattle.xt_tree.specs.View.{numbered_node, IsWayTo}
+use Rattle.xt_tree.specs.View.{numbered_node, part_of, IsPlaceOf, IsWayTo}
 use Rattle.xt_tree.proofs.Views.{view-Node}
 
 abbrev pub found_tree : List spec.Content → Tree → Found ℕ
@@ -235,6 +238,48 @@ pub root_is : (document : spec.Document ℕ) (number : ℕ) (x : Found ℕ) → 
     → numbered_node document number ≡ Some x → root_of document ≡ x
 root_is document number x h e =
     some_same (root_of document) x (sym (ap (λ b. cond b (Some (root_of document)) (first_in (λ l. l == number) [] document.nodes)) h) ∙ e)
+
+pub root_there : (document : spec.Document ℕ) (number : ℕ) → (document.root == number) ≡ true
+    → numbered_node document number ≡ Some (root_of document)
+root_there document number h = ap (λ b. cond b (Some (root_of document)) (first_in (λ l. l == number) [] document.nodes)) h
+
+none_seen : (o : Option (Found ℕ)) → option_map seen_node o ≡ None → o ≡ None
+none_seen None e = refl
+none_seen (Some x) e = absurd (cc)
+
+pub nothing_there : (document : spec.Document ℕ) (number : ℕ) → (document.root == number) ≡ false
+    → first_tree number document.nodes ≡ None → numbered_node document number ≡ None
+nothing_there document number h none =
+    not_root document number h ∙ none_seen _ (first_in-tree number [] document.nodes ∙ ap (option_map seen_tree) none)
+
+by_content : {B : Type 0} (f : Option spec.Content → Option B) (o : Option (Found ℕ)) (t : Tree) → option_map seen_node o ≡ Some (seen_tree t)
+    → option_and_then (λ x. f x.content) o ≡ f (Some t.content)
+by_content f None t e = absurd (cc)
+by_content f (Some x) t e = ap (λ s. f s.content) (some_same (seen_node x) (seen_tree t) e)
+
+-- what a content says of the node of the number
+pub tree_there : {B : Type 0} (f : Option spec.Content → Option B) (document : spec.Document ℕ) (number : ℕ) (t : Tree)
+    → (document.root == number) ≡ false → first_tree number document.nodes ≡ Some t
+    → option_and_then (λ x. f x.content) (numbered_node document number) ≡ f (Some t.content)
+tree_there f document number t h some =
+    ap (option_and_then (λ x. f x.content)) (not_root document number h)
+    ∙ by_content f _ t (first_in-tree number [] document.nodes ∙ ap (option_map seen_tree) some)
+
+pub attribute_there : (k : ℕ) (o : Option (Found ℕ))
+    → is_some (option_and_then (λ x. at_number k (attributes_of x)) o) ≡ is_some (option_and_then (λ x. attribute_at x k) o)
+attribute_there k None = refl
+attribute_there k (Some x) = sym (some_mapped (AttributeNode x) (at_number k (attributes_of x)))
+
+itself_none : (o : Option (Found ℕ)) → option_and_then (part_of part.Itself) o ≡ None → o ≡ None
+itself_none None e = refl
+itself_none (Some x) e = absurd (cc)
+
+-- the way to a node is its place
+pub place_itself : (document : spec.Document ℕ) (node : NodeRef) (place : Option (List ℕ)) → node.part ≡ part.Itself
+    → IsWayTo document node.node.number place → IsPlaceOf document node place
+place_itself document node None e way = ap (option_and_then (part_of node.part)) way
+place_itself document node (Some path) e way =
+    (way.0, λ none. way.1 (itself_none _ (ap (λ p. option_and_then (part_of p) (numbered_node document node.node.number)) (sym e) ∙ none)))
 
 -- ---- The scope along a way
 

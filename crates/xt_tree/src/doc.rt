@@ -222,8 +222,8 @@ impl Doc {
         Some(NodeRef::of(id))
     }
 
-    // The node of this number below the root.
-    pub(crate) fn find(&self, id: NodeId) -> Option<&Node>
+    /// The node of this number below the root. None for the root, and where there is no such node. Takes no memory.
+    pub fn node(&self, id: NodeId) -> Option<&Node>
         ensures { option_map (λ node. tree_of node.now) result ≡ first_tree id.number self.now.nodes }
     {
         find(&self.keys, self.children.as_slice(), id)
@@ -236,7 +236,7 @@ impl Doc {
         if self.root == id {
             return None;
         }
-        match self.find(id) {
+        match self.node(id) {
             None => None,
             Some(node) => Some(node.content()),
         }

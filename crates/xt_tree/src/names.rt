@@ -1,7 +1,9 @@
 // The expanded names that a document keeps, so that they are resolved once.
-ghost use Rattle.std.specs.Prelude.{ℕ, ◌≡◌, ◌++◌, None, IfOk, OnOk};
+ghost use Rattle.std.specs.Prelude.{ℕ, ◌≡◌, ◌++◌, [], None, Some, IfOk, OnOk};
 ghost use Rattle.std.specs.List.{slice_get};
 ghost use Rattle.std.specs.Option.{option_map};
+ghost use Rattle.std.specs.Str.{chars};
+ghost use Rattle.spec_document.specs.Name.{same_expanded, same_name};
 ghost use Rattle.spec_document.specs.Scope.{root_scope};
 ghost use Rattle.xt_tree.specs.Kept.{kept_at, names_in};
 ghost use Rattle.xt_tree.specs.Room.{all_suit, suits};
@@ -114,16 +116,19 @@ fn push_names(
     Ok(())
 }
 
-/// The same name.
-pub fn copied(alloc: Global, name: &Option<Expanded>) -> Result<Option<Expanded>, Memory>
-    ensures { IfOk result (λ copy. copy ≡ name.now) }
+/// Whether a name that may be none is this one.
+pub fn is_name(name: &Option<Expanded>, wanted: &Expanded) -> bool
+    ensures { result ≡ same_expanded (Some wanted.now) name.now }
 {
     match name {
-        None => Ok(None),
-        Some(name) => {
-            let uri = name.uri().copy(alloc)?;
-            let local = name.local().copy(alloc)?;
-            Ok(Some(Expanded::new(uri, local)))
-        }
+        None => false,
+        Some(name) => wanted.same(name),
     }
+}
+
+/// Whether the name of this local part in no namespace is this one.
+pub fn is_plain_name(local: &str, wanted: &Expanded) -> bool
+    ensures { result ≡ same_name wanted.now (record { uri = []; local = chars local.now }) }
+{
+    wanted.uri().is_empty() && wanted.local().is(local)
 }

@@ -121,7 +121,7 @@ pub fn content_name(
     ensures { IfOk result (λ name. name ≡ name_by (Some (content_of content.now)) scope.now) }
 {
     match content {
-        Content::Element { name, .. } => element_name(alloc, name.as_str(), scope),
+        Content::Element { name, .. } => element_name(alloc, name, scope),
         Content::Instruction { target, .. } => Ok(Some(Expanded::new(
             Text::new(alloc),
             target.copy(alloc)?,
@@ -130,13 +130,28 @@ pub fn content_name(
     }
 }
 
-fn element_name(alloc: Global, written: &str, scope: &Scope) -> Result<Option<Expanded>, Memory>
-    ensures { IfOk result (λ name. name ≡ option_and_then (spec.element_name scope.now) (qname_of (chars written.now))) }
+fn element_name(alloc: Global, written: &Text, scope: &Scope) -> Result<Option<Expanded>, Memory>
+    ensures { IfOk result (λ name. name ≡ option_and_then (spec.element_name scope.now) (qname_of written.now)) }
 {
-    match QName::read(written) {
+    match QName::read(written.as_str()) {
         None => Ok(None),
-        Some(name) => scope.element_name(alloc, &name),
+        Some(name) => match scope.element_name(alloc, &name)? {
+            None => Ok(None),
+            Some(name) => Ok(Some(sharing(alloc, name, written)?)),
+        },
     }
+}
+
+// The same name. Where its local part is all of the written name, it is in the memory of that.
+fn sharing(alloc: Global, name: Expanded, written: &Text) -> Result<Expanded, Memory>
+    ensures { IfOk result (λ same. same ≡ name) }
+{
+    if name.local().same(written) {
+        let uri = name.uri().copy(alloc)?;
+        let local = written.copy(alloc)?;
+        return Ok(Expanded::new(uri, local));
+    }
+    Ok(name)
 }
 
 /// The expanded name of an attribute of this written name in this scope.

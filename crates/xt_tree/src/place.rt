@@ -1,11 +1,11 @@
 // Where nodes stand, and the namespaces in scope there.
 ghost use Rattle.std.specs.Prelude.{ℕ, List, ◌≡◌, IfOk, IsSome, is_some, Some};
-ghost use Rattle.std.specs.Option.{option_map, ForSome};
+ghost use Rattle.std.specs.Option.{option_map, option_and_then, ForSome};
 ghost use Rattle.spec_document.specs.Place.{node_at, scope_at, attributes_of, namespaces_of, at_number};
 ghost use Rattle.xt_tree.specs.View.{IsPlaceOf, IsWayTo, item_of, numbered_node};
 
 use crate::find::lead;
-use crate::part::namespace_at;
+use crate::part::{attribute_at, namespace_at};
 use crate::{Doc, NodeId, NodeRef, Part};
 use spec_document::Kind;
 use std::alloc::Global;
@@ -17,6 +17,18 @@ impl Doc {
     /// one that leads there. None exactly where the node is none of the tree, nor an attribute or a
     /// namespace node of an element of it.
     pub fn place(&self, alloc: Global, node: &NodeRef) -> Result<Option<Path>, Memory>
+        ensures place { IfOk result (λ place. IsPlaceOf self.now node.now place) }
+        ensures only { IfOk result (λ place. IsSome (item_of self.now node.now)
+            → (path : List ℕ) → option_map (λ n. n.label) (node_at self.now path) ≡ Some node.now.node.number → place ≡ Some path) }
+    {
+        match node.part {
+            Part::Itself => self.way(alloc, node.node),
+            Part::Attribute(_) | Part::Namespace(_) => self.owner_place(alloc, node),
+        }
+    }
+
+    // The path of the element that an attribute or a namespace node belongs to.
+    fn owner_place(&self, alloc: Global, node: &NodeRef) -> Result<Option<Path>, Memory>
         ensures place { IfOk result (λ place. IsPlaceOf self.now node.now place) }
         ensures only { IfOk result (λ place. IsSome (item_of self.now node.now)
             → (path : List ℕ) → option_map (λ n. n.label) (node_at self.now path) ≡ Some node.now.node.number → place ≡ Some path) }
@@ -47,13 +59,15 @@ impl Doc {
     pub fn has(&self, alloc: Global, node: &NodeRef) -> Result<bool, Memory>
         ensures { IfOk result (λ has. has ≡ is_some (item_of self.now node.now)) }
     {
-        if !self.contains(node.node) {
-            return Ok(false);
-        }
         match node.part {
-            Part::Itself => Ok(true),
+            Part::Itself => Ok(self.contains(node.node)),
             Part::Attribute(number) => Ok(self.has_attribute(node.node, number)),
-            Part::Namespace(number) => self.has_namespace(alloc, node, number),
+            Part::Namespace(number) => {
+                if !self.contains(node.node) {
+                    return Ok(false);
+                }
+                self.has_namespace(alloc, node, number)
+            }
         }
     }
 
@@ -61,13 +75,19 @@ impl Doc {
     fn contains(&self, id: NodeId) -> bool
         ensures { result ≡ is_some (numbered_node self.now id.number) }
     {
-        self.root == id || self.find(id).is_some()
+        self.root == id || self.node(id).is_some()
     }
 
     fn has_attribute(&self, id: NodeId, number: u64) -> bool
-        ensures { ForSome (numbered_node self.now id.number) (λ node. result ≡ is_some (at_number number (attributes_of node))) }
+        ensures { result ≡ is_some (option_and_then (λ node. at_number number (attributes_of node)) (numbered_node self.now id.number)) }
     {
-        self.attribute(id, number).is_some()
+        if self.root == id {
+            return false;
+        }
+        match self.node(id) {
+            None => false,
+            Some(node) => attribute_at(node.content(), number).is_some(),
+        }
     }
 
     fn has_namespace(&self, alloc: Global, node: &NodeRef, number: u64) -> Result<bool, Memory>

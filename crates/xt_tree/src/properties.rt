@@ -1,14 +1,15 @@
 // What nodes are: their kinds, names and values.
 ghost use Rattle.std.specs.Prelude.{◌≡◌, map, IfOk, [], IsSome, Some};
 ghost use Rattle.std.specs.Option.{option_map, option_and_then, ForSome};
-ghost use Rattle.spec_document.specs.Name.{qname_of};
+ghost use Rattle.std.specs.Str.{chars};
+ghost use Rattle.spec_document.specs.Name.{qname_of, same_expanded};
 ghost use Rattle.spec_document.specs.Declaration.{namespaces_in, attribute_name};
 ghost use Rattle.spec_document.specs.Place.{expanded_name, name_by, scope_at, kind_of, kind_by, string_value, string_value_by, written_by, written_name, attributes_of, namespaces_of, at_number};
 ghost use Rattle.xt_names.specs.View.{entries_of};
 ghost use Rattle.xt_tree.specs.View.{item_of, numbered_node, written_of};
 
 use crate::find::{push_texts, push_value};
-use crate::names::copied;
+use crate::names::{is_name, is_plain_name};
 use crate::part::{
     attribute_at, attribute_name, attributes_in, content_name, content_written, namespace_at,
 };
@@ -16,7 +17,7 @@ use crate::{Doc, NodeId, NodeRef, Part, Written};
 use spec_document::Kind;
 use std::alloc::Global;
 use std::rc::Rc;
-use xt_names::{Expanded, Namespace};
+use xt_names::{Expanded, Namespace, copy_name_if, is_ncname};
 use xt_text::{Memory, Text};
 
 impl Doc {
@@ -63,7 +64,7 @@ impl Doc {
             push_texts(&mut text, self.children.as_slice())?;
             return Ok(text);
         }
-        match self.find(id) {
+        match self.node(id) {
             None => Ok(text),
             Some(node) => {
                 push_value(&mut text, node)?;
@@ -184,7 +185,7 @@ impl Doc {
         ensures { IfOk result (λ name. ForSome (numbered_node self.now node.now.node.number) (λ found. name ≡ name_by found.content (scope_at found))) }
     {
         match self.names.get(node.node) {
-            Some(name) => copied(alloc, name),
+            Some(name) => copy_name_if(alloc, name),
             None => self.resolved_name(alloc, node),
         }
     }
@@ -211,11 +212,28 @@ impl Doc {
         ensures { IfOk result (λ name. ForSome (numbered_node self.now node.now.node.number) (λ found. ForSome (at_number number (attributes_of found))
             (λ a. name ≡ option_and_then (attribute_name (scope_at found)) (qname_of a.name)))) }
     {
-        let scope = self.scope_of(alloc, node)?;
         match self.attribute(node.node, number) {
             None => Ok(None),
-            Some(attribute) => attribute_name(alloc, attribute.name.as_str(), &scope),
+            Some(attribute) => self.resolved_attribute(alloc, node, &attribute.name),
         }
+    }
+
+    // The name of an attribute of this node that is written so. Only one with a prefix needs the scope.
+    fn resolved_attribute(
+        &self,
+        alloc: Global,
+        node: &NodeRef,
+        written: &Text,
+    ) -> Result<Option<Expanded>, Memory>
+        ensures { IfOk result (λ name. ForSome (numbered_node self.now node.now.node.number)
+            (λ found. name ≡ option_and_then (attribute_name (scope_at found)) (qname_of written.now))) }
+    {
+        if is_ncname(written.as_str()) {
+            let local = written.copy(alloc)?;
+            return Ok(Some(Expanded::new(Text::new(alloc), local)));
+        }
+        let scope = self.scope_of(alloc, node)?;
+        attribute_name(alloc, written.as_str(), &scope)
     }
 
     fn namespace_name(
@@ -235,5 +253,82 @@ impl Doc {
                 namespace.prefix.copy(alloc)?,
             ))),
         }
+    }
+
+    /// Whether the node has this expanded name. Copies no name that is kept or that needs no declaration. (XPath 1.0,
+    /// 2.3)
+    pub fn is_named(&self, alloc: Global, node: &NodeRef, wanted: &Expanded) -> Result<bool, Memory>
+        requires { IsSome (item_of self.now node.now) }
+        ensures { IfOk result (λ is. option_map (λ item. same_expanded (Some wanted.now) (expanded_name item)) (item_of self.now node.now) ≡ Some is) }
+    {
+        match node.part {
+            Part::Itself => self.own_is_named(alloc, node, wanted),
+            Part::Attribute(number) => self.attribute_is_named(alloc, node, number, wanted),
+            Part::Namespace(number) => self.namespace_is_named(alloc, node, number, wanted),
+        }
+    }
+
+    fn own_is_named(&self, alloc: Global, node: &NodeRef, wanted: &Expanded) -> Result<bool, Memory>
+        ensures { IfOk result (λ is. ForSome (numbered_node self.now node.now.node.number)
+            (λ found. is ≡ same_expanded (Some wanted.now) (name_by found.content (scope_at found)))) }
+    {
+        match self.names.get(node.node) {
+            Some(name) => Ok(is_name(name, wanted)),
+            None => {
+                let name = self.resolved_name(alloc, node)?;
+                Ok(is_name(&name, wanted))
+            }
+        }
+    }
+
+    fn attribute_is_named(
+        &self,
+        alloc: Global,
+        node: &NodeRef,
+        number: u64,
+        wanted: &Expanded,
+    ) -> Result<bool, Memory>
+        ensures { IfOk result (λ is. ForSome (numbered_node self.now node.now.node.number) (λ found. ForSome (at_number number (attributes_of found))
+            (λ a. is ≡ same_expanded (Some wanted.now) (option_and_then (attribute_name (scope_at found)) (qname_of a.name))))) }
+    {
+        match self.attribute(node.node, number) {
+            None => Ok(false),
+            Some(attribute) => {
+                self.attribute_means(alloc, node, attribute.name.as_str(), wanted)
+            }
+        }
+    }
+
+    // Whether an attribute of this node that is written so has this name.
+    fn attribute_means(
+        &self,
+        alloc: Global,
+        node: &NodeRef,
+        written: &str,
+        wanted: &Expanded,
+    ) -> Result<bool, Memory>
+        ensures { IfOk result (λ is. ForSome (numbered_node self.now node.now.node.number)
+            (λ found. is ≡ same_expanded (Some wanted.now) (option_and_then (attribute_name (scope_at found)) (qname_of (chars written.now))))) }
+    {
+        if is_ncname(written) {
+            return Ok(is_plain_name(written, wanted));
+        }
+        let scope = self.scope_of(alloc, node)?;
+        let name = attribute_name(alloc, written, &scope)?;
+        Ok(is_name(&name, wanted))
+    }
+
+    fn namespace_is_named(
+        &self,
+        alloc: Global,
+        node: &NodeRef,
+        number: u64,
+        wanted: &Expanded,
+    ) -> Result<bool, Memory>
+        ensures { IfOk result (λ is. ForSome (numbered_node self.now node.now.node.number) (λ found. ForSome (at_number number (namespaces_in (scope_at found)))
+            (λ n. is ≡ same_expanded (Some wanted.now) (Some (record { uri = []; local = n.0 }))))) }
+    {
+        let name = self.namespace_name(alloc, node, number)?;
+        Ok(is_name(&name, wanted))
     }
 }

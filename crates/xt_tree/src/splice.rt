@@ -136,8 +136,8 @@ fn changed(
 
 // ---- Keys
 
-// The keys of all siblings of a document, some of which are new and stand in this room. Where it is too small, all
-// get new keys.
+// The keys of all siblings of a document, some of which are new and stand in this room. Where it is too small, or most
+// keys are of nodes that are gone, all get new keys.
 fn keys_in(
     alloc: Global,
     keys: &Table,
@@ -150,14 +150,28 @@ fn keys_in(
     requires few { size (forest_of siblings.now) < number_limit }
     ensures { IfOk result (λ own. AreKeyed (key_by own) (forest_of siblings.now)) }
 {
+    let Some(limit) = next_limit(keys, siblings) else {
+        return new_keys(alloc, siblings);
+    };
     let place = spread_in(room, count(new));
     if place.step == 0 {
         return new_keys(alloc, siblings);
     }
-    let mut own = keys.copy()?;
+    let mut own = keys.copy_until(limit)?;
     let mut last = place.start;
     give_keys(alloc, &mut own, new, &mut last, place.step)?;
     Ok(own)
+}
+
+// The count at which keys of these siblings and all below them are to be compared with them next. None where they are
+// to be made anew now. The siblings are counted so seldom that it costs each edit next to nothing.
+fn next_limit(keys: &Table, siblings: &[Rc<Node>]) -> Option<u64>
+    requires { size (forest_of siblings.now) < number_limit }
+{
+    if keys.is_due() {
+        return keys.limit_for(count(siblings));
+    }
+    Some(keys.limit())
 }
 
 // ---- Names

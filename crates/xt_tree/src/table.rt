@@ -6,10 +6,18 @@ use std::alloc::Global;
 use std::rc::Rc;
 use xt_text::Memory;
 
-/// A map from numbers to keys. It is shared: a map with one entry more is a new map, and the old one stays.
+// How many keys are put into a new map before it is first compared with what it serves.
+const FIRST_LIMIT: u64 = 1024;
+
+/// A map from numbers to keys. It is shared: a map with one entry more is a new map, and the old one stays. Entries
+/// are never taken out, so it counts them, and is made anew where most of them serve nobody.
 #[derive(Drop)]
 pub struct Table {
     root: Option<Rc<Fork>>,
+    // How many keys were put in, which is not less than the number of entries.
+    count: u64,
+    // The count at which it is to be compared with what it serves.
+    limit: u64,
 }
 
 // The entry of 0, and the maps of the numbers that are odd and of those that are even and above 0.
@@ -25,7 +33,11 @@ impl Table {
     pub fn new() -> Table
         ensures { (number : ℕ) → lookup result number ≡ None }
     {
-        Table { root: None }
+        Table {
+            root: None,
+            count: 0,
+            limit: FIRST_LIMIT,
+        }
     }
 
     /// The key at this number.
@@ -53,8 +65,37 @@ impl Table {
     pub fn copy(&self) -> Result<Table, Memory>
         ensures { IfOk result (λ table. (number : ℕ) → lookup table number ≡ lookup self.now number) }
     {
+        self.copy_until(self.limit)
+    }
+
+    /// The same map, shared, with another limit.
+    pub fn copy_until(&self, limit: u64) -> Result<Table, Memory>
+        ensures { IfOk result (λ table. (number : ℕ) → lookup table number ≡ lookup self.now number) }
+    {
         let root = copy(&self.root)?;
-        Ok(Table { root })
+        Ok(Table {
+            root,
+            count: self.count,
+            limit,
+        })
+    }
+
+    /// Whether so many keys were put in that they are to be compared with what the map serves.
+    pub fn is_due(&self) -> bool {
+        self.count >= self.limit
+    }
+
+    /// The limit of a map that serves so many nodes. None where most of what was put in serves none of them.
+    pub fn limit_for(&self, nodes: u64) -> Option<u64> {
+        if self.count / 2 > nodes {
+            return None;
+        }
+        Some(self.count.max(nodes).saturating_mul(2))
+    }
+
+    /// The count at which it is to be compared with what it serves.
+    pub fn limit(&self) -> u64 {
+        self.limit
     }
 
     /// The same map with this key at this number.
@@ -62,7 +103,11 @@ impl Table {
         ensures { IfOk result (λ table. (other : ℕ) → lookup table other ≡ (if other == number then Some key else lookup self.now other)) }
     {
         let fork = with(alloc, &self.root, number, key)?;
-        Ok(Table { root: Some(fork) })
+        Ok(Table {
+            root: Some(fork),
+            count: self.count.saturating_add(1),
+            limit: self.limit,
+        })
     }
 }
 

@@ -8,4 +8,4 @@ returns-else-eq c =
     let d = c.args.self.now in
     let number = c.args.id.number in
     let apart : (d.root == number) ≡ false = ap (λ e. e.root == number) (sym c.self.view_is) ∙ sym c.eq.ensures ∙ c.if-eq.false in
-    c.is_some.ensures ∙ sym (some_mapped (λ node. tree_of node.now) c.find.result) ∙ ap is_some c.find.ensures ∙ sym (some_tree d number apart)
+    c.is_some.ensures ∙ sym (some_mapped (λ node. tree_of node.now) c.node.result) ∙ ap is_some c.node.ensures ∙ sym (some_tree d number apart)
