@@ -9,3 +9,5 @@ pub mod Told
 pub mod Placing
 pub mod Kept
 pub mod Named
+pub mod Inside
+pub mod Tested

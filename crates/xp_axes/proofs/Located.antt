@@ -39,7 +39,7 @@ same_parts (part.Attribute m) (part.Namespace n) h = absurd (cc)
 same_parts (part.Namespace m) part.Itself h = absurd (cc)
 same_parts (part.Namespace m) (part.Attribute n) h = absurd (cc)
 
-no_attribute : (x : Axis) → IsWalked x part.Itself → (n : ℕ) → is_on x [] (ToAttribute n ∷ []) ≡ false
+pub no_attribute : (x : Axis) → IsWalked x part.Itself → (n : ℕ) → is_on x [] (ToAttribute n ∷ []) ≡ false
 no_attribute axis.Itself h n = refl
 no_attribute axis.Child h n = refl
 no_attribute axis.Attribute h n = absurd h
@@ -54,7 +54,7 @@ no_attribute axis.Preceding h n = refl
 no_attribute axis.FollowingSibling h n = refl
 no_attribute axis.PrecedingSibling h n = refl
 
-no_namespace : (x : Axis) → IsWalked x part.Itself → (n : List ℕ) → is_on x [] (ToNamespace n ∷ []) ≡ false
+pub no_namespace : (x : Axis) → IsWalked x part.Itself → (n : List ℕ) → is_on x [] (ToNamespace n ∷ []) ≡ false
 no_namespace axis.Itself h n = refl
 no_namespace axis.Child h n = refl
 no_namespace axis.Attribute h n = absurd h
@@ -100,7 +100,7 @@ pub record IsOf (r : NodeRef) (root : Found ℕ) (e : Entry ℕ) : Type 0 where
   pub at : IsAt root e
   pub name : record { node = record { number = at.element.label }; part = part_at e.place.ending e.number } ≡ r
 
-name_is : (r : NodeRef) (root : Found ℕ) (e : Entry ℕ) → IsAt root e → same_ref r (ref_of e) ≡ true → IsOf r root e
+pub name_is : (r : NodeRef) (root : Found ℕ) (e : Entry ℕ) → IsAt root e → same_ref r (ref_of e) ≡ true → IsOf r root e
 name_is r root e at same =
     let parts = and_parts (r.node.number == number_of e.item) (same_part r.part (part_at e.place.ending e.number)) same in
     let number : at.element.label ≡ r.node.number = sym (eqb-true r.node.number (number_of e.item) parts.0 ∙ at.number) in
@@ -214,7 +214,7 @@ is_itself_end Itself n h = refl
 is_itself_end (AtAttribute k) n h = absurd (cc)
 is_itself_end (AtNamespace k) n h = absurd (cc)
 
-quiet_axis : (document : Document ℕ) (x : Axis) → IsQuiet x → (r : NodeRef) (path : List ℕ) (e : IsEntryOf document r path)
+pub quiet_axis : (document : Document ℕ) (x : Axis) → IsQuiet x → (r : NodeRef) (path : List ℕ) (e : IsEntryOf document r path)
     → r.part ≡ part.Itself → (ns : List NodeRef)
     → picked (is_on x []) (listing e.is.at.element) ≡ ns → on_axis document x r ≡ ns
 quiet_axis document x q r path e p ns own =

@@ -1,5 +1,5 @@
 -- The entry of a name is what the name stands for.
-use Rattle.std.proofs.Common.{◌≡◌, ℕ, ◌+◌, ◌==◌, Bool, true, false, cond, List, [], ◌∷◌, ◌++◌, Option, None, Some, refl, sym, ap, ◌∙◌}
+use Rattle.std.proofs.Common.{◌≡◌, ℕ, ◌+◌, ◌==◌, true, false, cond, List, [], ◌∷◌, ◌++◌, Option, None, Some, refl, sym, ap, ◌∙◌}
 use Rattle.std.specs.Prelude.{map}
 use Rattle.std.specs.List.{find}
 use Rattle.std.specs.Option.{option_and_then, option_or}
@@ -37,7 +37,7 @@ listed_in r item x h above k (Node l c f g) is =
           (λ s. has_right r (map (under k) (listing child)) _ (listed_in r item x h above (k + 1) g s))
     ] refl is)
 
-listed : (document : Document ℕ) (r : NodeRef) (item : Item ℕ) (x : Found ℕ) → numbered_node document r.node.number ≡ Some x
+pub listed : (document : Document ℕ) (r : NodeRef) (item : Item ℕ) (x : Found ℕ) → numbered_node document r.node.number ≡ Some x
     → part_of r.part x ≡ Some item → has r (listing (root_of document)) ≡ true
 listed document r item x is h =
     let root = root_of document in

@@ -48,6 +48,19 @@ is_itself axis.AncestorOrSelf = true
 is_itself axis.DescendantOrSelf = true
 is_itself _ = false
 
+-- whether it takes nothing but the node itself and what is below it, where it starts at a node of the tree
+abbrev pub is_inner_axis : Axis → Bool
+is_inner_axis axis.Itself = true
+is_inner_axis axis.Child = true
+is_inner_axis axis.Descendant = true
+is_inner_axis axis.DescendantOrSelf = true
+is_inner_axis _ = false
+
+abbrev pub is_inner : Axis → Part → Bool
+is_inner axis part.Itself = is_inner_axis axis
+is_inner axis (part.Attribute number) = false
+is_inner axis (part.Namespace number) = false
+
 -- siblings themselves; siblings to an extent, and one of them
 abbrev pub themselves : Forest ℕ → List NodeRef
 themselves Empty = []

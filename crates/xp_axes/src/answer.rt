@@ -1,15 +1,16 @@
 // Steps (XPath 1.0, section 2.1).
-ghost use Rattle.std.specs.Prelude.{◌≡◌, IfOk, IsSome};
+ghost use Rattle.std.specs.Prelude.{◌≡◌, filter, IfOk, IsSome};
 ghost use Rattle.spec_document.specs.Axis as spec;
 ghost use Rattle.spec_document.specs.Order.{entries_of};
 ghost use Rattle.spec_meaning.specs.Step.{stepped};
 ghost use Rattle.xt_syntax.specs.View.{test_of};
 ghost use Rattle.xt_tree.specs.View.{item_of};
 ghost use Rattle.xp_axes.specs.Along as ways;
-ghost use Rattle.xp_axes.specs.View.{on_axis};
+ghost use Rattle.xp_axes.specs.View.{is_passing, on_axis};
 ghost use Rattle.spec_node.specs.Naming.{ref_of, same_ref};
 
 use crate::along::along;
+use crate::inner::{at_and_below, is_inner};
 use crate::own::{attributes, namespaces};
 use crate::passing::passing;
 use spec_document::Axis;
@@ -60,25 +61,52 @@ fn walked(
     Ok(found)
 }
 
+// The nodes of the axis, in document order, by the way from the root.
+fn by_way(alloc: Global, document: &Doc, node: &NodeRef, axis: Axis) -> Result<Vec<NodeRef>, Memory>
+    requires item { IsSome (item_of document.now node.now) }
+    requires walked { ways.IsWalked axis node.now.part }
+    ensures { IfOk result (λ nodes. nodes.items ≡ on_axis document.now axis node.now) }
+{
+    match document.place(alloc, node)? {
+        None => Ok(Vec::new(alloc)),
+        Some(path) => walked(alloc, document, node, axis, &path),
+    }
+}
+
 // The nodes of the axis, in document order.
 fn all_on(alloc: Global, document: &Doc, node: &NodeRef, axis: Axis) -> Result<Vec<NodeRef>, Memory>
     requires { IsSome (item_of document.now node.now) }
     ensures { IfOk result (λ nodes. nodes.items ≡ on_axis document.now axis node.now) }
 {
-    match document.place(alloc, node)? {
-        None => Ok(Vec::new(alloc)),
-        Some(path) => match axis {
-            Axis::Attribute => match node.part {
-                Part::Itself => attributes(alloc, document, node.node),
-                _ => walked(alloc, document, node, axis, &path),
-            },
-            Axis::Namespace => match node.part {
-                Part::Itself => namespaces(alloc, document, node.node),
-                _ => walked(alloc, document, node, axis, &path),
-            },
-            _ => walked(alloc, document, node, axis, &path),
+    document.distinct_numbers();
+    match node.part {
+        Part::Itself => match axis {
+            Axis::Attribute => attributes(alloc, document, node.node),
+            Axis::Namespace => namespaces(alloc, document, node.node),
+            _ => by_way(alloc, document, node, axis),
         },
+        _ => by_way(alloc, document, node, axis),
     }
+}
+
+// The nodes of the axis that pass, in document order.
+fn kept_on(
+    alloc: Global,
+    document: &Doc,
+    node: &NodeRef,
+    axis: Axis,
+    test: &Test,
+) -> Result<Vec<NodeRef>, Memory>
+    requires { IsSome (item_of document.now node.now) }
+    ensures { IfOk result (λ kept. kept.items
+        ≡ filter (is_passing document.now axis (test_of test.now)) (on_axis document.now axis node.now)) }
+{
+    document.distinct_numbers();
+    if is_inner(axis, node.part) {
+        return at_and_below(alloc, document, axis, test, node);
+    }
+    let nodes = all_on(alloc, document, node, axis)?;
+    passing(alloc, document, axis, test, nodes.as_slice())
 }
 
 /// The nodes of the axis of a node that pass the node test, in the order of the axis (XPath 1.0, sections
@@ -94,7 +122,6 @@ pub fn step(
     ensures { IfOk result (λ nodes. nodes.items ≡ stepped ref_of same_ref (entries_of document.now) axis (test_of test.now) node.now) }
 {
     document.distinct_numbers();
-    let nodes = all_on(alloc, document, node, axis)?;
-    let kept = passing(alloc, document, axis, test, nodes.as_slice())?;
+    let kept = kept_on(alloc, document, node, axis, test)?;
     Ok(in_axis_order(axis, kept))
 }

@@ -12,6 +12,7 @@
 mod along;
 mod answer;
 mod extent;
+mod inner;
 mod laws;
 mod ordered;
 mod own;

@@ -1,7 +1,8 @@
 // Node tests (XPath 1.0, section 2.3).
 ghost use Rattle.std.specs.Prelude.{◌≡◌, filter, Some, IfOk, IsSome};
+ghost use Rattle.std.specs.Option.{option_map};
 ghost use Rattle.spec_meaning.specs.Step as spec;
-ghost use Rattle.spec_document.specs.Name.{same_expanded};
+ghost use Rattle.spec_document.specs.Place.{kind_of};
 ghost use Rattle.xt_syntax.specs.View.{test_of};
 ghost use Rattle.xt_tree.specs.View.{item_of};
 ghost use Rattle.xp_axes.specs.View.{AreNodes, is_passing};
@@ -55,27 +56,19 @@ fn has_local(local: &Text, name: &Option<Expanded>) -> bool
     }
 }
 
-fn is_named(wanted: &Expanded, name: &Option<Expanded>) -> bool
-    ensures { result ≡ same_expanded (Some wanted.now) name.now }
-{
-    match name {
-        None => false,
-        Some(name) => wanted.same(name),
-    }
-}
-
-// Whether a node passes a node test.
-fn passes(
+/// Whether a node, which is of this kind, passes a node test. Nothing is looked up for a test without a name.
+pub fn passes_as(
     alloc: Global,
     document: &Doc,
     axis: Axis,
     test: &Test,
+    kind: Kind,
     node: &NodeRef,
 ) -> Result<bool, Memory>
-    requires { IsSome (item_of document.now node.now) }
+    requires node { IsSome (item_of document.now node.now) }
+    requires kind { option_map kind_of (item_of document.now node.now) ≡ Some kind }
     ensures { IfOk result (λ passes. passes ≡ is_passing document.now axis (test_of test.now) node.now) }
 {
-    let kind = document.kind(node);
     match test {
         Test::AnyName => Ok(is_principal(axis, kind)),
         Test::OfType(node_type) => Ok(is_of_type(*node_type, kind)),
@@ -90,8 +83,8 @@ fn passes(
             if !is_principal(axis, kind) {
                 return Ok(false);
             }
-            let name = document.name(alloc, node)?;
-            Ok(is_named(wanted, &name))
+            let is_named = document.is_named(alloc, node, wanted)?;
+            Ok(is_named)
         }
         Test::Instruction(target) => {
             if kind != Kind::Instruction {
@@ -101,6 +94,20 @@ fn passes(
             Ok(has_local(target, &name))
         }
     }
+}
+
+/// Whether a node passes a node test.
+pub fn passes(
+    alloc: Global,
+    document: &Doc,
+    axis: Axis,
+    test: &Test,
+    node: &NodeRef,
+) -> Result<bool, Memory>
+    requires { IsSome (item_of document.now node.now) }
+    ensures { IfOk result (λ passes. passes ≡ is_passing document.now axis (test_of test.now) node.now) }
+{
+    passes_as(alloc, document, axis, test, document.kind(node), node)
 }
 
 /// The nodes that pass, in their order.
