@@ -1,5 +1,5 @@
 -- The modules that were read, each with its links.
-use Rattle.std.specs.Prelude.{◌≡◌, ℕ, Bool, true, List, [], ◌∷◌, map, Option, None, Some, nat_lt, position, slice_index, string_bytes, IsSome}
+use Rattle.std.specs.Prelude.{◌≡◌, ℕ, Bool, true, not, List, [], ◌∷◌, map, Option, None, Some, nat_lt, position, slice_index, string_bytes, IsSome}
 use Rattle.std.specs.List.{Contains, list_all}
 use Rattle.std.specs.Str.{chars}
 use Rattle.std.specs.declared.alloc.Global.{Global}
@@ -25,7 +25,7 @@ names_of entries = map name_of entries
 abbrev pub lists_of : List Entry → List (List Link)
 lists_of entries = map (λ e. links_in e.1.items) entries
 
--- ---- Numbers of modules, which show that no module leads back to itself
+-- ---- Numbers of modules, which show that links do not lead back
 
 abbrev pub number_by : List ℕ → Option ℕ → ℕ
 number_by numbers None = 0
@@ -35,29 +35,27 @@ number_by numbers (Some place) = slice_index numbers place
 abbrev pub number_in : List Entry → List ℕ → List ℕ → ℕ
 number_in entries numbers name = number_by numbers (position (is_name name) (map (λ e. e.0) entries))
 
-abbrev pub lead_below : (List ℕ → ℕ) → ℕ → List sheet.Link → Bool
-lead_below number own links = list_all (λ l. nat_lt (number l.href) own) links
+-- each link leads from its module to one of no greater number
+abbrev pub none_rises : (List ℕ → ℕ) → ℕ → List sheet.Link → Bool
+none_rises number own links = list_all (λ l. not (nat_lt own (number l.href))) links
 
--- each link leads from its module to one of a lesser number
-abbrev pub all_lead_below : (List ℕ → ℕ) → List Entry → Bool
-all_lead_below number entries = list_all (λ e. lead_below number (number (name_of e)) e.1.items) entries
+abbrev pub none_rise : (List ℕ → ℕ) → List Entry → Bool
+none_rise number entries = list_all (λ e. none_rises number (number (name_of e)) e.1.items) entries
 
-abbrev pub HasNumbers : List Entry → Type 0
-HasNumbers entries = (number : List ℕ → ℕ) × (all_lead_below number entries ≡ true)
-
--- none of these links of the module of this name leads back to it
+-- a link of the module of this name leads back to it
 abbrev pub LeadsBack : Modules → List ℕ → Link → Type 0
 LeadsBack modules name link = IsSome (modules link.href) × Reaches modules link.href name
 
-abbrev pub NoneLeadsBack : Modules → List ℕ → List Link → Type 0
-NoneLeadsBack modules name links = (l : Link) → Contains links l → LeadsBack modules name l → ⊥
+-- where one leads to a lesser number, it does not
+abbrev pub NoneFallsBack : Modules → (List ℕ → ℕ) → List ℕ → List Link → Type 0
+NoneFallsBack modules number name links = (l : Link) → Contains links l → nat_lt (number l.href) (number name) ≡ true → LeadsBack modules name l → ⊥
 
--- what is known of a module of the table before its links are judged: they are its links, it is there, and where the table is
--- without cycles none of them leads back
-abbrev pub IsKnown : Modules → Bool → List ℕ → List Link → Type 0
-IsKnown modules acyclic name links =
-    (links ≡ spec.links_in modules name) × IsSome (modules name) × (acyclic ≡ true → NoneLeadsBack modules name links)
+-- what is known of a module of the table before its links are judged: they are its links, it is there, and none that leads to a lesser
+-- number leads back
+abbrev pub IsKnown : Modules → (List ℕ → ℕ) → List ℕ → List Link → Type 0
+IsKnown modules number name links =
+    (links ≡ spec.links_in modules name) × IsSome (modules name) × NoneFallsBack modules number name links
 
-abbrev pub AreKnown : Modules → Bool → List Entry → Type 0
-AreKnown modules acyclic [] = Unit {0}
-AreKnown modules acyclic (e ∷ es) = IsKnown modules acyclic (name_of e) (links_in e.1.items) × AreKnown modules acyclic es
+abbrev pub AreKnown : Modules → (List ℕ → ℕ) → List Entry → Type 0
+AreKnown modules number [] = Unit {0}
+AreKnown modules number (e ∷ es) = IsKnown modules number (name_of e) (links_in e.1.items) × AreKnown modules number es

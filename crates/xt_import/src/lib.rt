@@ -15,6 +15,7 @@ mod listed;
 mod numbers;
 mod order;
 mod precedence;
+mod steps;
 mod table;
 mod top;
 

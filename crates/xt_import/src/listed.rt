@@ -3,13 +3,13 @@ ghost use Rattle.std.specs.Prelude.{◌≡◌, IfOk};
 ghost use Rattle.std.specs.List.{All};
 ghost use Rattle.std.specs.Str.{chars};
 ghost use Rattle.spec_structure.specs.Modules as spec;
-ghost use Rattle.xt_import.specs.Table.{AreKnown, IsKnown, names_of};
+ghost use Rattle.xt_import.specs.Table.{AreKnown, IsKnown, names_of, number_in};
 ghost use Rattle.xt_import.specs.Tree.{IsJudged, names_in};
 ghost use Rattle.xt_import.specs.View.{modules_in};
 ghost use Rattle.xt_structure.specs.View.{links_in};
 
 use crate::fault::first_fault;
-use crate::numbers::is_acyclic;
+use crate::numbers::numbers_of;
 use crate::order::link_table;
 use crate::table::LinkTable;
 use indexmap::IndexMap;
@@ -46,8 +46,8 @@ pub fn tree(
     ensures link_faults { IfOk result (λ tree. All (IsJudged (modules_in modules.now.entries)) tree.modules.items) }
 {
     let table = link_table(alloc, modules, main)?;
-    let acyclic = is_acyclic(alloc, &table)?;
-    let listed = judged(alloc, modules, &table, acyclic)?;
+    let numbers = numbers_of(alloc, &table)?;
+    let listed = judged(alloc, modules, &table, numbers.as_slice())?;
     Ok(ImportTree { modules: listed })
 }
 
@@ -56,16 +56,16 @@ fn judged(
     alloc: Global,
     modules: &IndexMap<String, Doc>,
     table: &LinkTable,
-    acyclic: bool,
+    numbers: &[usize],
 ) -> Result<Vec<ListedModule>, Memory>
     ensures names { IfOk result (λ listed. names_in listed.items ≡ names_of table.now.entries) }
-    ensures link_faults { IfOk result (λ listed. AreKnown (modules_in modules.now.entries) acyclic table.now.entries
+    ensures link_faults { IfOk result (λ listed. AreKnown (modules_in modules.now.entries) (number_in table.now.entries numbers.now) table.now.entries
         → All (IsJudged (modules_in modules.now.entries)) listed.items) }
 {
     let mut listed = Vec::new(alloc);
     for (name, links) in table {
         let name = Text::from_str(alloc, name.as_str())?;
-        listed.push(judged_module(alloc, modules, name, links.as_slice(), acyclic)?)?;
+        listed.push(judged_module(alloc, modules, table, numbers, name, links.as_slice())?)?;
     }
     Ok(listed)
 }
@@ -73,14 +73,15 @@ fn judged(
 fn judged_module(
     alloc: Global,
     modules: &IndexMap<String, Doc>,
+    table: &LinkTable,
+    numbers: &[usize],
     name: Text,
     links: &[Link],
-    acyclic: bool,
 ) -> Result<ListedModule, Memory>
     ensures name { IfOk result (λ listed. listed.name ≡ name) }
-    ensures link_fault { IfOk result (λ listed. IsKnown (modules_in modules.now.entries) acyclic name (links_in links.now)
+    ensures link_fault { IfOk result (λ listed. IsKnown (modules_in modules.now.entries) (number_in table.now.entries numbers.now) name (links_in links.now)
         → IsJudged (modules_in modules.now.entries) listed) }
 {
-    let link_fault = first_fault(alloc, modules, &name, links, acyclic)?;
+    let link_fault = first_fault(alloc, modules, table, numbers, &name, links)?;
     Ok(ListedModule { name, link_fault })
 }

@@ -57,7 +57,8 @@ pub(crate) fn number_of(table: &LinkTable, numbers: &[usize], name: &str) -> usi
     }
 }
 
-fn number_at(numbers: &[usize], place: usize) -> usize
+/// The number in this place, and 0 where there is none.
+pub(crate) fn number_at(numbers: &[usize], place: usize) -> usize
     ensures { result ≡ slice_index numbers.now place }
 {
     numbers.get(place).copied().unwrap_or(0)

@@ -12,7 +12,7 @@ returns-in-Some c there back =
     let among = stands_among c.args.links.now c.loop-link.link-index c.link-item.result (omega arith) c.link-item.is in
     let code =
     subst (λ (o : Option StaticCode). HasCode modules c.args.name.now (link_in c.link-item.result) o) c.in-Some.is
-    (c.in_ok-link_code.ensures there (λ a. back a (link_in c.link-item.result) among)) in
+    (c.in_ok-link_code.ensures there (back (link_in c.link-item.result) among)) in
     c.loop-link.invariant there back _
     (stops modules c.args.name.now c.args.links.now c.loop-link.link-index c.link-item.result c.in-Some.code c.in_ok-path-in-Some.path (omega arith) c.link-item.is code
     c.in_ok-path-in-Some.ensures)
@@ -23,7 +23,7 @@ loop-link-preserved c there back fault rest =
     let among = stands_among c.args.links.now c.loop-link.link-index c.link-item.result (omega arith) c.link-item.is in
     let code =
     subst (λ (o : Option StaticCode). HasCode modules c.args.name.now (link_in c.link-item.result) o) c.in-None.is
-    (c.in_ok-link_code.ensures there (λ a. back a (link_in c.link-item.result) among)) in
+    (c.in_ok-link_code.ensures there (back (link_in c.link-item.result) among)) in
     c.loop-link.invariant there back fault
     (goes_on modules c.args.name.now c.args.links.now c.loop-link.link-index c.link-item.result fault (omega arith) c.link-item.is code rest)
 
