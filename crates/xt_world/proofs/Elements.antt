@@ -1,39 +1,18 @@
 -- What elements of units are called tells their places apart.
-use Rattle.std.proofs.Common.{◌≡◌, ◌≤◌, ℕ, ◌+◌, ◌==◌, arith, List, [], ◌∷◌, Bool, true, false, cond, Option, None, Some, refl, sym, ap, subst, ◌∙◌, eq-eqb}
-use Rattle.std.specs.Prelude.{◌&&◌, bytes_eq}
+use Rattle.std.proofs.Common.{◌≡◌, ◌≤◌, ℕ, ◌+◌, ◌==◌, arith, List, [], ◌∷◌, Bool, true, false, cond, refl, sym, ap, subst, ◌∙◌, eq-eqb}
+use Rattle.std.specs.Prelude.{◌&&◌}
 use Rattle.std.specs.Bool.{Decides}
 use Rattle.std.proofs.lemmas.Bool.{and_parts}
 use Rattle.std.proofs.lemmas.Bool.Decides.{Decides-eqb}
-use Rattle.std.proofs.lemmas.Slice.Eq.{bytes_eq-Decides}
 use Rattle.spec_stylesheet.specs.Place.{Place}
 use Rattle.spec_stylesheet.specs.Sheet.{Unit as Piece}
-use Rattle.spec_run.specs.World.{same_module, same_element}
+use Rattle.spec_run.specs.World.{same_element}
 use Rattle.spec_run.proofs.Truths.{OfUnit, this, that}
 use Rattle.spec_node.specs.Naming.{same_ref}
 use Rattle.xt_syntax.specs.PartView.{place_of}
 use Rattle.xt_base.specs.declared.place.Place as base
 use Rattle.xt_world.specs.Numbered.{index_from, element_called}
-
-bytes_themselves : (xs : List ℕ) → bytes_eq xs xs ≡ true
-bytes_themselves xs = (bytes_eq-Decides xs xs).1 refl
-
-module_itself : (m : Option (List ℕ)) → same_module m m ≡ true
-module_itself None = refl
-module_itself (Some m) = bytes_themselves m
-
-same_modules : (m n : Option (List ℕ)) → same_module m n ≡ true → m ≡ n
-same_modules None None h = refl
-same_modules (Some m) (Some n) h = ap (λ x. Some x) ((bytes_eq-Decides m n).0 h)
-same_modules None (Some n) h = absurd (cc)
-same_modules (Some m) None h = absurd (cc)
-
-pub element_itself : (p : Place) → same_element p p ≡ true
-element_itself p = λ i. module_itself p.module_name i && bytes_themselves p.path i
-
-pub same_places : (p q : Place) → same_element p q ≡ true → p ≡ q
-same_places p q h =
-    let parts = and_parts (same_module p.module_name q.module_name) (bytes_eq p.path q.path) h in
-    λ i. record { module_name = same_modules p.module_name q.module_name parts.0 i; path = (bytes_eq-Decides p.path q.path).0 parts.1 i }
+use Rattle.xt_world.specs.Sameness.{element_itself, same_places}
 
 -- ---- indices
 pub at_least : (k : ℕ) (p : Place) (us : List Piece) → k ≤ index_from k p us

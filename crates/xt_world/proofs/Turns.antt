@@ -20,7 +20,8 @@ use Rattle.xt_questions.specs.declared.answer.ResolvedUnit.{ResolvedUnit}
 use Rattle.xt_world.specs.Numbered.{index_from, element_called}
 use Rattle.xt_world.specs.Units.{called_among, resolved_by, resolved_among}
 use Rattle.xt_world.specs.View.{unit_called}
-use Rattle.xt_world.proofs.Elements.{element_itself, same_places, at_least}
+use Rattle.xt_world.specs.Sameness.{element_itself, same_places}
+use Rattle.xt_world.proofs.Elements.{at_least}
 
 apart : (k n : ℕ) → (k ≡ n → ⊥) → (k == n) ≡ false
 apart k n h = by (k == n) refl

@@ -1,6 +1,8 @@
+pub mod Indexed
 pub mod KeyView
 pub mod Numbered
 pub mod ParameterView
+pub mod Sameness
 pub mod SourceView
 pub mod Units
 pub mod View

@@ -10,6 +10,8 @@
 #![tactic(auto)]
 
 mod found;
+mod index;
+mod key;
 mod laws;
 mod naming;
 mod parameters;

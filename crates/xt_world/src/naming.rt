@@ -8,8 +8,7 @@ ghost use Rattle.xt_syntax.specs.PartView.{with_content_of};
 ghost use Rattle.xt_syntax.specs.SheetView.{declared_of};
 
 use std::alloc::Global;
-use xt_names::Expanded;
-use xt_questions::copy_name;
+use xt_names::{Expanded, copy_name};
 use xt_syntax::{Binding, Branch, Control, Declared, Form, Instr, WithContent};
 use xt_text::Memory;
 

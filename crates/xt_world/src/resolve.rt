@@ -1,75 +1,37 @@
 // What the names that stand in a unit name, and which global of a name counts.
 ghost use Rattle.std.specs.Prelude.{◌≡◌, ◌++◌, None, map, IfOk, OnOk};
-ghost use Rattle.std.specs.List.{list_any};
 ghost use Rattle.std.specs.Option.{option_map};
 ghost use Rattle.spec_run.specs.World as definition;
 ghost use Rattle.xt_syntax.specs.PartView.{place_of};
 ghost use Rattle.xt_syntax.specs.SheetView.{declared_of, global_of, unit_of};
 ghost use Rattle.xt_questions.specs.View.{template_of, sets_of, resolved_of};
-ghost use Rattle.xt_world.specs.Numbered.{element_called, index_from};
-ghost use Rattle.xt_world.specs.Units.{elements_named, place_in, plain_aliases, plain_units, resolved_by};
+ghost use Rattle.xt_world.specs.Indexed.{AreGlobals, AreTemplates, AreTurns, units_of};
+ghost use Rattle.xt_world.specs.Numbered.{element_called};
+ghost use Rattle.xt_world.specs.Units.{elements_named, place_in, plain_aliases, resolved_by};
 
+use crate::index::{Index, Turns};
+use crate::key::same_place;
 use crate::naming::{Names, names_in};
 use std::alloc::Global;
 use std::rc::Rc;
 use xt_base::Place;
-use xt_names::Expanded;
-use xt_questions::{NamedSets, NamedTemplate, ResolvedUnit, copy_name};
+use xt_names::{Expanded, copy_name};
+use xt_questions::{NamedSets, NamedTemplate, ResolvedUnit};
 use xt_syntax::{Alias, Declared, GlobalBinding, Unit};
 use xt_text::Memory;
 use xt_tree::{NodeId, NodeRef, Part};
 
-fn same_place(place: &Place, other: &Place) -> bool
-    ensures { result ≡ definition.same_element (place_of place.now) (place_of other.now) }
-{
-    place.same(other)
-}
-
-// The turn of the first unit that stands at this place, and their number where none does.
-fn turn_of(units: &[Rc<Unit>], place: &Place) -> u64
-    ensures { result ≡ index_from 0 (place_of place.now) (plain_units units.now) }
-{
-    let mut turn = 0;
-    for unit in units {
-        if same_place(place, &unit.site.place) {
-            return turn;
-        }
-        turn += 1;
-    }
-    turn
-}
-
 /// The name of the element at this place: the turn of the first unit that stands there.
-pub fn element_called(units: &[Rc<Unit>], place: &Place) -> NodeRef
-    ensures { result ≡ element_called (plain_units units.now) (place_of place.now) }
+pub fn element_called<'a>(turns: &Turns<'a>, place: &'a Place) -> NodeRef
+    requires { AreTurns turns.now }
+    ensures { result ≡ element_called (units_of turns.now) (place_of place.now) }
 {
     // Attributes are counted from 1, so that no node of a source is called so.
     NodeRef {
         node: NodeId {
-            number: turn_of(units, place),
+            number: turns.at(place),
         },
         part: Part::Attribute(0),
-    }
-}
-
-fn is_template(name: &Expanded, declared: &Declared) -> bool
-    ensures { result ≡ definition.is_template name.now (declared_of declared.now) }
-{
-    match declared {
-        Declared::Template(template) => match &template.name {
-            None => false,
-            Some(other) => other.same(name),
-        },
-        _ => false,
-    }
-}
-
-fn is_global(name: &Expanded, declared: &Declared) -> bool
-    ensures { result ≡ definition.is_global name.now (declared_of declared.now) }
-{
-    match declared {
-        Declared::Global(global) => global.binding.name.same(name),
-        _ => false,
     }
 }
 
@@ -82,58 +44,22 @@ fn is_set(name: &Expanded, declared: &Declared) -> bool
     }
 }
 
-/// Whether one of these units is a global of this name.
-pub fn has_global(units: &[Rc<Unit>], name: &Expanded) -> bool
-    ensures { result ≡ list_any (λ unit. definition.is_global name.now unit.declared) (plain_units units.now) }
-{
-    for other in units {
-        if is_global(name, &other.declared) {
-            return true;
-        }
-    }
-    false
-}
-
-/// The place of the last template of this name.
-fn last_template<'a>(units: &'a [Rc<Unit>], name: &Expanded) -> Option<&'a Place>
-    ensures { option_map place_in result ≡ definition.last_element (definition.is_template name.now) None (plain_units units.now) }
-{
-    let mut found = None;
-    for unit in units {
-        if is_template(name, &unit.declared) {
-            found = Some(&unit.site.place);
-        }
-    }
-    found
-}
-
-/// The place of the last global of this name.
-fn last_global<'a>(units: &'a [Rc<Unit>], name: &Expanded) -> Option<&'a Place>
-    ensures { option_map place_in result ≡ definition.last_element (definition.is_global name.now) None (plain_units units.now) }
-{
-    let mut found = None;
-    for unit in units {
-        if is_global(name, &unit.declared) {
-            found = Some(&unit.site.place);
-        }
-    }
-    found
-}
-
 // Adds the template of this name, where there is one.
-fn add_template(
+fn add_template<'a>(
     alloc: Global,
-    units: &[Rc<Unit>],
-    name: &Expanded,
+    index: &Index<'a>,
+    name: &'a Expanded,
     templates: &mut Vec<NamedTemplate>,
 ) -> Result<(), Memory>
-    ensures { OnOk result (map template_of templates.new.items ≡ map template_of templates.old.items ++ definition.template_by (element_called (plain_units units.now)) name.now (definition.last_element (definition.is_template name.now) None (plain_units units.now))) }
+    requires turns { AreTurns index.now.turns }
+    requires templates { AreTemplates index.now }
+    ensures { OnOk result (map template_of templates.new.items ≡ map template_of templates.old.items ++ definition.template_by (element_called (units_of index.now.turns)) name.now (definition.last_element (definition.is_template name.now) None (units_of index.now.turns))) }
 {
-    match last_template(units, name) {
+    match index.last_template(name) {
         None => Ok(()),
         Some(place) => {
             let name = copy_name(alloc, name)?;
-            let element = element_called(units, place);
+            let element = element_called(&index.turns, place);
             templates.push(NamedTemplate { name, element })?;
             Ok(())
         }
@@ -141,52 +67,53 @@ fn add_template(
 }
 
 /// The templates of these names, where such are there.
-fn templates_called(
+fn templates_called<'a>(
     alloc: Global,
-    units: &[Rc<Unit>],
-    names: &[Expanded],
+    index: &Index<'a>,
+    names: &'a [Expanded],
 ) -> Result<Vec<NamedTemplate>, Memory>
-    ensures { IfOk result (λ list. map template_of list.items ≡ definition.templates_called (element_called (plain_units units.now)) (plain_units units.now) names.now) }
+    requires turns { AreTurns index.now.turns }
+    requires templates { AreTemplates index.now }
+    ensures { IfOk result (λ list. map template_of list.items ≡ definition.templates_called (element_called (units_of index.now.turns)) (units_of index.now.turns) names.now) }
 {
     let mut templates = Vec::new(alloc);
     for name in names {
-        add_template(alloc, units, name, &mut templates)?;
+        add_template(alloc, index, name, &mut templates)?;
     }
     Ok(templates)
 }
 
 /// The elements of all attribute sets of this name, in the order of the units (XSLT 1.0, section 7.1.4).
-fn sets_named(alloc: Global, units: &[Rc<Unit>], name: &Expanded) -> Result<Vec<NodeRef>, Memory>
-    ensures { IfOk result (λ list. list.items ≡ elements_named (plain_units units.now) name.now (plain_units units.now)) }
+fn sets_named(alloc: Global, turns: &Turns, name: &Expanded) -> Result<Vec<NodeRef>, Memory>
+    requires { AreTurns turns.now }
+    ensures { IfOk result (λ list. list.items ≡ elements_named (units_of turns.now) name.now (units_of turns.now)) }
 {
     let mut elements = Vec::new(alloc);
-    for unit in units {
+    for unit in turns.units {
         if is_set(name, &unit.declared) {
-            elements.push(element_called(units, &unit.site.place))?;
+            elements.push(element_called(turns, &unit.site.place))?;
         }
     }
     Ok(elements)
 }
 
 /// All attribute sets of this name.
-fn named_sets(alloc: Global, units: &[Rc<Unit>], name: Expanded) -> Result<NamedSets, Memory>
-    ensures { IfOk result (λ sets. sets_of sets ≡ definition.sets_of_name (element_called (plain_units units.now)) (plain_units units.now) name) }
+fn named_sets(alloc: Global, turns: &Turns, name: Expanded) -> Result<NamedSets, Memory>
+    requires { AreTurns turns.now }
+    ensures { IfOk result (λ sets. sets_of sets ≡ definition.sets_of_name (element_called (units_of turns.now)) (units_of turns.now) name) }
 {
-    let elements = sets_named(alloc, units, &name)?;
+    let elements = sets_named(alloc, turns, &name)?;
     Ok(NamedSets { name, elements })
 }
 
 /// The attribute sets of these names.
-fn sets_used(
-    alloc: Global,
-    units: &[Rc<Unit>],
-    names: Vec<Expanded>,
-) -> Result<Vec<NamedSets>, Memory>
-    ensures { IfOk result (λ list. map sets_of list.items ≡ definition.sets_used (element_called (plain_units units.now)) (plain_units units.now) names.items) }
+fn sets_used(alloc: Global, turns: &Turns, names: Vec<Expanded>) -> Result<Vec<NamedSets>, Memory>
+    requires { AreTurns turns.now }
+    ensures { IfOk result (λ list. map sets_of list.items ≡ definition.sets_used (element_called (units_of turns.now)) (units_of turns.now) names.items) }
 {
     let mut sets = Vec::new(alloc);
     for name in names {
-        let named = named_sets(alloc, units, name)?;
+        let named = named_sets(alloc, turns, name)?;
         sets.push(named)?;
     }
     Ok(sets)
@@ -210,12 +137,13 @@ pub fn name_of(global: &GlobalBinding) -> &Expanded
 }
 
 /// Of a global, whether it is the one of its name that counts.
-fn counts(units: &[Rc<Unit>], unit: &Unit) -> bool
-    ensures { result ≡ definition.counts (plain_units units.now) (unit_of unit.now) }
+fn counts<'a>(index: &Index<'a>, unit: &'a Unit) -> bool
+    requires { AreGlobals index.now }
+    ensures { result ≡ definition.counts (units_of index.now.turns) (unit_of unit.now) }
 {
     match &unit.declared {
         Declared::Global(global) => {
-            let last = last_global(units, name_of(global));
+            let last = index.last_global(name_of(global));
             is_last(&unit.site.place, last)
         }
         Declared::Template(_) => false,
@@ -228,16 +156,19 @@ fn counts(units: &[Rc<Unit>], unit: &Unit) -> bool
 pub fn resolve(
     alloc: Global,
     aliases: &Rc<Vec<Alias>>,
-    units: &[Rc<Unit>],
+    index: &Index,
     unit: &Rc<Unit>,
 ) -> Result<Rc<ResolvedUnit>, Memory>
-    ensures { IfOk result (λ r. resolved_of r.value ≡ resolved_by (plain_aliases aliases.now) (plain_units units.now) (unit_of unit.now.value)) }
+    requires turns { AreTurns index.now.turns }
+    requires templates { AreTemplates index.now }
+    requires globals { AreGlobals index.now }
+    ensures { IfOk result (λ r. resolved_of r.value ≡ resolved_by (plain_aliases aliases.now) (units_of index.now.turns) (unit_of unit.now.value)) }
 {
     let Names { called, used } = names_in(alloc, &unit.declared)?;
-    let templates = templates_called(alloc, units, called.as_slice())?;
+    let templates = templates_called(alloc, index, called.as_slice())?;
     drop(called);
-    let sets = sets_used(alloc, units, used)?;
-    let counts = counts(units, unit);
+    let sets = sets_used(alloc, &index.turns, used)?;
+    let counts = counts(index, unit);
     let resolved = ResolvedUnit {
         unit: unit.clone()?,
         templates,

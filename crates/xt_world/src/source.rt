@@ -12,10 +12,9 @@ use crate::found::{Found, FoundKeys, answer_found, find, found_for};
 use std::alloc::Global;
 use xp_eval::eval;
 use xt_document_world::PlainWorld;
-use xt_names::Expanded;
+use xt_names::{Expanded, copy_name};
 use xt_questions::{
     Answer, Context, EvalFault, Evaluate, Focus, Given, Question, Supplies, Wanted, World,
-    copy_name,
 };
 use xt_syntax::Expr;
 use xt_text::{Memory, Text};

@@ -4,12 +4,12 @@ use Rattle.spec_document.specs.Name.{Expanded}
 use Rattle.spec_run.specs.World as definition
 use Rattle.xt_questions.specs.View.{template_of}
 use Rattle.xt_world.specs.Numbered.{element_called}
-use Rattle.xt_world.specs.Units.{plain_units}
+use Rattle.xt_world.specs.Indexed.{units_of}
 use Rattle.xt_world.proofs.resolve.templates_called.Goals as goal
 
 pub loop-name-preserved : goal.loop-name-preserved
 loop-name-preserved c =
-    let us = plain_units c.args.units.now in
+    let us = units_of c.args.index.now.turns in
     let names = c.args.names.now in
     let name = c.name-item.result in
     let done = map template_of c.loop-name.templates.items in

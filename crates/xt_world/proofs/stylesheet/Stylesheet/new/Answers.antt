@@ -9,20 +9,19 @@ use Rattle.xt_world.proofs.stylesheet.Stylesheet.new.Goals as goal
 
 pub returns-clause-truth : goal.returns-clause-truth
 returns-clause-truth c =
-    let first = ap plain_units c.as_slice.ensures.value ∙ c.in_ok-units.ensures in
-    let last = ap plain_units c.as_slice-3.ensures.value ∙ c.in_ok-units.ensures in
+    let list = ap plain_units c.as_slice.ensures.value ∙ c.in_ok-units.ensures in
     let aliases = ap (λ (list : Vec Alias Global). map alias_of list.items) c.in_ok-aliases.ensures.ok in
     λ parameters document q.
     truth_is (sheet_of c.args.sheet)
-    (record { rules = c.args.sheet.rules; units = c.in_ok-units-2.units; elements = c.in_ok-elements.elements; globals = c.in_ok-globals.globals })
+    (record { rules = c.args.sheet.rules; units = c.in_ok-parts.parts.units; elements = c.in_ok-parts.parts.elements; globals = c.in_ok-parts.parts.globals })
     (record {
-      elements = c.in_ok-elements.ensures ∙ (λ i. called_among (first i) (first i));
-      units = c.in_ok-units-2.ensures {u = tt} ∙ (λ i. resolved_among (aliases i) (last i) (last i));
+      elements = c.in_ok-parts.ensures.elements ∙ (λ i. called_among (list i) (list i));
+      units = c.in_ok-parts.ensures.units ∙ (λ i. resolved_among (aliases i) (list i) (list i));
       rules = refl;
     })
     parameters document q
 
 pub returns-clause-globals : goal.returns-clause-globals
 returns-clause-globals c =
-    let second = ap plain_units c.as_slice-2.ensures.value ∙ c.in_ok-units.ensures in
-    c.in_ok-globals.ensures ∙ (λ i. globals_among (second i) (second i))
+    let list = ap plain_units c.as_slice.ensures.value ∙ c.in_ok-units.ensures in
+    c.in_ok-parts.ensures.globals ∙ (λ i. globals_among (list i) (list i))
