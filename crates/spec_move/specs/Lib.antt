@@ -1,3 +1,4 @@
 pub mod Move
 pub mod Kept
 pub mod Judged
+pub mod Changed

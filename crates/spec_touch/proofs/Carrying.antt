@@ -20,6 +20,7 @@ use Rattle.spec_edit.proofs.Numbers.{occurs-labels, stands, stands_around, stand
 use Rattle.spec_edit.proofs.Numbers.{added-earlier, numbered-again, AreOnce, AreBelow}
 use Rattle.spec_change.specs.Change.{Change, sibling_labels, passed, change_between, change_at}
 use Rattle.spec_change.proofs.Changing.{with_children, found-changed}
+use Rattle.spec_move.specs.Changed.{in_order, between, document_without, changes_between, change_by}
 use Rattle.spec_move.specs.Move.{is_path, goes_through, origin_faults, target_faults, keeps_labels, rearranged, path_without, tree_of}
 use Rattle.spec_move.specs.Move.{move_faults, placed, with_placed, carried, moved_below, moved_between, moved_from, moved_at, moved_there}
 use Rattle.spec_move.specs.Move.{moved_nodes}
@@ -30,7 +31,6 @@ use Rattle.spec_move.proofs.Moving.{Place, tree, above-by}
 use Rattle.spec_touch.specs.Leads.{Leads, seen_change}
 use Rattle.spec_stylesheet.specs.Sheet.{SpaceRule}
 use Rattle.spec_seen.specs.Seen.{seen}
-use Rattle.spec_touch.specs.Moved.{in_order, between, document_without, changes_between, change_by}
 use Rattle.spec_touch.proofs.Leading.{children-lead}
 use Rattle.spec_touch.proofs.SeenLeading.{children-lead-seen}
 use Rattle.spec_touch.proofs.Parting.{Holds, is_root, is_element, child-holds}

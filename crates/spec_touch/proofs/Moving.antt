@@ -18,6 +18,7 @@ use Rattle.spec_edit.proofs.Shapes.{answered, answer_ok, append_none, same_nodes
 use Rattle.spec_edit.proofs.Numbers.{occurs-labels, stands, AreOnce, AreBelow}
 use Rattle.spec_change.specs.Change.{Change, passed, change_between, change_at}
 use Rattle.spec_change.proofs.Changing.{with_children}
+use Rattle.spec_move.specs.Changed.{MoveChange, in_order, between, document_without, changes_between, change_by, move_change}
 use Rattle.spec_move.specs.Move.{is_path, origin_faults, target_faults, moved_there, moved_nodes, rearranged}
 use Rattle.spec_move.proofs.Around.{path-spot, steps_of}
 use Rattle.spec_move.proofs.Shapes.{reordered}
@@ -26,7 +27,7 @@ use Rattle.spec_node.specs.Naming.{ref_of, same_ref}
 use Rattle.spec_touch.specs.Touched.{is_touched}
 use Rattle.spec_touch.specs.Leads.{Leads, seen_change}
 use Rattle.spec_seen.specs.Seen.{seen}
-use Rattle.spec_touch.specs.Moved.{MoveChange, in_order, between, document_without, changes_between, change_by, move_change, asks_order, move_touched}
+use Rattle.spec_touch.specs.Moved.{asks_order, move_touched}
 use Rattle.spec_touch.proofs.Answering.{unmarked, neither-first, neither-second}
 use Rattle.spec_touch.proofs.Carrying.{Moved, is_still, is_within, is_carried, move-made, Carried, carry, document_with, change-told}
 use Rattle.spec_touch.proofs.Reordering.{sides, reordered-unmarked}

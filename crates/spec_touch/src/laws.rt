@@ -13,12 +13,13 @@ ghost use Rattle.spec_edit.specs.Valid.{IsValid};
 ghost use Rattle.spec_edit.specs.Edit.{Edit, Edited, edited_nodes};
 ghost use Rattle.spec_edit.specs.Splice.{Spot, spot_of};
 ghost use Rattle.spec_change.specs.Change.{Change, change_of};
+ghost use Rattle.spec_move.specs.Changed.{MoveChange, between, document_without, move_change};
 ghost use Rattle.spec_move.specs.Move.{is_path, moved_nodes};
 ghost use Rattle.spec_node.specs.declared.node_ref.NodeRef.{NodeRef};
 ghost use Rattle.spec_node.specs.Naming.{ref_of, same_ref};
 ghost use Rattle.spec_touch.specs.Touched.{is_touched};
 ghost use Rattle.spec_touch.specs.Leads.{KeepsSpace, Leads, seen_change};
-ghost use Rattle.spec_touch.specs.Moved.{MoveChange, between, document_without, move_change, move_touched};
+ghost use Rattle.spec_touch.specs.Moved.{move_touched};
 ghost use Rattle.spec_touch.specs.Marks.{ComesTo, World, WorldChange, answers, marks};
 
 /// Each edit that is accepted makes a change that leads from the document before to the one after, where the numbers of the
