@@ -1,0 +1,5 @@
+pub mod Onward
+pub mod Lasting
+pub mod Places
+pub mod Sets
+pub mod Replays
