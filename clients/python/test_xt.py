@@ -14,6 +14,7 @@ import sys
 import tempfile
 import unittest
 from pathlib import Path
+from unittest import mock
 from xml.etree import ElementTree
 
 import xt
@@ -392,6 +393,22 @@ class Codes(unittest.TestCase):
             self.skipTest('this is a copy of the client without the examples')
         stored = dict(line.split('\t') for line in file.read_text(encoding='utf-8').splitlines())
         self.assertEqual(xt.MEANINGS, stored)
+
+
+class OwnProgram(Folder):
+    def check(self, program):
+        with mock.patch('xt.TOP', self.folder):
+            self.assertEqual(xt.own_program(), program)
+
+    def test_a_file_that_stands_alone(self):
+        self.check('xt')
+
+    def test_one_that_is_installed(self):
+        self.check(self.file('bin/xt', ''))
+
+    def test_one_of_the_repository(self):
+        self.file('bin/xt', '')
+        self.check(self.file('xt', ''))
 
 
 def is_built():

@@ -660,11 +660,16 @@ def path_word(path):
 NOT_BUILT = 69
 
 
+def own_program():
+    """The program that belongs to this file: ./xt of this repository, bin/xt where both are installed, or xt on the
+    path where the file stands alone."""
+    return next((path for path in (TOP / 'xt', TOP / 'bin' / 'xt') if path.is_file()), 'xt')
+
+
 def program_words(program=None):
-    """The words that start a program: those that are given, of the environment variable XT, or ./xt of this
-    repository."""
+    """The words that start a program: those that are given, of the environment variable XT, or of its own program."""
     if program is None:
-        program = os.environ['XT'].split() if os.environ.get('XT') else TOP / 'xt'
+        program = os.environ['XT'].split() if os.environ.get('XT') else own_program()
     return [os.fspath(program)] if isinstance(program, (str, os.PathLike)) else list(program)
 
 
@@ -716,8 +721,8 @@ class Session:
     result raises the Refused. A session is for one thread."""
 
     def __init__(self, program=None, external=False):
-        """Starts the program: a path, or words; by default those of the environment variable XT, or ./xt of this
-        repository, where the proved program is built. `external` is as in `document_of`."""
+        """Starts the program: a path, or words; by default those of the environment variable XT, or its own
+        program (`own_program`), which must be the proved one. `external` is as in `document_of`."""
         self.external = external
         self.refusal = None
         self.status = None

@@ -1,4 +1,4 @@
-"""What examples/transform and examples/preview share: the client, their words, and how they end."""
+"""What examples/transform, examples/preview and examples/browser share: the client, their words, and how they end."""
 import os
 import re
 import sys

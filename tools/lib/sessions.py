@@ -6,12 +6,8 @@ import os
 import re
 import resource
 import subprocess
-import sys
 import tempfile
-from pathlib import Path
 from typing import NamedTuple
-
-from transforming import PROGRAM, is_current, want_program
 
 MEBIBYTE = 1 << 20
 
@@ -141,18 +137,6 @@ def run(program, data, words=('session',), environment=None):
         process.returncode = os.waitstatus_to_exitcode(ended)
         errors.seek(0)
         return Run(process.returncode, written, errors.read(), usage.ru_maxrss * 1024)
-
-
-def chosen_program(path):
-    """The program at this path, or the one that is built here where none is named; ends where there is none."""
-    if path:
-        if not os.access(path, os.X_OK):
-            sys.exit(f'no program {path}')
-        return os.path.abspath(path)
-    want_program()
-    if not is_current(Path(PROGRAM)):
-        print('the program is older than a file that it is made of', file=sys.stderr)
-    return PROGRAM
 
 
 # ---- Replies

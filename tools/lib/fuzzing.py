@@ -1,12 +1,10 @@
 """Sessions by chance for `tools/fuzz`: mutations of those that are stored, and new ones."""
 import re
-from pathlib import Path
 
-from sessions import FORMS, MEBIBYTE, Command, commands_of
-from stylesheets import NAMES, TEXTS, Growing
-from transforming import SHEET
-
-TOP = Path(__file__).resolve().parent.parent
+from lib.crates import TOP
+from lib.documents import SHEET
+from lib.sessions import FORMS, MEBIBYTE, Command, commands_of
+from lib.stylesheets import NAMES, TEXTS, Growing
 
 # What a mutation puts somewhere: bytes and words that mean something to the program, and some that are no text.
 TOKENS = [

@@ -1,5 +1,5 @@
 """Documents and stylesheets by chance, as lines of PYX, for `tools/fuzz`. Most of them are good, and have a result."""
-from transforming import SHEET
+from lib.documents import SHEET
 
 NAMES = ['a', 'b', 'c', 'item', 'p:a', 'q:b', 'é']
 TEXTS = [

@@ -1,0 +1,1 @@
+"""What the tools share. A tool is a program of its own beside this folder."""
