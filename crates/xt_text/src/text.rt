@@ -10,11 +10,19 @@ use std::rc::Rc;
 
 /// A text. Its copies share its memory until something is added to one of them. Contracts see the list of its
 /// characters.
-#[derive(Debug, Drop)]
+#[derive(Debug)]
 pub struct Text {
     alloc: Global,
     // None where it has no character and takes no memory.
     shared: Option<Rc<String>>,
+}
+
+// Written out, so that letting a text go is one call where it stands and no choice by what it holds.
+impl Drop for Text {
+    fn drop(self) {
+        let Text { alloc: _, shared } = self;
+        drop(shared);
+    }
 }
 
 impl Model for Text {

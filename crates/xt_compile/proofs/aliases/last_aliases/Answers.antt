@@ -17,13 +17,6 @@ loop-alias-preserved-in-Continue-1 c =
           (keeps_one c.loop-alias.last.items i.0 c.in-Some.alias i.2 none),
     )
 
-pub loop-alias-preserved-else-not-is_aliased : goal.loop-alias-preserved-else-not-is_aliased
-loop-alias-preserved-else-not-is_aliased c =
-    let i = c.loop-alias.invariant in
-    let some = ap (λ (kept : List Alias). list_any (is_alias_of (alias_of c.in-Some.alias)) (map alias_of kept)) (sym c.as_slice.ensures.value)
-    ∙ sym c.is_aliased.ensures ∙ c.if-not-is_aliased.false in
-    (c.in-Some.alias ∷ i.0, is_later _ _ _ c.in-Some.alias i.0 (c.in-Some.ensures {u = tt}).items i.1, keeps_none c.loop-alias.last.items i.0 c.in-Some.alias i.2 some)
-
 pub loop-alias-preserved : goal.loop-alias-preserved
 loop-alias-preserved c =
     let i = c.loop-alias.invariant in

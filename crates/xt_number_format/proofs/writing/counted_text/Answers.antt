@@ -32,7 +32,7 @@ returns-then-is-2 c =
     let not_A = ap (bytes_eq token) (sym A_is) ∙ sym c.is.ensures ∙ c.if-is.false in
     let is_a = ap (bytes_eq token) (sym a_is) ∙ sym c.is-2.ensures ∙ c.if-is-2.true in
     IfOk-weaker c.lowercase.result _ _
-    (λ t is. is ∙ ap (map to_ascii_lowercase) (c.as_str-then-is-2-2.ensures.characters ∙ c.in_ok-letters.ensures)
+    (λ t is. is ∙ ap (map to_ascii_lowercase) (c.as_str-then-is-2.ensures.characters ∙ c.in_ok-letters.ensures)
     ∙ sym (by_small_letter c.args.grouping.now token c.args.number other not_A is_a))
     c.lowercase.ensures
 
@@ -57,7 +57,7 @@ returns-then-number-le-GREATEST_ROMAN-2 c =
     let not_I = subst Past (c.is-3.ensures ∙ ap (bytes_eq token) I_is) c.else-is-3.either in
     let is_i = ap (bytes_eq token) (sym i_is) ∙ sym c.is-4.ensures ∙ c.if-is-4.true in
     IfOk-weaker c.lowercase-then-number-le-GREATEST_ROMAN-2.result _ _
-    (λ t is. is ∙ ap (map to_ascii_lowercase) (c.as_str-then-number-le-GREATEST_ROMAN-2-2.ensures.characters ∙ c.in_ok-roman.ensures)
+    (λ t is. is ∙ ap (map to_ascii_lowercase) (c.as_str-then-number-le-GREATEST_ROMAN-2.ensures.characters ∙ c.in_ok-roman.ensures)
     ∙ sym (by_small_roman c.args.grouping.now token c.args.number other not_A not_a not_I is_i c.if-number-le-GREATEST_ROMAN-2.true))
     c.lowercase-then-number-le-GREATEST_ROMAN-2.ensures
 
