@@ -1,0 +1,4 @@
+pub mod Leading
+pub mod Members
+pub mod Missing
+pub mod Siblings

@@ -1,0 +1,3 @@
+pub mod Missing
+pub mod Sets
+pub mod View

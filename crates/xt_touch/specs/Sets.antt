@@ -1,0 +1,19 @@
+-- Sets of numbers, seen as lists of which it counts alone what is among them.
+use Rattle.std.specs.Prelude.{ℕ, ◌≡◌, ◌==◌, Bool, ◌&&◌, List, ◌∷◌, ◌++◌}
+use Rattle.spec_change.specs.Change.{Change, is_among}
+use Rattle.spec_node.specs.declared.node_ref.NodeRef.{NodeRef}
+use Rattle.spec_touch.specs.Touched.{is_attribute}
+
+-- the same numbers are among both
+abbrev pub AreSame : (numbers others : List ℕ) → Type 0
+AreSame numbers others = (n : ℕ) → is_among numbers n ≡ is_among others n
+
+-- the sets that a change is looked up in: the nodes that go or come, the node of the change with those above it, and its children before and after
+pub record AreSetsOf (change : Change) (moving holding children : List ℕ) : Type 0 where
+  pub of_moving : AreSame moving (change.gone ++ change.brought)
+  pub of_holding : AreSame holding (change.node ∷ change.above)
+  pub of_children : AreSame children (change.before ++ change.after)
+
+-- an attribute of an element whose attributes change
+abbrev pub is_changed_attribute : Change → NodeRef → Bool
+is_changed_attribute change node = change.of_attributes && is_attribute node.part && (node.node.number == change.node)

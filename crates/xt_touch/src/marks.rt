@@ -1,0 +1,105 @@
+// Which questions a change of a world marks.
+ghost use Rattle.std.specs.Prelude.{◌≡◌, IfOk};
+ghost use Rattle.spec_touch.specs.Marks as spec;
+ghost use Rattle.xt_questions.specs.View.{question_of};
+ghost use Rattle.xt_touch.specs.View.{marked_by, world_change_of};
+
+use crate::WorldChange;
+use crate::source::SourceMarks;
+use std::alloc::Global;
+use xt_questions::Question;
+use xt_text::{Memory, Text};
+
+/// A change of a world, ready to be asked which questions it marks.
+#[derive(Drop)]
+pub struct Marks {
+    cause: Cause,
+}
+
+// What changed.
+#[derive(Drop)]
+enum Cause {
+    // The source, by an edit.
+    Edit(SourceMarks),
+    // The source, for another one.
+    Source,
+    // Modules.
+    Modules { is_seen_as_before: bool },
+    // The parameter of this name.
+    Parameter(Text),
+}
+
+impl Marks {
+    /// What this change marks. Takes time for all that the change holds.
+    pub fn new(alloc: Global, change: WorldChange) -> Result<Marks, Memory>
+        ensures { IfOk result (λ marks. marked_by marks ≡ world_change_of change) }
+    {
+        let cause = match change {
+            WorldChange::SourceEdited(change) => Cause::Edit(SourceMarks::new(alloc, change)?),
+            WorldChange::SourceGiven => Cause::Source,
+            WorldChange::ModulesChanged { is_seen_as_before } => Cause::Modules {
+                is_seen_as_before,
+            },
+            WorldChange::ParameterGiven(name) => Cause::Parameter(name),
+        };
+        Ok(Marks { cause })
+    }
+
+    /// Whether it marks this question. Takes no memory, and a few look-ups whatever the change holds.
+    pub fn is_marked(&self, question: &Question) -> bool
+        ensures { result ≡ spec.marks (marked_by self.now) (question_of question.now) }
+    {
+        match &self.cause {
+            Cause::Edit(source) => source.touches(question),
+            Cause::Source => true,
+            Cause::Modules { is_seen_as_before } => marked_by_modules(*is_seen_as_before, question),
+            Cause::Parameter(name) => by_parameter(name, question),
+        }
+    }
+}
+
+fn marked_by_modules(is_seen_as_before: bool, question: &Question) -> bool
+    ensures { result ≡ spec.marks (spec.ModulesChanged is_seen_as_before) (question_of question.now) }
+{
+    if is_seen_as_before {
+        by_modules(question)
+    } else {
+        true
+    }
+}
+
+// Whether the answer tells of the stylesheet, or rests on what stands in it.
+fn by_modules(question: &Question) -> bool
+    ensures { result ≡ spec.by_modules (question_of question.now) }
+{
+    match question {
+        Question::Step(_, _, _) => false,
+        Question::Text(_) => false,
+        Question::Name(_) => false,
+        Question::Place(_) => false,
+        Question::Order(_) => false,
+        Question::Key(_, _) => true,
+        Question::Choice(_, _, _) => true,
+        Question::Copy(_) => false,
+        Question::Unit(_) => true,
+        Question::External(_) => false,
+    }
+}
+
+// Whether it asks for the parameter of this name.
+fn by_parameter(given: &Text, question: &Question) -> bool
+    ensures { result ≡ spec.by_parameter given.now (question_of question.now) }
+{
+    match question {
+        Question::Step(_, _, _) => false,
+        Question::Text(_) => false,
+        Question::Name(_) => false,
+        Question::Place(_) => false,
+        Question::Order(_) => false,
+        Question::Key(_, _) => false,
+        Question::Choice(_, _, _) => false,
+        Question::Copy(_) => false,
+        Question::Unit(_) => false,
+        Question::External(name) => given.same(name),
+    }
+}
