@@ -345,7 +345,7 @@ class Replies(unittest.TestCase):
         return reply
 
     def test_one_line(self):
-        for line in ('ok done', 'ok refused S10 main/1/2', 'no 6', 'refused S02 -'):
+        for line in ('ok done', 'ok refused S10 main/1/2', 'no 6', 'refused S02 -', 'ran 3 asked 12'):
             self.assertEqual(self.read(line.encode() + b'\n')[1:], (line, None, None))
 
     def test_lines(self):
@@ -504,6 +504,11 @@ class Sessions(Folder):
             <xsl:template match="/">a&#10;é<xsl:message>m\n</xsl:message></xsl:template>'''
         self.assertIsNone(session.insert('main', '/1/1', parts))
         self.assertEqual((session.write(), session.messages()), ('a\né', ['m\n']))
+
+    def test_counts(self):
+        with xt.Session() as session:
+            self.assertEqual(session.stats(), (0, 0))
+        self.assertGreater(self.session().stats().ran, 0)
 
     def test_a_stylesheet_of_files(self):
         session = self.session()

@@ -597,6 +597,12 @@ class Reply(NamedTuple):
     text: Optional[str] = None
 
 
+class Counts(NamedTuple):
+    """What a change has cost: how many instantiations were run, and how many kept reads were asked again."""
+    ran: int
+    asked: int
+
+
 def read_line(stream):
     """The next line of a stream of bytes, with its line feed."""
     line = stream.readline()
@@ -609,7 +615,7 @@ def read_reply(stream):
     """The next reply of a stream of bytes; EOFError where the stream ends before it does."""
     first = read_line(stream)
     line = first[:-1].decode()
-    if line.startswith(('ok ', 'no ', 'refused ')):
+    if line.startswith(('ok ', 'no ', 'refused ', 'ran ')):
         return Reply(first, line)
     if line.startswith('text '):
         size = int(line[5:])
@@ -820,6 +826,13 @@ class Session:
     def messages(self):
         """What xsl:message said in the last run: a list of texts."""
         return [unescaped(line[1:]) for line in self._shown('messages').lines]
+
+    def stats(self):
+        """What the last accepted change has cost (`Counts`)."""
+        reply = self.ask('stats')
+        if not reply.line.startswith('ran '):
+            raise not_taken(reply)
+        return Counts(*(int(number) for number in reply.line.split(' ')[1::2]))
 
     def dump(self, document):
         """The lines of a document as it is held."""

@@ -60,6 +60,7 @@ fn push_command(out: &mut Text, command: &Command) -> Result<(), Memory> {
         Command::Show => push_part(out, "show"),
         Command::Write => push_part(out, "write"),
         Command::Messages => push_part(out, "messages"),
+        Command::Statistics => push_part(out, "stats"),
         Command::Dump(document) => push_document(out, "dump", document),
         edit => push_edit(out, edit),
     }

@@ -32,7 +32,7 @@ use Rattle.spec_session.specs.Request.{SetAttribute}
 use Rattle.spec_session.specs.Request.{RemoveAttribute, Rename, Move, SetParameter, Show, Write, Messages, Dump, Statistics, request_of}
 use Rattle.spec_session.specs.Reply.{Reply}
 use Rattle.spec_session.specs.Machine.{State, initial, document_named, Answer, Refuses, Changes, ShowsResult, WritesResult, ShowsMessages}
-use Rattle.spec_session.specs.Machine.{ShowsDocument}
+use Rattle.spec_session.specs.Machine.{ShowsDocument, TellsCounts}
 use Rattle.spec_session.specs.Machine.{kept_by, dropped_by, given_by, with_document, edited_by, edited_in, shows, answer_to, answer_by}
 use Rattle.spec_session.specs.Machine.{answer_of as answer_in}
 use Rattle.spec_session.specs.Machine.{Gives, Step, Run}
@@ -210,6 +210,7 @@ IfChanged ShowsResult = Unit {0}
 IfChanged WritesResult = Unit {0}
 IfChanged ShowsMessages = Unit {0}
 IfChanged (ShowsDocument tree) = Unit {0}
+IfChanged TellsCounts = Unit {0}
 
 module _ (old : State) (held : AreHeld old) where
   read-held : (name : DocumentName) (body : List (List ℕ)) (r : Result (Document ℕ) Fault) → document_of root_scope old.made body ≡ r
@@ -301,6 +302,7 @@ module _ (old : State) (held : AreHeld old) where
   gives-held WritesResult h reply new g = same-held new g.1
   gives-held ShowsMessages h reply new g = same-held new g.1
   gives-held (ShowsDocument tree) h reply new g = same-held new g.1
+  gives-held TellsCounts h reply new g = same-held new g.1
 
   step-held : (command : Command) (reply : Reply) (new : State) → Step old command reply new → AreHeld new
   step-held command reply new (inl g) = gives-held (answer_in old command) (answer-held (request_of command)) reply new g

@@ -2,8 +2,7 @@
 //! same run, and what a change may be told to have cost.
 //!
 //! Read `specs/Instantiation.antt`, which says what a run enters; then `specs/Serving.antt`, `specs/Record.antt` and
-//! `specs/Cost.antt`. There is no code here but the laws, whose functions have no body. Nothing of the program rests on
-//! them yet.
+//! `specs/Cost.antt`. There is no code here but the laws, whose functions have no body.
 #![tactic(auto)]
 
 mod laws;

@@ -113,7 +113,7 @@ to old finite (Move document path other) = moved old finite document path other
 to old finite (SetParameter name value) = given name value old finite
 to old finite Write = tt
 to old finite Messages = tt
-to old finite Statistics = lit< tt
+to old finite Statistics = tt
 
 formed : (old : State) → AreFinite old.documents → (o : Option Request) → IsOther (answer_by old (or_number o 4))
 formed old finite None = lit< tt

@@ -1,13 +1,13 @@
 -- Worked examples of what a call that serves a session has done. The check computes both sides of each fact.
 use Rattle.std.specs.Prelude.{ℕ, ◌≡◌, refl, true, List, [], ◌∷◌, Some, codes}
-use Rattle.std.proofs.Common.{length, sym, ◌∙◌, ap, arith, append-nil, inl}
+use Rattle.std.proofs.Common.{length, sym, ◌∙◌, ap, arith, lit<, append-nil, inl}
 use Rattle.std.specs.Str.{chars, is_utf8}
 use Rattle.std.specs.Fmt.{digits}
 use lib.Utf8.{encode}
 use Rattle.spec_lines.specs.Lines.{ended_lines}
 use Rattle.spec_session.specs.declared.kinds.Ending.TheVariants.{Finished, Quit, Unfinished}
 use Rattle.spec_session.specs.Command.{session_of, status_of}
-use Rattle.spec_session.specs.Reply.{Refused}
+use Rattle.spec_session.specs.Reply.{Refused, Counted}
 use Rattle.spec_run.specs.Outcome.{Failed, no_main}
 use Rattle.spec_session.specs.Machine.{initial}
 use Rattle.spec_session.specs.Served.{AreReplies, IsServed, IsCutShort, Serves}
@@ -34,6 +34,31 @@ show_is_answered = record {
   run = (initial, inl ((Failed no_main [], refl, refl), refl), refl);
   bytes = refl;
 }
+
+-- the counts at the start, and any others: the machine allows both
+counts_are_answered : AreReplies (session_of (codes "stats" ∷ [])).commands (codes "ran 0 asked 0\n")
+unfolding chars is_utf8 encode digits
+counts_are_answered = record {
+  replies = Counted 0 0 ∷ [];
+  state = initial;
+  run = (initial, inl (record { ran = 0; asked = 0; ran_fits = lit< tt; asked_fits = lit< tt; is = refl }, refl), refl);
+  bytes = refl;
+}
+
+other_counts_are_answered : AreReplies (session_of (codes "stats" ∷ [])).commands (codes "ran 12 asked 304\n")
+unfolding chars is_utf8 encode digits
+other_counts_are_answered = record {
+  replies = Counted 12 304 ∷ [];
+  state = initial;
+  run = (initial, inl (record { ran = 12; asked = 304; ran_fits = lit< tt; asked_fits = lit< tt; is = refl }, refl), refl);
+  bytes = refl;
+}
+
+pub counts_answered : IsServed 100 (codes "stats\n") 0 (codes "ran 0 asked 0\n")
+counts_answered = record { answered = counts_are_answered; ends = refl }
+
+pub other_counts_answered : IsServed 100 (codes "stats\n") 0 (codes "ran 12 asked 304\n")
+other_counts_answered = record { answered = other_counts_are_answered; ends = refl }
 
 -- a reply to each command up to `quit`
 pub answered_up_to_quit : IsServed 100 (codes "show\r\n\nquit\nshow\n") 0 shown_at_start

@@ -1,17 +1,19 @@
--- The machine has a step at each command in each state that it comes to, and but for want of memory only one.
-use Rattle.std.proofs.Common.{◌≡◌, ℕ, true, List, Option, None, Some, refl, sym, ◌∙◌, ap, subst, arith, inl, inr}
+-- The machine has a step at each command in each state that it comes to, and but for want of memory and the counts only one.
+use Rattle.std.proofs.Common.{◌≡◌, ℕ, true, List, Option, None, Some, Ok, refl, sym, ◌∙◌, ap, subst, arith, lit<, inl, inr}
 use Rattle.std.specs.Prelude.{◌≢◌, ◌<◌}
 use Rattle.spec_document.specs.Forest.{Plain}
 use Rattle.spec_session.specs.Command.{Command}
-use Rattle.spec_session.specs.Reply.{Reply, OkDone, OkRefused, Refused, Shown, Written, No}
+use Rattle.spec_session.specs.Request.{Statistics, request_of}
+use Rattle.spec_session.specs.Reply.{Reply, OkDone, OkRefused, Refused, Shown, Written, Counted, No}
 use Rattle.spec_document.specs.Name.{Expanded}
 use Rattle.spec_stylesheet.specs.declared.method.Method.{Method}
 use Rattle.spec_stylesheet.specs.declared.method.Method.TheVariants as method
 use Rattle.spec_structure.specs.Modules.{is_among}
 use Rattle.spec_run.specs.Documents.{Documents}
 use Rattle.spec_run.specs.Outcome.{Outcome, Done, Failed, IsOutcome}
-use Rattle.spec_session.specs.Machine.{State, Answer, Refuses, Changes, ShowsResult, WritesResult, ShowsMessages, ShowsDocument, Gives, Step, answer_of}
-use Rattle.spec_session.specs.Machine.{change_reply, result_reply, written_by, written_reply, messages_reply}
+use Rattle.spec_session.specs.Machine.{State, Answer, Refuses, Changes, ShowsResult, WritesResult, ShowsMessages, ShowsDocument, TellsCounts, Gives, Step}
+use Rattle.spec_session.specs.Machine.{change_reply, result_reply, written_by, written_reply, messages_reply, answer_of}
+use Rattle.spec_session.proofs.Counts.{no_counts}
 
 number_in : Reply → ℕ
 number_in (No number) = number
@@ -20,6 +22,7 @@ number_in (OkRefused why) = 0
 number_in (Refused why) = 0
 number_in (Shown lines) = 0
 number_in (Written text) = 0
+number_in (Counted ran asked) = 0
 
 -- what is given and is not for want of memory: it cannot be that nothing is
 abbrev pub HasReply : State → Answer → Type 0
@@ -48,6 +51,7 @@ IsOther ShowsResult = Unit {0}
 IsOther WritesResult = Unit {0}
 IsOther ShowsMessages = Unit {0}
 IsOther (ShowsDocument tree) = Unit {0}
+IsOther TellsCounts = Unit {0}
 
 above : (n : ℕ) → 1 < n → n ≡ 1 → ⊥
 above n h e = omega arith
@@ -83,26 +87,46 @@ gives some old finite WritesResult h none =
 gives some old finite ShowsMessages h none =
     some old.documents finite.names finite.all (λ o. none (messages_reply o.0, old, ((o.0, o.1, refl), refl), λ e. cc))
 gives some old finite (ShowsDocument tree) h none = none (Shown _, old, (refl, refl), λ e. cc)
+gives some old finite TellsCounts h none =
+    none (Counted 0 0, old, (record { ran = 0; asked = 0; ran_fits = lit< tt; asked_fits = lit< tt; is = refl }, refl), λ e. cc)
 
--- what one answer gives is one reply and one state
-pub one : OneOutcome → (old : State) (answer : Answer) (reply other : Reply) (new another : State) → Gives old answer reply new
-    → Gives old answer other another → (reply ≡ other) × (new ≡ another)
-one same old (Refuses number) reply other new another g h = (g.0 ∙ sym h.0, g.1 ∙ sym h.1)
-one same old (Changes next) reply other new another g h =
-    (g.0.2 ∙ ap change_reply (same next.documents g.0.0 h.0.0 g.0.1 h.0.1) ∙ sym h.0.2, g.1 ∙ sym h.1)
-one same old ShowsResult reply other new another g h =
-    (g.0.2 ∙ ap result_reply (same old.documents g.0.0 h.0.0 g.0.1 h.0.1) ∙ sym h.0.2, g.1 ∙ sym h.1)
-one same old WritesResult reply other new another g h =
-    (g.0.2 ∙ ap written_reply (same old.documents g.0.0 h.0.0 g.0.1 h.0.1) ∙ sym h.0.2, g.1 ∙ sym h.1)
-one same old ShowsMessages reply other new another g h =
-    (g.0.2 ∙ ap messages_reply (same old.documents g.0.0 h.0.0 g.0.1 h.0.1) ∙ sym h.0.2, g.1 ∙ sym h.1)
-one same old (ShowsDocument tree) reply other new another g h = (g.0 ∙ sym h.0, g.1 ∙ sym h.1)
+-- what one answer gives is one state, and one reply but for the counts
+one_state : (old : State) (answer : Answer) (reply other : Reply) (new another : State) → Gives old answer reply new → Gives old answer other another
+    → new ≡ another
+one_state old (Refuses number) reply other new another g h = g.1 ∙ sym h.1
+one_state old (Changes next) reply other new another g h = g.1 ∙ sym h.1
+one_state old ShowsResult reply other new another g h = g.1 ∙ sym h.1
+one_state old WritesResult reply other new another g h = g.1 ∙ sym h.1
+one_state old ShowsMessages reply other new another g h = g.1 ∙ sym h.1
+one_state old (ShowsDocument tree) reply other new another g h = g.1 ∙ sym h.1
+one_state old TellsCounts reply other new another g h = g.1 ∙ sym h.1
 
-pub steps_agree_lem : OneOutcome → (old : State) (command : Command) (reply other : Reply) (new another : State)
-    → Step old command reply new → Step old command other another → reply ≢ No 1 → other ≢ No 1 → (reply ≡ other) × (new ≡ another)
-steps_agree_lem same old command reply other new another (inl g) (inl h) m n = one same old (answer_of old command) reply other new another g h
-steps_agree_lem same old command reply other new another (inr g) h m n = absurd (m g.0)
-steps_agree_lem same old command reply other new another (inl g) (inr h) m n = absurd (n h.0)
+one_reply : OneOutcome → (old : State) (answer : Answer) (reply other : Reply) (new another : State) → answer ≢ TellsCounts → Gives old answer reply new
+    → Gives old answer other another → reply ≡ other
+one_reply same old (Refuses number) reply other new another n g h = g.0 ∙ sym h.0
+one_reply same old (Changes next) reply other new another n g h =
+    g.0.2 ∙ ap change_reply (same next.documents g.0.0 h.0.0 g.0.1 h.0.1) ∙ sym h.0.2
+one_reply same old ShowsResult reply other new another n g h =
+    g.0.2 ∙ ap result_reply (same old.documents g.0.0 h.0.0 g.0.1 h.0.1) ∙ sym h.0.2
+one_reply same old WritesResult reply other new another n g h =
+    g.0.2 ∙ ap written_reply (same old.documents g.0.0 h.0.0 g.0.1 h.0.1) ∙ sym h.0.2
+one_reply same old ShowsMessages reply other new another n g h =
+    g.0.2 ∙ ap messages_reply (same old.documents g.0.0 h.0.0 g.0.1 h.0.1) ∙ sym h.0.2
+one_reply same old (ShowsDocument tree) reply other new another n g h = g.0 ∙ sym h.0
+one_reply same old TellsCounts reply other new another n g h = absurd (n refl)
+
+pub states_agree : (old : State) (command : Command) (reply other : Reply) (new another : State) → Step old command reply new
+    → Step old command other another → reply ≢ No 1 → other ≢ No 1 → new ≡ another
+states_agree old command reply other new another (inl g) (inl h) m n = one_state old (answer_of old command) reply other new another g h
+states_agree old command reply other new another (inr g) h m n = absurd (m g.0)
+states_agree old command reply other new another (inl g) (inr h) m n = absurd (n h.0)
+
+pub replies_agree : OneOutcome → (old : State) (command : Command) (reply other : Reply) (new another : State) → request_of command ≢ Ok Statistics
+    → Step old command reply new → Step old command other another → reply ≢ No 1 → other ≢ No 1 → reply ≡ other
+replies_agree same old command reply other new another differs (inl g) (inl h) m n =
+    one_reply same old (answer_of old command) reply other new another (no_counts old (request_of command) differs) g h
+replies_agree same old command reply other new another differs (inr g) h m n = absurd (m g.0)
+replies_agree same old command reply other new another differs (inl g) (inr h) m n = absurd (n h.0)
 
 -- ---- States that a run comes to
 
@@ -118,3 +142,4 @@ finite_after old finite ShowsResult h reply new g = same_state old new finite g.
 finite_after old finite WritesResult h reply new g = same_state old new finite g.1
 finite_after old finite ShowsMessages h reply new g = same_state old new finite g.1
 finite_after old finite (ShowsDocument tree) h reply new g = same_state old new finite g.1
+finite_after old finite TellsCounts h reply new g = same_state old new finite g.1

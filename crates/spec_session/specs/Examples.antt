@@ -8,7 +8,7 @@ use Rattle.spec_document.specs.Forest.{Plain, Empty, Node, Element, Text, Commen
 use Rattle.spec_session.specs.declared.kinds.Ending.TheVariants.{Finished, Quit, Unfinished}
 use Rattle.spec_session.specs.Command.{session_of, status_of}
 use Rattle.spec_session.specs.Request.{Request, SetSource, SetModule, DropModule, Insert, Delete, SetText, SetAttribute, RemoveAttribute, Rename, Move}
-use Rattle.spec_session.specs.Request.{SetParameter, Write, Messages, Dump, SourceName, ModuleName, words_of, asked_by, request_of, path_of}
+use Rattle.spec_session.specs.Request.{SetParameter, Write, Messages, Dump, Statistics, SourceName, ModuleName, words_of, asked_by, request_of, path_of}
 use Rattle.spec_run.specs.Documents.{Documents, no_documents, with_source, with_module, without_module, with_parameter}
 use Rattle.spec_structure.specs.Modules.{reads, no_link, no_fault}
 use Rattle.spec_compile.specs.Sheet.{refused, faulty}
@@ -16,8 +16,8 @@ use Rattle.spec_run.specs.Outcome.{Failed, IsOutcome, no_main, no_source}
 use Rattle.spec_expression.specs.declared.code.Code.TheVariants.{Static, Dynamic}
 use Rattle.spec_expression.specs.declared.code.StaticCode.TheVariants.{NoStylesheet}
 use Rattle.spec_expression.specs.declared.code.DynCode.TheVariants.{TooDeep}
-use Rattle.spec_session.specs.Machine.{State, initial, answer_to, Refuses, Changes, ShowsDocument, messages_reply}
-use Rattle.spec_session.specs.Reply.{OkRefused, Refused, Shown, Written, No, reply_bytes}
+use Rattle.spec_session.specs.Machine.{State, initial, answer_to, Refuses, Changes, ShowsDocument, TellsCounts, messages_reply}
+use Rattle.spec_session.specs.Reply.{OkRefused, Refused, Shown, Written, Counted, No, reply_bytes}
 
 -- a body goes up to a line `.`; empty lines between commands are skipped; `quit` ends the session
 pub commands_with_bodies : session_of (codes "source x" ∷ codes "(a" ∷ [] ∷ codes "." ∷ [] ∷ codes "show" ∷ codes "quit" ∷ codes "show" ∷ [])
@@ -135,9 +135,17 @@ pub unknown_word : asks (codes " show") ≡ Err 3
 unfolding chars is_utf8 encode
 unknown_word = refl
 
-pub not_taken_word : asks (codes "stats") ≡ Err 3
+pub counts_asked : asks (codes "stats") ≡ Ok Statistics
 unfolding chars is_utf8 encode
-not_taken_word = refl
+counts_asked = refl
+
+pub counts_with_a_word : asks (codes "stats all") ≡ Err 4
+unfolding chars is_utf8 encode
+counts_with_a_word = refl
+
+pub longer_word : asks (codes "statistics") ≡ Err 3
+unfolding chars is_utf8 encode
+longer_word = refl
 
 pub word_too_many : asks (codes "show ") ≡ Err 4
 unfolding chars is_utf8 encode
@@ -355,6 +363,11 @@ move_of_no_node = refl
 pub move_of_the_root : answer_to moved (Move SourceName [] (1 ∷ 1 ∷ [])) ≡ Refuses 7
 move_of_the_root = refl
 
+-- ---- What the counts come to
+
+pub counts_told : answer_to initial Statistics ≡ TellsCounts
+counts_told = refl
+
 -- ---- Replies
 
 pub shown : reply_bytes (Shown (lines_of (leaf (codes "out") (codes "h\ti")))) ≡ codes "(out\n-h\\ti\n)out\n.\n"
@@ -370,6 +383,14 @@ messages_shown = refl
 pub written : reply_bytes (Written (codes "a\nb" ++ 0xE9 ∷ [])) ≡ codes "text 5\na\nb" ++ 0xC3 ∷ 0xA9 ∷ 0xA ∷ []
 unfolding encode digits
 written = refl
+
+pub counted : reply_bytes (Counted 12 304) ≡ codes "ran 12 asked 304\n"
+unfolding encode digits
+counted = refl
+
+pub counted_at_start : reply_bytes (Counted 0 0) ≡ codes "ran 0 asked 0\n"
+unfolding encode digits
+counted_at_start = refl
 
 pub refused_change : reply_bytes (OkRefused no_main) ≡ codes "ok refused S01 -\n"
 unfolding encode digits

@@ -1,5 +1,5 @@
 -- The session machine. Its state is plain documents and the parameters; a step relates state, command, reply and new state.
-use Rattle.std.specs.Prelude.{ℕ, ◌≡◌, ◌+◌, ◌⊎◌, List, [], ◌∷◌, map, Option, None, Some, Result, Ok, Err}
+use Rattle.std.specs.Prelude.{ℕ, ◌≡◌, ◌<◌, ◌+◌, ◌^◌, ◌⊎◌, List, [], ◌∷◌, map, Option, None, Some, Result, Ok, Err}
 use Rattle.spec_document.specs.Scope.{root_scope}
 use Rattle.spec_document.specs.declared.event.Event.TheVariants.{Data}
 use Rattle.spec_document.specs.Pyx.{line_of}
@@ -16,7 +16,7 @@ use Rattle.spec_session.specs.Command.{Command}
 use Rattle.spec_session.specs.Request.{DocumentName, SourceName, ModuleName, Request, SetSource, SetModule, DropModule, Insert, Delete, SetText, SetAttribute, RemoveAttribute, Rename, Move, SetParameter, Show, Write, Messages, Dump, Statistics, request_of}
 use Rattle.spec_run.specs.Documents.{Documents, no_documents, with_source, with_module, without_module, with_parameter, parameter_fault}
 use Rattle.spec_run.specs.Outcome.{Outcome, Done, Failed, IsOutcome}
-use Rattle.spec_session.specs.Reply.{Reply, OkDone, OkRefused, Refused, Shown, Written, No}
+use Rattle.spec_session.specs.Reply.{Reply, OkDone, OkRefused, Refused, Shown, Written, Counted, No}
 
 -- what is held: the documents with the parameters, and how many nodes the commands accepted so far have made, so that the next one has this number
 pub record State : Type 0 where
@@ -46,6 +46,8 @@ pub data Answer : Type 0 where
   ShowsMessages : Answer
   -- a document is shown
   ShowsDocument : (tree : Plain) → Answer
+  -- it is told what the last accepted change has cost
+  TellsCounts : Answer
 
 -- these documents are held once this one, whose nodes were made, has its place among them
 abbrev pub kept_in : (Plain → Documents → Documents) → State → Document ℕ → State
@@ -101,8 +103,7 @@ answer_to old (SetAttribute document path name value) = edited_in old document (
 answer_to old (RemoveAttribute document path name) = edited_in old document (edits.RemoveAttribute path name)
 answer_to old (Rename document path name) = edited_in old document (edits.Rename path name)
 answer_to old (Move document path other) = edited_by old document (moved_document old.made path other (document_named old document))
--- whatever else a command may ask is not taken: its word is no command
-answer_to old Statistics = Refuses 3
+answer_to old Statistics = TellsCounts
 
 abbrev pub answer_by : State → Result Request ℕ → Answer
 answer_by old (Err number) = Refuses number
@@ -139,6 +140,14 @@ messages_in (Failed why messages) = messages
 abbrev pub messages_reply : Outcome → Reply
 messages_reply outcome = Shown (map (λ text. line_of (Data text)) (messages_in outcome))
 
+-- The reply tells two numbers of 64 bits. For now any two are allowed: nothing is said here of what was run or asked
+pub record TellsNumbers (reply : Reply) : Type 0 where
+  pub ran : ℕ
+  pub asked : ℕ
+  pub ran_fits : ran < 2 ^ 64
+  pub asked_fits : asked < 2 ^ 64
+  pub is : reply ≡ Counted ran asked
+
 -- from old, with this answer, the machine gives this reply and goes on to new
 abbrev pub Gives : State → Answer → Reply → State → Type 0
 Gives old (Refuses number) reply new = (reply ≡ No number) × (new ≡ old)
@@ -147,6 +156,7 @@ Gives old ShowsResult reply new = ((outcome : Outcome) × IsOutcome old.document
 Gives old WritesResult reply new = ((outcome : Outcome) × IsOutcome old.documents outcome × (reply ≡ written_reply outcome)) × (new ≡ old)
 Gives old ShowsMessages reply new = ((outcome : Outcome) × IsOutcome old.documents outcome × (reply ≡ messages_reply outcome)) × (new ≡ old)
 Gives old (ShowsDocument tree) reply new = (reply ≡ Shown (lines_of tree)) × (new ≡ old)
+Gives old TellsCounts reply new = TellsNumbers reply × (new ≡ old)
 
 -- Each command gets its answer. Want of memory, which changes nothing, may come in its place at any command
 abbrev pub Step : State → Command → Reply → State → Type 0

@@ -17,6 +17,8 @@ pub data Reply : Type 0 where
   Shown : (lines : List Line) → Reply
   -- the text of a result
   Written : (text : List ℕ) → Reply
+  -- how many instantiations were run, and how many reads were asked again
+  Counted : (ran asked : ℕ) → Reply
   -- to a refused command
   No : (number : ℕ) → Reply
 
@@ -37,6 +39,7 @@ reply_lines (OkRefused why) = (codes "ok refused " ++ refusal_text why) ∷ []
 reply_lines (Refused why) = (codes "refused " ++ refusal_text why) ∷ []
 reply_lines (Shown lines) = lines ++ codes "." ∷ []
 reply_lines (Written text) = (codes "text " ++ decimal (length (encode_utf8_all text))) ∷ text ∷ []
+reply_lines (Counted ran asked) = (codes "ran " ++ decimal ran ++ codes " asked " ++ decimal asked) ∷ []
 reply_lines (No number) = (codes "no " ++ decimal number) ∷ []
 
 -- each line ends with an LF

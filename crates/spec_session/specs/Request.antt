@@ -203,7 +203,8 @@ commands =
 abbrev pub taken_words : List (List ℕ)
 taken_words =
     codes "source" ∷ codes "module" ∷ codes "show" ∷ codes "dump" ∷ codes "quit" ∷ codes "write" ∷ codes "param" ∷ codes "messages"
-    ∷ codes "insert" ∷ codes "delete" ∷ codes "text" ∷ codes "attr" ∷ codes "unattr" ∷ codes "rename" ∷ codes "drop" ∷ codes "move" ∷ []
+    ∷ codes "insert" ∷ codes "delete" ∷ codes "text" ∷ codes "attr" ∷ codes "unattr" ∷ codes "rename" ∷ codes "drop" ∷ codes "move"
+    ∷ codes "stats" ∷ []
 
 abbrev pub is_taken : List ℕ → Bool
 is_taken word = list_any (λ taken. bytes_eq word taken) taken_words

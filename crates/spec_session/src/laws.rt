@@ -1,8 +1,9 @@
 // Laws of the machine, which hold of the definitions alone.
-ghost use Rattle.std.specs.Prelude.{◌≡◌, ◌≢◌, List};
+ghost use Rattle.std.specs.Prelude.{◌≡◌, ◌≢◌, List, Ok};
 ghost use Rattle.spec_session.specs.Command.{Command};
 ghost use Rattle.spec_session.specs.Machine.{initial, Run, State, Step};
 ghost use Rattle.spec_session.specs.Reply.{No, Reply};
+ghost use Rattle.spec_session.specs.Request.{Statistics, request_of};
 
 use spec_run::{no_want_of_outcome, one_outcome};
 
@@ -15,10 +16,13 @@ pub fn each_command_has_a_step()
     no_want_of_outcome();
 }
 
-/// Two steps of one state and command, neither for want of memory, have one reply and one new state.
+/// Two steps of one state and command, neither for want of memory, have one new state, and for each other command than `stats`
+/// one reply. Which numbers `stats` tells is left open.
 pub fn steps_agree()
-    ensures { (old : State) (command : Command) (reply other : Reply) (new another : State) →
-        Step old command reply new → Step old command other another → reply ≢ No 1 → other ≢ No 1 → (reply ≡ other) × (new ≡ another) }
+    ensures replies { (old : State) (command : Command) (reply other : Reply) (new another : State) → request_of command ≢ Ok Statistics →
+        Step old command reply new → Step old command other another → reply ≢ No 1 → other ≢ No 1 → reply ≡ other }
+    ensures states { (old : State) (command : Command) (reply other : Reply) (new another : State) →
+        Step old command reply new → Step old command other another → reply ≢ No 1 → other ≢ No 1 → new ≡ another }
 {
     one_outcome();
 }

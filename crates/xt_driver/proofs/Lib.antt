@@ -6,9 +6,14 @@ pub mod Standing
 pub mod Turns
 pub mod Passing
 pub mod Remembering
-pub mod Finishing
 pub mod Following
 pub mod Referring
 pub mod Onward
 pub mod Later
 pub mod Turning
+pub mod Serving
+pub mod Along
+pub mod Regaining
+pub mod Keeping
+pub mod Coming
+pub mod Streams

@@ -4,3 +4,7 @@ pub mod Referring
 pub mod Turning
 pub mod Stands
 pub mod Steps
+pub mod Along
+pub mod Lost
+pub mod Followed
+pub mod Made

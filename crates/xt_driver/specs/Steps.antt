@@ -1,15 +1,10 @@
 -- The steps of one level.
 use Rattle.std.specs.Prelude.{◌≡◌, ℕ, ◌-◌, Option, Ok, Err}
-use Rattle.std.specs.declared.alloc.Global.{Global as Allocator}
-use Rattle.std.specs.declared.vec.Vec.{Vec}
 use Rattle.spec_meaning.specs.Question.{Question, Answer}
 use Rattle.spec_run.specs.Plan.{Call}
 use Rattle.spec_run.specs.Meaning.{settled}
 use Rattle.spec_node.specs.declared.node_ref.NodeRef.{NodeRef}
 use Rattle.xt_engine.specs.declared.call.Call.{Call as CodeCall}
-use Rattle.xt_engine.specs.declared.event.Ended.{Ended}
-use Rattle.xt_engine.specs.declared.event.Event.{Event}
-use Rattle.xt_engine.specs.declared.event.Ran.{Ran}
 use Rattle.xt_engine.specs.declared.turn.Turn.TheVariants.{Want, WantGlobal, Done}
 use Rattle.xt_engine.specs.View.{call_of}
 use Rattle.xt_engine.specs.Progress.{Progress, Gift}
@@ -32,18 +27,9 @@ pub record Needs (ask : Question NodeRef → Answer NodeRef) (gift : Option (Gif
   pub advances : Advances ask gift old new (Ok (WantGlobal needed.name depth needed.place))
   pub levels : left ≡ below - depth
 
--- what an instantiation came to, with what it did
-abbrev pub ran_with : Ended → Vec Event Allocator → Ran
-ran_with ended events = record { stream = ended.stream; value = ended.value; events = events; height = ended.height }
-
--- its run comes to this, whatever it did
-pub record Finishes (ask : Question NodeRef → Answer NodeRef) (gift : Option (Gift NodeRef)) (old new : Progress) (ended : Ended) : Type 0 where
-  pub events : Vec Event Allocator
-  pub advances : Advances ask gift old new (Ok (Done (ran_with ended events)))
-
 -- its run goes on so, with so many levels below its own
 abbrev pub Steps : (Question NodeRef → Answer NodeRef) → Option (Gift NodeRef) → Progress → Progress → Call NodeRef → ℕ → Step → Type 0
 Steps ask gift old new outer below (steps.Enter inner left) = Enters ask gift old new outer below inner.value left
 Steps ask gift old new outer below (steps.Refer needed left) = Needs ask gift old new below needed.value left
-Steps ask gift old new outer below (steps.Done ended) = Finishes ask gift old new ended.value
+Steps ask gift old new outer below (steps.Done ran) = Advances ask gift old new (Ok (Done ran.value))
 Steps ask gift old new outer below (steps.Failed fault) = Advances ask gift old new (Err fault.value)

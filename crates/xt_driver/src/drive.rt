@@ -1,38 +1,59 @@
-// One call with all that it enters and all globals that it needs. Each call is run each time, and a global is
-// evaluated once for all references to it before its turn that have the levels for it.
-ghost use Rattle.std.specs.Prelude.{◌≡◌, ◌-◌, IfOk, OnOk};
+// One call with all that it enters and all globals that it needs. It is served by a record where one serves it, and
+// run by the engine otherwise; and a global is evaluated once for all references to it before its turn that have the
+// levels for it.
+ghost use Rattle.std.specs.Prelude.{◌≡◌, ◌-◌, suc, IfOk, OnOk};
 ghost use Rattle.spec_run.specs.Meaning.{meaning};
 ghost use Rattle.xt_syntax.specs.PartView.{place_of};
-ghost use Rattle.xt_engine.specs.View.{call_of};
+ghost use Rattle.xt_engine.specs.View.{call_of, event_of};
+ghost use Rattle.xt_record.specs.View.{kept_in, MayServe};
+ghost use Rattle.xt_record.specs.Sure.{IsSure};
 ghost use Rattle.xt_driver.specs.View.{setting_of, past_of, outcome_of};
 ghost use Rattle.xt_driver.specs.Remembered.{Keeps, Lasts, Remembers};
 ghost use Rattle.xt_driver.specs.Referring.{entries_of, Settles};
+ghost use Rattle.xt_driver.specs.Lost.{IsLost, IsServed};
+ghost use Rattle.xt_driver.specs.Followed.{instance_of, IsGone};
+ghost use Rattle.xt_driver.specs.Made.{IsMade, MadeHolds};
 
+use crate::follow::{Next, Way, next_done, set_out, take_entered, take_reference};
 use crate::globals::{Globals, Reference, evaluation_of, look_up};
+use crate::keep::{keep_ended, next_turn, tried};
 use crate::level::{Needed, Step, advance, begin, take_global, take_stream};
+use crate::lost::{Lost, regained_call, regained_reference};
 use crate::memo::{Memo, Referred};
-use crate::outcome::{Outcome, done, evaluated, refused, too_deep};
+use crate::outcome::{Ended, Outcome, done, evaluated, refused, too_deep};
 use std::alloc::Global;
-use xt_engine::{Call, Engine};
+use xt_engine::{Call, Engine, Event};
 use xt_questions::World;
+use xt_record::{Record, Reuse, a_record_lasts};
 use xt_text::Memory;
 
-/// What the call means where there are so many levels left. What is remembered of globals holds after it as before,
-/// and where the call is not refused, it means the same wherever that holds, with the levels to spare left out.
-#[cycle(drive)]
-pub fn means<E: Engine, W: World>(
+/// Whether a call is served by a record.
+#[derive(Drop)]
+pub enum Served {
+    /// It comes to this.
+    As(Box<Outcome>),
+    /// It is not, and this was lost on the way.
+    Not(Lost),
+}
+
+/// What a call means that no other enters: all as for one that is entered. Since `serve` is called here too, Rattle's own
+/// compiler gives it a frame of its own, and a level that is run takes less of the stack.
+pub fn first_means<E: Engine, W: World>(
     alloc: Global,
     engine: &mut E,
     world: &mut W,
     globals: &Globals,
     memo: &mut Memo,
+    reuse: &mut Reuse<'_>,
     call: &Call,
     levels: u64,
 ) -> Result<Box<Outcome>, Memory>
-    requires { Remembers (setting_of (W.state world.now).truth globals.now) (past_of globals.now) (entries_of memo.now) }
+    requires remembers { Remembers (setting_of (W.state world.now).truth globals.now) (past_of globals.now) (entries_of memo.now) }
+    requires sure { IsSure (W.state world.now).truth reuse.now }
     ensures keeps { OnOk result (Keeps (setting_of (W.state world.old).truth globals.now) (past_of globals.now) (entries_of memo.old) (entries_of memo.new)) }
     ensures lasts { IfOk result (λ o. Lasts (setting_of (W.state world.old).truth globals.now) (past_of globals.now) (levels - o.value.spare) (entries_of memo.new) (call_of call.now) (outcome_of o.value)) }
     ensures meaning { IfOk result (λ o. outcome_of o.value ≡ meaning (setting_of (W.state world.old).truth globals.now) levels (past_of globals.now) 0 (call_of call.now)) }
+    ensures sure { OnOk result (IsSure (W.state world.old).truth reuse.new) }
     ensures truth { (W.state world.new).truth ≡ (W.state world.old).truth }
     ensures name { W.name world.new ≡ W.name world.old }
 {
@@ -40,28 +61,291 @@ pub fn means<E: Engine, W: World>(
         return too_deep(alloc, call);
     }
     let below = levels - 1;
+    match serve(alloc, engine, world, globals, memo, reuse, call, below)? {
+        Served::As(outcome) => Ok(outcome),
+        Served::Not(lost) => {
+            let ended = run_call(
+                alloc, engine, world, globals, memo, reuse, &lost, call, below,
+            )?;
+            keep_ended(alloc, reuse, call, ended)
+        }
+    }
+}
+
+// What the call means where there are so many levels left. What is remembered of globals holds after it as before,
+// and where the call is not refused, it means the same wherever that holds, with the levels to spare left out.
+#[cycle(drive)]
+fn means<E: Engine, W: World>(
+    alloc: Global,
+    engine: &mut E,
+    world: &mut W,
+    globals: &Globals,
+    memo: &mut Memo,
+    reuse: &mut Reuse<'_>,
+    call: &Call,
+    levels: u64,
+) -> Result<Box<Outcome>, Memory>
+    requires remembers { Remembers (setting_of (W.state world.now).truth globals.now) (past_of globals.now) (entries_of memo.now) }
+    requires sure { IsSure (W.state world.now).truth reuse.now }
+    ensures keeps { OnOk result (Keeps (setting_of (W.state world.old).truth globals.now) (past_of globals.now) (entries_of memo.old) (entries_of memo.new)) }
+    ensures lasts { IfOk result (λ o. Lasts (setting_of (W.state world.old).truth globals.now) (past_of globals.now) (levels - o.value.spare) (entries_of memo.new) (call_of call.now) (outcome_of o.value)) }
+    ensures meaning { IfOk result (λ o. outcome_of o.value ≡ meaning (setting_of (W.state world.old).truth globals.now) levels (past_of globals.now) 0 (call_of call.now)) }
+    ensures sure { OnOk result (IsSure (W.state world.old).truth reuse.new) }
+    ensures truth { (W.state world.new).truth ≡ (W.state world.old).truth }
+    ensures name { W.name world.new ≡ W.name world.old }
+{
+    if levels == 0 {
+        return too_deep(alloc, call);
+    }
+    let below = levels - 1;
+    match serve(alloc, engine, world, globals, memo, reuse, call, below)? {
+        Served::As(outcome) => Ok(outcome),
+        Served::Not(lost) => {
+            let ended = run_call(
+                alloc, engine, world, globals, memo, reuse, &lost, call, below,
+            )?;
+            keep_ended(alloc, reuse, call, ended)
+        }
+    }
+}
+
+// Serves the call by a record, where one does, with so many levels below its own.
+#[cycle(drive)]
+fn serve<E: Engine, W: World>(
+    alloc: Global,
+    engine: &mut E,
+    world: &mut W,
+    globals: &Globals,
+    memo: &mut Memo,
+    reuse: &mut Reuse<'_>,
+    call: &Call,
+    below: u64,
+) -> Result<Served, Memory>
+    requires remembers { Remembers (setting_of (W.state world.now).truth globals.now) (past_of globals.now) (entries_of memo.now) }
+    requires sure { IsSure (W.state world.now).truth reuse.now }
+    ensures keeps { OnOk result (Keeps (setting_of (W.state world.old).truth globals.now) (past_of globals.now) (entries_of memo.old) (entries_of memo.new)) }
+    ensures served { IfOk result (λ s. IsServed s (setting_of (W.state world.old).truth globals.now) (past_of globals.now) (suc below) (entries_of memo.new) (call_of call.now)) }
+    ensures sure { OnOk result (IsSure (W.state world.old).truth reuse.new) }
+    ensures truth { (W.state world.new).truth ≡ (W.state world.old).truth }
+    ensures name { W.name world.new ≡ W.name world.old }
+{
+    let mut from = 0;
+    loop {
+        match reuse.find(alloc, world, call, below, from)? {
+            None => return Ok(Served::Not(Lost::Nothing)),
+            Some(found) => {
+                from = next_turn(&found);
+                let served = follow(
+                    alloc,
+                    engine,
+                    world,
+                    globals,
+                    memo,
+                    reuse,
+                    &found.record,
+                    call,
+                    below,
+                );
+                match tried(alloc, reuse, found, served)? {
+                    None => {}
+                    Some(served) => return Ok(served),
+                }
+            }
+        }
+    }
+}
+
+// Goes along a record that may serve the call. It does not where what it saw or held differs; and where what it
+// entered or a global is refused, the call is refused too, which is left to the engine.
+#[cycle(drive)]
+fn follow<E: Engine, W: World>(
+    alloc: Global,
+    engine: &mut E,
+    world: &mut W,
+    globals: &Globals,
+    memo: &mut Memo,
+    reuse: &mut Reuse<'_>,
+    kept: &Record,
+    call: &Call,
+    below: u64,
+) -> Result<Served, Memory>
+    requires remembers { Remembers (setting_of (W.state world.now).truth globals.now) (past_of globals.now) (entries_of memo.now) }
+    requires sure { IsSure (W.state world.now).truth reuse.now }
+    requires serves { MayServe (W.state world.now).truth (call_of call.now) below (kept_in kept.now) }
+    ensures keeps { OnOk result (Keeps (setting_of (W.state world.old).truth globals.now) (past_of globals.now) (entries_of memo.old) (entries_of memo.new)) }
+    ensures served { IfOk result (λ s. IsServed s (setting_of (W.state world.old).truth globals.now) (past_of globals.now) (suc below) (entries_of memo.new) (call_of call.now)) }
+    ensures sure { OnOk result (IsSure (W.state world.old).truth reuse.new) }
+    ensures truth { (W.state world.new).truth ≡ (W.state world.old).truth }
+    ensures name { W.name world.new ≡ W.name world.old }
+{
+    a_record_lasts(kept);
+    let events = kept.ran.events.as_slice();
+    let mut way = set_out(alloc, below)?;
+    for event in events {
+        match go_on(
+            alloc, engine, world, globals, memo, reuse, event, call, below, &mut way,
+        )? {
+            None => {}
+            Some(lost) => return Ok(Served::Not(lost)),
+        }
+    }
+    let outcome = done(alloc, &kept.ran, way.parts.as_slice(), below, way.spare)?;
+    Ok(Served::As(outcome))
+}
+
+// Goes one event further along a record. Where it does not go on, what was lost.
+#[cycle(drive)]
+fn go_on<E: Engine, W: World>(
+    alloc: Global,
+    engine: &mut E,
+    world: &mut W,
+    globals: &Globals,
+    memo: &mut Memo,
+    reuse: &mut Reuse<'_>,
+    event: &Event,
+    call: &Call,
+    below: u64,
+    way: &mut Way,
+) -> Result<Option<Lost>, Memory>
+    requires remembers { Remembers (setting_of (W.state world.now).truth globals.now) (past_of globals.now) (entries_of memo.now) }
+    requires sure { IsSure (W.state world.now).truth reuse.now }
+    ensures keeps { OnOk result (Keeps (setting_of (W.state world.old).truth globals.now) (past_of globals.now) (entries_of memo.old) (entries_of memo.new)) }
+    ensures goes { IfOk result (λ lost. IsGone lost (setting_of (W.state world.old).truth globals.now) (instance_of (call_of call.now) below (past_of globals.now)) (entries_of memo.old) (entries_of memo.new) way.old way.new (event_of event.now)) }
+    ensures sure { OnOk result (IsSure (W.state world.old).truth reuse.new) }
+    ensures truth { (W.state world.new).truth ≡ (W.state world.old).truth }
+    ensures name { W.name world.new ≡ W.name world.old }
+{
+    match next_done(alloc, event, call, below, way.parts.as_slice())? {
+        Next::Holds => Ok(None),
+        Next::Differs => Ok(Some(Lost::Nothing)),
+        Next::Enter(inner, left) => {
+            let came = means(alloc, engine, world, globals, memo, reuse, &inner, left);
+            take_entered(alloc, way, came, inner, left)
+        }
+        Next::Refer(needed, left) => {
+            let came = refer(alloc, engine, world, globals, memo, reuse, &needed, left);
+            take_reference(alloc, way, came, event, needed, left)
+        }
+    }
+}
+
+// Runs the call by the engine, with so many levels below its own. What was lost is not run again. What the engine made
+// is kept by the caller: here it would take room on each level.
+#[cycle(drive)]
+fn run_call<E: Engine, W: World>(
+    alloc: Global,
+    engine: &mut E,
+    world: &mut W,
+    globals: &Globals,
+    memo: &mut Memo,
+    reuse: &mut Reuse<'_>,
+    lost: &Lost,
+    call: &Call,
+    below: u64,
+) -> Result<Ended, Memory>
+    requires remembers { Remembers (setting_of (W.state world.now).truth globals.now) (past_of globals.now) (entries_of memo.now) }
+    requires sure { IsSure (W.state world.now).truth reuse.now }
+    requires lost { IsLost (setting_of (W.state world.now).truth globals.now) (past_of globals.now) lost.now }
+    ensures keeps { OnOk result (Keeps (setting_of (W.state world.old).truth globals.now) (past_of globals.now) (entries_of memo.old) (entries_of memo.new)) }
+    ensures lasts { IfOk result (λ e. Lasts (setting_of (W.state world.old).truth globals.now) (past_of globals.now) (suc below - e.outcome.value.spare) (entries_of memo.new) (call_of call.now) (outcome_of e.outcome.value)) }
+    ensures meaning { IfOk result (λ e. outcome_of e.outcome.value ≡ meaning (setting_of (W.state world.old).truth globals.now) (suc below) (past_of globals.now) 0 (call_of call.now)) }
+    ensures made { IfOk result (λ e. IsMade (call_of call.now) e.ran) }
+    ensures asks { IfOk result (λ e. MadeHolds (W.state world.old).truth e.ran) }
+    ensures sure { OnOk result (IsSure (W.state world.old).truth reuse.new) }
+    ensures truth { (W.state world.new).truth ≡ (W.state world.old).truth }
+    ensures name { W.name world.new ≡ W.name world.old }
+{
     let mut standing = begin(alloc, engine, call, below)?;
+    reuse.count_run();
     loop {
         match advance(alloc, engine, world, &mut standing, call, below)? {
             Step::Enter(inner, left) => {
-                let came = means(alloc, engine, world, globals, memo, &inner, left);
+                let came = enter(
+                    alloc, engine, world, globals, memo, reuse, lost, &inner, left,
+                );
                 take_stream(&mut standing, came, inner)?;
             }
             Step::Refer(needed, left) => {
-                let came = refer(alloc, engine, world, globals, memo, needed, left);
-                take_global(&mut standing, came)?;
+                let came = need(
+                    alloc, engine, world, globals, memo, reuse, lost, &needed, left,
+                );
+                take_global(&mut standing, came, needed)?;
             }
-            Step::Done(ended) => {
-                return done(
+            Step::Done(ran) => {
+                let outcome = done(
                     alloc,
-                    ended,
+                    &ran,
                     standing.parts.as_slice(),
                     below,
                     standing.spare,
-                );
+                )?;
+                return Ok(Ended {
+                    outcome,
+                    ran: Some(ran),
+                });
             }
-            Step::Failed(fault) => return refused(alloc, fault),
+            Step::Failed(fault) => {
+                let outcome = refused(alloc, fault)?;
+                return Ok(Ended { outcome, ran: None });
+            }
         }
+    }
+}
+
+// What a call means that the engine enters, where there are so many levels left.
+#[cycle(drive)]
+fn enter<E: Engine, W: World>(
+    alloc: Global,
+    engine: &mut E,
+    world: &mut W,
+    globals: &Globals,
+    memo: &mut Memo,
+    reuse: &mut Reuse<'_>,
+    lost: &Lost,
+    call: &Call,
+    levels: u64,
+) -> Result<Box<Outcome>, Memory>
+    requires remembers { Remembers (setting_of (W.state world.now).truth globals.now) (past_of globals.now) (entries_of memo.now) }
+    requires sure { IsSure (W.state world.now).truth reuse.now }
+    requires lost { IsLost (setting_of (W.state world.now).truth globals.now) (past_of globals.now) lost.now }
+    ensures keeps { OnOk result (Keeps (setting_of (W.state world.old).truth globals.now) (past_of globals.now) (entries_of memo.old) (entries_of memo.new)) }
+    ensures lasts { IfOk result (λ o. Lasts (setting_of (W.state world.old).truth globals.now) (past_of globals.now) (levels - o.value.spare) (entries_of memo.new) (call_of call.now) (outcome_of o.value)) }
+    ensures meaning { IfOk result (λ o. outcome_of o.value ≡ meaning (setting_of (W.state world.old).truth globals.now) levels (past_of globals.now) 0 (call_of call.now)) }
+    ensures sure { OnOk result (IsSure (W.state world.old).truth reuse.new) }
+    ensures truth { (W.state world.new).truth ≡ (W.state world.old).truth }
+    ensures name { W.name world.new ≡ W.name world.old }
+{
+    match regained_call(alloc, lost, call, levels)? {
+        Some(outcome) => Ok(outcome),
+        None => means(alloc, engine, world, globals, memo, reuse, call, levels),
+    }
+}
+
+// What a reference gives that the engine needs, where there are so many levels left.
+#[cycle(drive)]
+fn need<E: Engine, W: World>(
+    alloc: Global,
+    engine: &mut E,
+    world: &mut W,
+    globals: &Globals,
+    memo: &mut Memo,
+    reuse: &mut Reuse<'_>,
+    lost: &Lost,
+    needed: &Needed,
+    levels: u64,
+) -> Result<Box<Referred>, Memory>
+    requires remembers { Remembers (setting_of (W.state world.now).truth globals.now) (past_of globals.now) (entries_of memo.now) }
+    requires sure { IsSure (W.state world.now).truth reuse.now }
+    requires lost { IsLost (setting_of (W.state world.now).truth globals.now) (past_of globals.now) lost.now }
+    ensures keeps { OnOk result (Keeps (setting_of (W.state world.old).truth globals.now) (past_of globals.now) (entries_of memo.old) (entries_of memo.new)) }
+    ensures settles { IfOk result (λ r. Settles (setting_of (W.state world.old).truth globals.now) (past_of globals.now) (entries_of memo.new) needed.now.name levels (place_of needed.now.place) r.value) }
+    ensures sure { OnOk result (IsSure (W.state world.old).truth reuse.new) }
+    ensures truth { (W.state world.new).truth ≡ (W.state world.old).truth }
+    ensures name { W.name world.new ≡ W.name world.old }
+{
+    match regained_reference(alloc, lost, needed, levels)? {
+        Some(referred) => Ok(referred),
+        None => refer(alloc, engine, world, globals, memo, reuse, needed, levels),
     }
 }
 
@@ -73,12 +357,15 @@ fn refer<E: Engine, W: World>(
     world: &mut W,
     globals: &Globals,
     memo: &mut Memo,
-    needed: Box<Needed>,
+    reuse: &mut Reuse<'_>,
+    needed: &Needed,
     levels: u64,
 ) -> Result<Box<Referred>, Memory>
-    requires { Remembers (setting_of (W.state world.now).truth globals.now) (past_of globals.now) (entries_of memo.now) }
+    requires remembers { Remembers (setting_of (W.state world.now).truth globals.now) (past_of globals.now) (entries_of memo.now) }
+    requires sure { IsSure (W.state world.now).truth reuse.now }
     ensures keeps { OnOk result (Keeps (setting_of (W.state world.old).truth globals.now) (past_of globals.now) (entries_of memo.old) (entries_of memo.new)) }
-    ensures settles { IfOk result (λ r. Settles (setting_of (W.state world.old).truth globals.now) (past_of globals.now) (entries_of memo.new) needed.value.name levels (place_of needed.value.place) r.value) }
+    ensures settles { IfOk result (λ r. Settles (setting_of (W.state world.old).truth globals.now) (past_of globals.now) (entries_of memo.new) needed.now.name levels (place_of needed.now.place) r.value) }
+    ensures sure { OnOk result (IsSure (W.state world.old).truth reuse.new) }
     ensures truth { (W.state world.new).truth ≡ (W.state world.old).truth }
     ensures name { W.name world.new ≡ W.name world.old }
 {
@@ -92,7 +379,16 @@ fn refer<E: Engine, W: World>(
                 held: globals.held,
                 under_way: evaluation.under_way.as_slice(),
             };
-            let came = means(alloc, engine, world, &inner, memo, &evaluation.call, levels);
+            let came = means(
+                alloc,
+                engine,
+                world,
+                &inner,
+                memo,
+                reuse,
+                &evaluation.call,
+                levels,
+            );
             evaluated(alloc, memo, came, evaluation, levels)
         }
     }

@@ -17,7 +17,7 @@ use crate::memo::{Memo, Referred, Remembered, recall, remember_none, set_aside};
 use std::alloc::Global;
 use xt_engine::{Call, Entered, NamedGlobal};
 use xt_names::{Expanded, copy_name};
-use xt_questions::copy_value;
+use xt_questions::{copy_place, copy_value};
 use xt_text::{Memory, Text};
 use xt_tree::{NodeRef, Value};
 
@@ -175,19 +175,20 @@ pub fn evaluation_of(
     alloc: Global,
     globals: &Globals,
     memo: &mut Memo,
-    needed: Box<Needed>,
+    needed: &Needed,
     element: NodeRef,
 ) -> Result<Box<Evaluation>, Memory>
-    ensures name { IfOk result (λ e. e.value.name ≡ needed.value.name) }
+    ensures name { IfOk result (λ e. e.value.name ≡ needed.now.name) }
     ensures element { IfOk result (λ e. e.value.element ≡ element) }
-    ensures under_way { IfOk result (λ e. e.value.under_way.items ≡ needed.value.name ∷ globals.now.under_way.now) }
-    ensures call { IfOk result (λ e. call_of e.value.call ≡ global_call globals.now.root element (place_of needed.value.place)) }
-    ensures aside { IfOk result (λ e. IsAside needed.value.name (map entry_of e.value.aside.items) (entries_of memo.old) (entries_of memo.new)) }
+    ensures under_way { IfOk result (λ e. e.value.under_way.items ≡ needed.now.name ∷ globals.now.under_way.now) }
+    ensures call { IfOk result (λ e. call_of e.value.call ≡ global_call globals.now.root element (place_of needed.now.place)) }
+    ensures aside { IfOk result (λ e. IsAside needed.now.name (map entry_of e.value.aside.items) (entries_of memo.old) (entries_of memo.new)) }
 {
     let copied = copy_name(alloc, &needed.name)?;
     let under_way = with_name(alloc, copied, globals.under_way)?;
-    let Needed { name, place } = Box::into_inner(needed);
+    let place = copy_place(alloc, &needed.place)?;
     let call = global_call(globals.root, element, place);
+    let name = copy_name(alloc, &needed.name)?;
     let aside = set_aside(alloc, memo, &name);
     Ok(Box::new(
         alloc,

@@ -15,7 +15,7 @@ use crate::outcome::{Outcome, fewer, streamed};
 use std::alloc::Global;
 use std::rc::Rc;
 use xt_base::Place;
-use xt_engine::{Call, Ended, Engine, Entered, RunFault, Turn};
+use xt_engine::{Call, Engine, Entered, Ran, RunFault, Turn};
 use xt_names::Expanded;
 use xt_questions::World;
 use xt_text::Memory;
@@ -48,7 +48,7 @@ pub enum Step {
     /// To a global that it needs, with so many levels left for it.
     Refer(Box<Needed>, u64),
     /// To its end.
-    Done(Box<Ended>),
+    Done(Box<Ran>),
     /// To a refusal, or to want of memory.
     Failed(Box<RunFault>),
 }
@@ -103,7 +103,7 @@ pub fn advance<E: Engine, W: World>(
             let left = below.saturating_sub(depth);
             Ok(Step::Refer(Box::new(alloc, Needed { name, place })?, left))
         }
-        Ok(Turn::Done(ran)) => Ok(Step::Done(Box::new(alloc, ran.ended())?)),
+        Ok(Turn::Done(ran)) => Ok(Step::Done(Box::new(alloc, ran)?)),
         Err(fault) => Ok(Step::Failed(Box::new(alloc, fault)?)),
     }
 }
@@ -135,10 +135,11 @@ pub fn take_stream<R: Drop>(
     Ok(())
 }
 
-/// Takes what came of the global that it needed last.
+/// Takes what came of the global that it needed last. The reference is done with.
 pub fn take_global<R: Drop>(
     standing: &mut Level<R>,
     came: Result<Box<Referred>, Memory>,
+    needed: Box<Needed>,
 ) -> Result<(), Memory>
     ensures taken { OnOk result (IsTaken standing.new.given came) }
     ensures run { standing.new.run ≡ standing.old.run }
@@ -146,6 +147,7 @@ pub fn take_global<R: Drop>(
     ensures spare { standing.new.spare ≤ standing.old.spare }
     ensures inner { OnOk result (standing.new.spare ≤ spare_of came) }
 {
+    let _ = needed;
     let Referred { entered, spare } = Box::into_inner(came?);
     standing.spare = fewer(standing.spare, spare);
     standing.given = Some(entered);

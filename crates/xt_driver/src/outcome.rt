@@ -14,8 +14,8 @@ use crate::memo::{Memo, Referred, put_back, remember};
 use spec_expression::DynCode;
 use std::alloc::Global;
 use std::rc::Rc;
-use xt_engine::{Call, Ended, Entered, Refused, RunFault};
-use xt_questions::copy_place;
+use xt_engine::{Call, Entered, Ran, Refused, RunFault};
+use xt_questions::{copy_place, copy_value};
 use xt_streams::quiet;
 use xt_text::Memory;
 use xt_tree::{Fragment, Items, Value};
@@ -36,6 +36,14 @@ pub struct Outcome {
     pub ending: Ending,
     /// It comes to the same with so many levels fewer, where it is not refused.
     pub spare: u64,
+}
+
+/// What comes of a call that the engine runs.
+#[derive(Drop)]
+pub struct Ended {
+    pub outcome: Box<Outcome>,
+    /// What the engine made, where it came to its end.
+    pub ran: Option<Box<Ran>>,
 }
 
 /// What a global holds, or why it holds nothing, with what was written until then.
@@ -84,38 +92,33 @@ pub fn fewer(one: u64, other: u64) -> u64
     if one < other { one } else { other }
 }
 
-/// What comes of a run that is done, with these streams in its holes. There were so many levels below its own, and so
-/// many could be spared of them.
+/// What comes of a call that came to this, with these streams in its holes. There were so many levels below its own,
+/// and so many could be spared of them.
 pub fn done(
     alloc: Global,
-    ended: Box<Ended>,
+    ran: &Ran,
     parts: &[Rc<Items>],
     below: u64,
     spare: u64,
 ) -> Result<Box<Outcome>, Memory>
-    requires { stream.holes (stream_of ended.value.stream.value) ≡ length parts.now }
+    requires { stream.holes (stream_of ran.now.stream.value) ≡ length parts.now }
     ensures spare { IfOk result (λ o. o.value.spare ≤ spare) }
-    ensures height { IfOk result (λ o. o.value.spare ≤ below - ended.value.height) }
-    ensures outcome { IfOk result (λ o. outcome_of o.value ≡ record { content = stream.filled (stream_of ended.value.stream.value) (streams_of parts.now); ending = ending_with ended.value.value }) }
+    ensures height { IfOk result (λ o. o.value.spare ≤ below - ran.now.height) }
+    ensures outcome { IfOk result (λ o. outcome_of o.value ≡ record { content = stream.filled (stream_of ran.now.stream.value) (streams_of parts.now); ending = ending_with ran.now.value }) }
 {
-    let content = ended.stream.fill(alloc, parts)?;
-    let Ended {
-        stream: _,
-        value,
-        height,
-    } = Box::into_inner(ended);
-    let ending = end_with(value);
-    let spare = fewer(spare, below.saturating_sub(height));
+    let content = ran.stream.fill(alloc, parts)?;
+    let ending = end_with(alloc, &ran.value)?;
+    let spare = fewer(spare, below.saturating_sub(ran.height));
     on_heap(alloc, content, ending, spare)
 }
 
-// How a run ends with this value.
-fn end_with(value: Option<Value>) -> Ending
-    ensures { ending_of result ≡ ending_with value }
+// How a run ends that is done, with the value of a global that has a select.
+fn end_with(alloc: Global, value: &Option<Value>) -> Result<Ending, Memory>
+    ensures { IfOk result (λ e. ending_of e ≡ ending_with value.now) }
 {
     match value {
-        None => Ending::Finished,
-        Some(value) => Ending::Gave(value),
+        None => Ok(Ending::Finished),
+        Some(value) => Ok(Ending::Gave(copy_value(alloc, value)?)),
     }
 }
 

@@ -8,13 +8,14 @@ ghost use Rattle.spec_run.specs.Meaning.{going_into, levels_of_a_run, refusal_of
 ghost use Rattle.xt_tree.specs.StreamView.{stream_of};
 ghost use Rattle.xt_tree.specs.ValueView.{value_of};
 ghost use Rattle.xt_engine.specs.View.{named_of, refused_of};
+ghost use Rattle.xt_record.specs.Sure.{IsSure};
 ghost use Rattle.xt_driver.specs.View.{held_of, ending_of, outcome_of, past_of, setting_in, setting_of, whole_of, IsFinished};
 ghost use Rattle.xt_driver.specs.Remembered.{Remembers};
 ghost use Rattle.xt_driver.specs.Referring.{entries_of};
 ghost use Rattle.xt_driver.specs.Turning.{IsHeldAs, Turns, TurnsAs};
 
 use crate::calls::{global_call, nowhere, root_call};
-use crate::drive::means;
+use crate::drive::first_means;
 use crate::globals::{Globals, HeldGlobal, with_name};
 use crate::memo::{Memo, Turned, forget, nothing_remembered, recall_turn};
 use crate::outcome::{Ending, Held, Outcome, as_held, content_of};
@@ -23,6 +24,7 @@ use std::rc::Rc;
 use xt_engine::{Engine, NamedGlobal, Refused};
 use xt_names::copy_name;
 use xt_questions::World;
+use xt_record::Reuse;
 use xt_result::messages;
 use xt_text::{Memory, Text};
 use xt_tree::{Items, NodeRef, Value};
@@ -62,11 +64,14 @@ fn evaluated_at_turn<E: Engine, W: World>(
     world: &mut W,
     globals: &Globals,
     memo: &mut Memo,
+    reuse: &mut Reuse<'_>,
     global: &NamedGlobal,
     levels: u64,
 ) -> Result<Turned, Memory>
-    requires { Remembers (setting_of (W.state world.now).truth globals.now) (going_into global.now.name (past_of globals.now)) (entries_of memo.now) }
+    requires remembers { Remembers (setting_of (W.state world.now).truth globals.now) (going_into global.now.name (past_of globals.now)) (entries_of memo.now) }
+    requires sure { IsSure (W.state world.now).truth reuse.now }
     ensures turns { IfOk result (λ t. Turns t (setting_of (W.state world.old).truth globals.now) (past_of globals.now) (named_of global.now) levels (entries_of memo.new)) }
+    ensures sure { OnOk result (IsSure (W.state world.old).truth reuse.new) }
     ensures truth { (W.state world.new).truth ≡ (W.state world.old).truth }
     ensures name { W.name world.new ≡ W.name world.old }
 {
@@ -79,7 +84,7 @@ fn evaluated_at_turn<E: Engine, W: World>(
         under_way: under_way.as_slice(),
     };
     let call = global_call(globals.root, global.element, nowhere(alloc));
-    let came = means(alloc, engine, world, &inner, memo, &call, levels);
+    let came = first_means(alloc, engine, world, &inner, memo, reuse, &call, levels);
     drop(call);
     at_turn(alloc, came)
 }
@@ -102,11 +107,14 @@ fn turn<E: Engine, W: World>(
     world: &mut W,
     globals: &Globals,
     memo: &mut Memo,
+    reuse: &mut Reuse<'_>,
     global: &NamedGlobal,
     levels: u64,
 ) -> Result<Turned, Memory>
-    requires { Remembers (setting_of (W.state world.now).truth globals.now) (past_of globals.now) (entries_of memo.now) }
+    requires remembers { Remembers (setting_of (W.state world.now).truth globals.now) (past_of globals.now) (entries_of memo.now) }
+    requires sure { IsSure (W.state world.now).truth reuse.now }
     ensures turns { IfOk result (λ t. Turns t (setting_of (W.state world.old).truth globals.now) (past_of globals.now) (named_of global.now) levels (entries_of memo.new)) }
+    ensures sure { OnOk result (IsSure (W.state world.old).truth reuse.new) }
     ensures truth { (W.state world.new).truth ≡ (W.state world.old).truth }
     ensures name { W.name world.new ≡ W.name world.old }
 {
@@ -115,7 +123,7 @@ fn turn<E: Engine, W: World>(
         Some(turned) => Ok(turned),
         None => {
             forget(alloc, memo, &global.name);
-            evaluated_at_turn(alloc, engine, world, globals, memo, global, levels)
+            evaluated_at_turn(alloc, engine, world, globals, memo, reuse, global, levels)
         }
     }
 }
@@ -224,8 +232,10 @@ fn run_in<E: Engine, W: World>(
     world: &mut W,
     root: NodeRef,
     named: &[NamedGlobal],
+    reuse: &mut Reuse<'_>,
     levels: u64,
 ) -> Result<Whole, Memory>
+    requires { IsSure (W.state world.now).truth reuse.now }
     ensures run { IfOk result (λ w. let s = setting_in (W.state world.old).truth root named.now in whole_of w ≡ meant.run s levels s.globals [] [] (meant.root_call s)) }
     ensures truth { (W.state world.new).truth ≡ (W.state world.old).truth }
     ensures name { W.name world.new ≡ W.name world.old }
@@ -240,7 +250,9 @@ fn run_in<E: Engine, W: World>(
             held: values.as_slice(),
             under_way: &[],
         };
-        let turned = turn(alloc, engine, world, &globals, &mut memo, global, levels)?;
+        let turned = turn(
+            alloc, engine, world, &globals, &mut memo, reuse, global, levels,
+        )?;
         let refusal = take_turn(alloc, turned, global, &mut values, &mut told)?;
         match refusal {
             None => {}
@@ -254,7 +266,9 @@ fn run_in<E: Engine, W: World>(
         held: values.as_slice(),
         under_way: &[],
     };
-    let came = means(alloc, engine, world, &globals, &mut memo, &call, levels);
+    let came = first_means(
+        alloc, engine, world, &globals, &mut memo, reuse, &call, levels,
+    );
     drop(call);
     finished(alloc, told, came)
 }
@@ -272,10 +286,20 @@ pub fn run<E: Engine, W: World>(
     world: &mut W,
     root: NodeRef,
     globals: &[NamedGlobal],
+    reuse: &mut Reuse<'_>,
 ) -> Result<Whole, Memory>
+    requires { IsSure (W.state world.now).truth reuse.now }
     ensures run { IfOk result (λ w. whole_of w ≡ run_of (setting_in (W.state world.old).truth root globals.now)) }
     ensures truth { (W.state world.new).truth ≡ (W.state world.old).truth }
     ensures name { W.name world.new ≡ W.name world.old }
 {
-    run_in(alloc, engine, world, root, globals, levels_of_a_run())
+    run_in(
+        alloc,
+        engine,
+        world,
+        root,
+        globals,
+        reuse,
+        levels_of_a_run(),
+    )
 }

@@ -1,10 +1,14 @@
 -- What modules and a source come to, by what is held of the modules.
 use Rattle.std.proofs.Common.{◌≡◌, ℕ, List, [], map, Option, None, Some, Result, Ok, Err, refl, sym, ap, subst, ◌∙◌}
 use Rattle.std.specs.Prelude.{IfOk}
+use Rattle.std.specs.Option.{is_some}
 use Rattle.std.proofs.lemmas.Result.{IfOk-weaker}
 use Rattle.spec_document.specs.Name.{Expanded}
 use Rattle.spec_document.specs.Forest.{Plain, Document, plain}
 use Rattle.spec_seen.specs.Seen.{at_root, seen, seen_among}
+use Rattle.spec_expression.specs.declared.code.Code.TheVariants as codes
+use Rattle.spec_expression.specs.declared.code.StaticCode.{StaticCode}
+use Rattle.spec_stylesheet.specs.Place.{Place}
 use Rattle.spec_stylesheet.specs.Sheet as plain_sheet
 use Rattle.spec_stylesheet.specs.Sheet.{SpaceRule}
 use Rattle.spec_stylesheet.specs.declared.method.Method.{Method}
@@ -31,12 +35,13 @@ use Rattle.xt_engine.specs.declared.global.NamedGlobal.{NamedGlobal}
 use Rattle.xt_driver.specs.View.{setting_in, whole_of}
 use Rattle.xt_driver.specs.declared.whole.Whole.{Whole}
 use Rattle.xt_import.specs.View.{plain_of}
-use Rattle.xt_world.specs.Numbered.{ref_to, setting_by_numbers, truth_by_numbers}
+use Rattle.xt_world.specs.Numbered.{IsNaming, ref_to, setting_by_numbers, truth_by_numbers}
 use Rattle.xt_world.specs.View.{truth_in}
 use Rattle.xt_world.specs.declared.stylesheet.Stylesheet as world
-use Rattle.xt_held.specs.OutcomeView.{outcome_of, plain_in}
+use Rattle.xt_held.specs.OutcomeView.{Fits, IsFreeFor, is_done, no_steps, outcome_of, plain_in}
 use Rattle.xt_held.specs.StylesheetView.{AnswersAs, AreCompiled, AreCompiledBy, Holds, IsCompiledFrom, IsThere}
-use Rattle.xt_held.specs.declared.outcome.Outcome.{Outcome}
+use Rattle.xt_held.specs.declared.outcome.Came.{Came}
+use Rattle.xt_held.specs.declared.outcome.Over.{Over}
 use Rattle.xt_held.specs.declared.tried.Tried.{Tried}
 use Rattle.xt_held.specs.declared.stylesheet.Compiled.{Compiled}
 use Rattle.xt_held.specs.declared.stylesheet.Compiled.TheVariants.{Stylesheet, Refused}
@@ -70,28 +75,28 @@ pub without_source : (modules : Modules) (parameters : Parameters) (main : Optio
 without_source modules parameters None compiled h = absurd h
 without_source modules parameters (Some main) compiled h = refl
 
-pub with_both : (modules : Modules) (parameters : Parameters) (main : Option Plain) (source : Plain) (compiled : Compiled) (r : Result Outcome Memory)
+pub with_both : (modules : Modules) (parameters : Parameters) (main : Option Plain) (source : Plain) (compiled : Compiled) (r : Result Came Memory)
     → AreCompiledBy modules main (Some compiled)
-    → ((tree : Plain) → IsCompiledFrom modules compiled → IfOk r (λ o. Comes modules parameters (Some tree) (Some source) (outcome_of o)))
-    → IfOk r (λ o. Comes modules parameters main (Some source) (outcome_of o))
+    → ((tree : Plain) → IsCompiledFrom modules compiled → IfOk r (λ o. Comes modules parameters (Some tree) (Some source) (outcome_of o.outcome)))
+    → IfOk r (λ o. Comes modules parameters main (Some source) (outcome_of o.outcome))
 with_both modules parameters None source compiled r h f = absurd h
 with_both modules parameters (Some main) source compiled r h f = f main h
 
 -- ---- With both
 
-pub refused_so : (modules : Modules) (parameters : Parameters) (main source : Plain) (compiled : Compiled) (why : StaticRefusal) (r : Result Outcome Memory) → compiled ≡ Refused why
-    → IfOk r (λ o. outcome_of o ≡ spec.Failed (refused_static (refusal_in why)) []) → IsCompiledFrom modules compiled
-    → IfOk r (λ o. Comes modules parameters (Some main) (Some source) (outcome_of o))
+pub refused_so : (modules : Modules) (parameters : Parameters) (main source : Plain) (compiled : Compiled) (why : StaticRefusal) (r : Result Came Memory) → compiled ≡ Refused why
+    → IfOk r (λ o. outcome_of o.outcome ≡ spec.Failed (refused_static (refusal_in why)) []) → IsCompiledFrom modules compiled
+    → IfOk r (λ o. Comes modules parameters (Some main) (Some source) (outcome_of o.outcome))
 refused_so modules parameters main source compiled why r e told h =
     let holds : h.result ≡ Err (refusal_in why) = subst (λ (c : Compiled). Holds c h.result) e h.holds in
     IfOk-weaker r _ _ (λ o is. (h.result, h.is, is ∙ sym (ap (spec.outcome_of parameters source) holds))) told
 
 pub runs_so : (modules : Modules) (parameters : Parameters) (main source : Plain) (compiled : Compiled) (held : world.Stylesheet) (rules : SpaceRules)
-    (method copy : Option (Method Expanded)) (whole : means.Whole) (r : Result Outcome Memory) → compiled ≡ Stylesheet held rules method → copy ≡ method
+    (method copy : Option (Method Expanded)) (whole : means.Whole) (r : Result Came Memory) → compiled ≡ Stylesheet held rules method → copy ≡ method
     → ((sheet : plain_sheet.Sheet) → AnswersAs held sheet → space_rules_of rules ≡ sheet.space_rules
     → whole ≡ run_of (setting_of sheet parameters (seen sheet.space_rules.rules (document_of source))))
-    → IfOk r (λ o. outcome_of o ≡ outcome_by copy whole) → IsCompiledFrom modules compiled
-    → IfOk r (λ o. Comes modules parameters (Some main) (Some source) (outcome_of o))
+    → IfOk r (λ o. outcome_of o.outcome ≡ outcome_by copy whole) → IsCompiledFrom modules compiled
+    → IfOk r (λ o. Comes modules parameters (Some main) (Some source) (outcome_of o.outcome))
 runs_so modules parameters main source compiled held rules method copy whole r e same ran told h =
     let holds : Holds (Stylesheet held rules method) h.result = subst (λ (c : Compiled). Holds c h.result) e h.holds in
     let is_whole = ran holds.0 holds.2 holds.3 in
@@ -104,41 +109,44 @@ abbrev Labels : Type 0
 Labels = (rules : List SpaceRule) (document : Document ℕ) → plain (seen rules document).nodes ≡ seen_among rules at_root (plain document.nodes)
 
 pub seen_so : Labels → (sheet : plain_sheet.Sheet) (parameters : Parameters) (source sight : Document ℕ) (rules : List SpaceRule) → rules ≡ sheet.space_rules.rules
-    → sight ≡ seen rules source → (r : Result Whole Memory)
-    → IfOk r (λ w. whole_of w ≡ run_of (setting_of sheet parameters (document_of (plain_of sight))))
-    → IfOk r (λ w. whole_of w ≡ run_of (setting_of sheet parameters (seen sheet.space_rules.rules (document_of (plain_of source)))))
+    → sight ≡ seen rules source → (r : Result Over Memory)
+    → IfOk r (λ w. whole_of w.whole ≡ run_of (setting_of sheet parameters (document_of (plain_of sight))))
+    → IfOk r (λ w. whole_of w.whole ≡ run_of (setting_of sheet parameters (seen sheet.space_rules.rules (document_of (plain_of source)))))
 seen_so labels sheet parameters source sight rules e is r h =
     let sees : document_of (plain_of sight) ≡ seen sheet.space_rules.rules (document_of (plain_of source))
     = ap document_of (ap plain_of is ∙ labels rules source) ∙ ap (λ (rs : List SpaceRule). seen rs (document_of (plain_of source))) e in
-    subst (λ (d : Document (Unit {0})). IfOk r (λ w. whole_of w ≡ run_of (setting_of sheet parameters d))) sees h
+    subst (λ (d : Document (Unit {0})). IfOk r (λ w. whole_of w.whole ≡ run_of (setting_of sheet parameters d))) sees h
 
 -- ---- A stylesheet that answers as another does but for what the run does not ask
 
-same_answers : (s : plain_sheet.Sheet) (rules : plain_sheet.SpaceRules) (method : Option (Method Expanded)) (parameters : Parameters) (document : Document ℕ) (q : Question NodeRef)
-    → truth_by_numbers (record s { space_rules = rules; method = method }) parameters document q ≡ truth_by_numbers s parameters document q
-same_answers s rules method parameters document (question.Step node axis test) = refl
-same_answers s rules method parameters document (question.Text node) = refl
-same_answers s rules method parameters document (question.Name node) = refl
-same_answers s rules method parameters document (question.Place node) = refl
-same_answers s rules method parameters document (question.Order nodes) = refl
-same_answers s rules method parameters document (question.Key name value) = refl
-same_answers s rules method parameters document (question.Choice node mode candidates) = refl
-same_answers s rules method parameters document (question.Copy node) = refl
-same_answers s rules method parameters document (question.Unit element) = refl
-same_answers s rules method parameters document (question.External name) = refl
+same_answers : (numbers : Place → ℕ) (s : plain_sheet.Sheet) (rules : plain_sheet.SpaceRules) (method : Option (Method Expanded)) (parameters : Parameters)
+    (document : Document ℕ) (q : Question NodeRef)
+    → truth_by_numbers numbers (record s { space_rules = rules; method = method }) parameters document q ≡ truth_by_numbers numbers s parameters document q
+same_answers numbers s rules method parameters document (question.Step node axis test) = refl
+same_answers numbers s rules method parameters document (question.Text node) = refl
+same_answers numbers s rules method parameters document (question.Name node) = refl
+same_answers numbers s rules method parameters document (question.Place node) = refl
+same_answers numbers s rules method parameters document (question.Order nodes) = refl
+same_answers numbers s rules method parameters document (question.Key name value) = refl
+same_answers numbers s rules method parameters document (question.Choice node mode candidates) = refl
+same_answers numbers s rules method parameters document (question.Copy node) = refl
+same_answers numbers s rules method parameters document (question.Unit element) = refl
+same_answers numbers s rules method parameters document (question.External name) = refl
 
 pub answers_as : (held : world.Stylesheet) (s : plain_sheet.Sheet) (rules : plain_sheet.SpaceRules) (method : Option (Method Expanded))
     → AnswersAs held (record s { space_rules = rules; method = method }) → AnswersAs held s
 answers_as held s rules method h = record {
-  truth = λ parameters document q. h.truth parameters document q ∙ same_answers s rules method parameters document q;
+  numbers = h.numbers;
+  naming = h.naming;
+  truth = λ parameters document q. h.truth parameters document q ∙ same_answers h.numbers s rules method parameters document q;
   globals = h.globals;
 }
 
 -- ---- The run, by numbers and by places
 
 abbrev pub SameRun : Type 0
-SameRun = (sheet : plain_sheet.Sheet) (parameters : Parameters) (document : Document ℕ) → IsNumbered document
-    → run_of (setting_by_numbers sheet parameters document) ≡ run_of (setting_of sheet parameters (unlabelled document))
+SameRun = (numbers : Place → ℕ) (sheet : plain_sheet.Sheet) (parameters : Parameters) (document : Document ℕ) → IsNaming numbers sheet.units → IsNumbered document
+    → run_of (setting_by_numbers numbers sheet parameters document) ≡ run_of (setting_of sheet parameters (unlabelled document))
 
 pub same_whole : SameRun → (parameters : Parameters) (document : Document ℕ) → IsNumbered document
     → (held : world.Stylesheet) (sheet : plain_sheet.Sheet) → AnswersAs held sheet → (root : NodeRef) → root ≡ ref_to document.root
@@ -146,9 +154,9 @@ pub same_whole : SameRun → (parameters : Parameters) (document : Document ℕ)
     → run_of (setting_in (truth_in held parameters document) root globals) ≡ run_of (setting_of sheet parameters (document_of (plain document.nodes)))
 same_whole same parameters document numbered held sheet answers root is globals are =
     let named = ap (map named_of) are ∙ answers.globals in
-    let setting : setting_in (truth_in held parameters document) root globals ≡ setting_by_numbers sheet parameters document
+    let setting : setting_in (truth_in held parameters document) root globals ≡ setting_by_numbers answers.numbers sheet parameters document
     = λ i. record { ask = λ q. answers.truth parameters document q i; same = same_ref; root = is i; globals = named i } in
-    ap run_of setting ∙ same sheet parameters document numbered
+    ap run_of setting ∙ same answers.numbers sheet parameters document answers.naming numbered
 
 weaker : (r : Result Whole Memory) (a b : means.Whole) → a ≡ b → IfOk r (λ w. whole_of w ≡ a) → IfOk r (λ w. whole_of w ≡ b)
 weaker r a b e h = IfOk-weaker r (λ w. whole_of w ≡ a) (λ w. whole_of w ≡ b) (λ w is. is ∙ e) h
@@ -164,6 +172,21 @@ run_so same parameters document numbered held sheet answers root is globals are 
     (run_of (setting_of sheet parameters (document_of (plain document.nodes))))
     (same_whole same parameters document numbered held sheet answers root is globals are)
     (subst (λ (t : Question NodeRef → Answer NodeRef). IfOk r (λ w. whole_of w ≡ run_of (setting_in t root globals))) told h)
+
+-- what comes of the run is what it came to with what it kept
+pub over_so : (r : Result Whole Memory) (t : Result Over Memory) (meant : means.Whole) → IfOk t (λ over. r ≡ Ok over.whole) → IfOk r (λ w. whole_of w ≡ meant)
+    → IfOk t (λ over. whole_of over.whole ≡ meant)
+over_so r t meant told h =
+    IfOk-weaker t _ _ (λ over is. subst (λ (x : Result Whole Memory). IfOk x (λ w. whole_of w ≡ meant)) is h) told
+
+-- ---- Where nothing is run
+
+pub fits_unrun : (came : Came) (refusal : StaticCode) (place : Place) (messages : List (List ℕ))
+    → outcome_of came.outcome ≡ spec.Failed (record { code = codes.Static refusal; place = place }) messages → came.kept ≡ None → came.steps ≡ no_steps → Fits came
+fits_unrun came refusal place messages is kept steps = record {
+  kept = ap is_some kept ∙ sym (ap is_done is);
+  steps = subst (λ (outcome : spec.Outcome). IsFreeFor outcome came.steps) (sym is) steps;
+}
 
 -- ---- Modules with another among them
 

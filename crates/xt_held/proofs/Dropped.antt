@@ -8,13 +8,13 @@ use Rattle.spec_run.specs.Documents.{Documents, main_name, without_module}
 use Rattle.spec_run.specs.Outcome.{Comes, IsOutcome}
 use Rattle.xt_import.specs.View.{is_name, modules_in, plain_of}
 use Rattle.xt_world.specs.ParameterView.{parameters_of}
-use Rattle.xt_held.specs.OutcomeView.{outcome_of}
+use Rattle.xt_held.specs.OutcomeView.{Fits, outcome_of}
 use Rattle.xt_held.specs.StylesheetView.{AreCompiled, IsThere, without_one}
 use Rattle.xt_held.specs.Tried.{AreSame}
 use Rattle.spec_node.specs.declared.node_ref.NodeId.{NodeId}
-use Rattle.xt_held.specs.View.{AreAllBelow, HasBelow, IsCurrent, IsKept, IsReady, documents_of, made_of, outcome_in}
+use Rattle.xt_held.specs.View.{AreAllBelow, HasBelow, IsCurrent, IsKept, IsReady, documents_of, last_in, made_of, outcome_in, steps_in}
 use Rattle.xt_held.specs.declared.held.Held.{Held}
-use Rattle.xt_held.specs.declared.outcome.Outcome.{Outcome}
+use Rattle.xt_held.specs.declared.outcome.Came.{Came}
 use Rattle.xt_held.specs.declared.ready.Change.TheVariants as changes
 use Rattle.xt_held.specs.declared.stylesheet.Compiled.{Compiled}
 use Rattle.xt_held.proofs.Dropping.{same_below, same_modules}
@@ -35,6 +35,8 @@ pub record IsReordered (old new : Held) : Type 0 where
   pub parameters : parameters_of new.parameters ≡ parameters_of old.parameters
   pub made : made_of new ≡ made_of old
   pub outcome : outcome_in new ≡ outcome_in old
+  pub steps : steps_in new ≡ steps_in old
+  pub last : last_in new ≡ last_in old
 
 same_documents : (old new : Held) → IsReordered old new → documents_of new ≡ documents_of old
 same_documents old new h =
@@ -52,24 +54,27 @@ kept_so old new h = record {
   documents = same_documents old new h;
   made = h.made;
   outcome = h.outcome;
+  steps = h.steps;
+  last = h.last;
   current = λ now. current_by new (documents_of old) (outcome_in old) old.compiled (same_documents old new h) h.outcome h.compiled now.outcome now.compiled
       (still_below old new h now.below);
 }
 
 -- the outcome without the module is that of what will be held
-pub ready_so : (old new : Held) → IsReordered old new → (name : List ℕ) (kept : List ℕ) → kept ≡ name → (compiled : Option Compiled) (outcome : Outcome) (next : NodeId)
+pub ready_so : (old new : Held) → IsReordered old new → (name : List ℕ) (kept : List ℕ) → kept ≡ name → (compiled : Option Compiled) (came : Came) (next : NodeId)
     → next.number ≡ made_of old → AreCompiled (without_one name (modules_in old.modules.entries)) compiled
     → Comes (without_one name (modules_in old.modules.entries)) (parameters_of old.parameters) (without_one name (modules_in old.modules.entries) main_name)
-    (option_map plain_of old.source) (outcome_of outcome)
-    → IsCurrent old → IsReady (without_module name) (made_of new) new (record { change = changes.Dropped kept compiled; next = next; outcome = outcome })
-ready_so old new h name kept same compiled outcome next number are comes now =
+    (option_map plain_of old.source) (outcome_of came.outcome)
+    → Fits came → IsCurrent old → IsReady (without_module name) (made_of new) new (record { change = changes.Dropped kept compiled; next = next; came = came })
+ready_so old new h name kept same compiled came next number are comes fits now =
     let documents : without_module name (documents_of old) ≡ without_module kept (documents_of new)
     = sym (λ i. without_module (same i) (same_documents old new h i)) in
     record {
       documents = λ i. without_module (same i) (documents_of new);
       made = number ∙ sym h.made;
       from = record {
-        outcome = subst (λ (ds : Documents). IsOutcome ds (outcome_of outcome)) documents comes;
+        outcome = subst (λ (ds : Documents). IsOutcome ds (outcome_of came.outcome)) documents comes;
+        fits = fits;
         compiled = subst (λ (ds : Documents). AreCompiled ds.modules compiled) documents are;
         room = tt;
         others = subst (λ (first : ℕ). HasBelow first new) (h.made ∙ sym number) (still_below old new h now.below);

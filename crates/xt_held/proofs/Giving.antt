@@ -8,11 +8,11 @@ use Rattle.spec_run.specs.Documents.{Documents, main_name, with_parameter}
 use Rattle.spec_run.specs.Outcome.{Comes, IsOutcome}
 use Rattle.xt_world.specs.ParameterView.{HasRoomForOne, parameters_of, with_value}
 use Rattle.xt_world.specs.declared.parameters.Parameters.{Parameters}
-use Rattle.xt_held.specs.OutcomeView.{outcome_of}
+use Rattle.xt_held.specs.OutcomeView.{Fits, outcome_of}
 use Rattle.xt_held.specs.StylesheetView.{AreCompiled}
 use Rattle.xt_held.specs.View.{HasBelow, IsKept, IsReady, documents_of, made_of, outcome_in}
 use Rattle.xt_held.specs.declared.held.Held.{Held}
-use Rattle.xt_held.specs.declared.outcome.Outcome.{Outcome}
+use Rattle.xt_held.specs.declared.outcome.Came.{Came}
 use Rattle.xt_held.specs.declared.ready.Change.TheVariants as changes
 
 abbrev with_those : Held → Parameters → Held
@@ -29,6 +29,8 @@ kept_so held parameters same = record {
   documents = same_documents held parameters same;
   made = refl;
   outcome = refl;
+  steps = refl;
+  last = refl;
   current = λ h. record {
     below = h.below;
     outcome = subst (λ (documents : Documents). IsOutcome documents (outcome_in held)) (sym (same_documents held parameters same)) h.outcome;
@@ -36,15 +38,15 @@ kept_so held parameters same = record {
   };
 }
 
-pub ready_so : (held : Held) (parameters : Parameters) (name value : List ℕ) (key : String Global) (kept : List ℕ) (outcome : Outcome)
+pub ready_so : (held : Held) (parameters : Parameters) (name value : List ℕ) (key : String Global) (kept : List ℕ) (came : Came)
     → parameters_of parameters ≡ parameters_of held.parameters → chars (string_bytes key) ≡ name → kept ≡ value
     → AreCompiled (documents_of held).modules held.compiled → HasBelow (made_of held) held
     → Comes (documents_of held).modules (with_value name value (parameters_of held.parameters)) ((documents_of held).modules main_name)
-    (documents_of held).source (outcome_of outcome)
-    → HasRoomForOne parameters
+    (documents_of held).source (outcome_of came.outcome)
+    → Fits came → HasRoomForOne parameters
     → IsReady (with_parameter name value) (made_of held) (with_those held parameters)
-    (record { change = changes.Parameter key kept; next = held.next; outcome = outcome })
-ready_so held parameters name value key kept outcome same named valued compiled below comes room =
+    (record { change = changes.Parameter key kept; next = held.next; came = came })
+ready_so held parameters name value key kept came same named valued compiled below comes fits room =
     let documents = documents_of held in
     let given : with_value name value (parameters_of held.parameters) ≡ with_value (chars (string_bytes key)) kept (parameters_of parameters)
     = sym (λ i. with_value (named i) (valued i) (same i)) in
@@ -52,8 +54,9 @@ ready_so held parameters name value key kept outcome same named valued compiled 
       documents = λ i. with_parameter (named i) (valued i) (documents_of (with_those held parameters));
       made = refl;
       from = record {
-        outcome = subst (λ (values : spec.Parameters). Comes documents.modules values (documents.modules main_name) documents.source (outcome_of outcome))
+        outcome = subst (λ (values : spec.Parameters). Comes documents.modules values (documents.modules main_name) documents.source (outcome_of came.outcome))
             given comes;
+        fits = fits;
         compiled = compiled;
         room = room;
         others = below;

@@ -16,7 +16,7 @@ use Rattle.xt_edit.specs.View.{AreBelow}
 use Rattle.xt_import.specs.View.{is_name, plain_of}
 use Rattle.xt_world.proofs.Keys.{lookup-insert}
 use Rattle.xt_held.specs.StylesheetView.{AreCompiled}
-use Rattle.xt_held.specs.View.{AreAllBelow, HasBelow, document_named, documents_of, made_of, numbered_document, outcome_in, IsCurrent, IsKept}
+use Rattle.xt_held.specs.View.{AreAllBelow, HasBelow, document_named, documents_of, last_in, made_of, numbered_document, outcome_in, steps_in, IsCurrent, IsKept}
 use Rattle.xt_held.specs.declared.held.Held.{Held}
 use Rattle.xt_held.specs.declared.name.DocName.{DocName}
 use Rattle.xt_held.specs.declared.name.DocName.TheVariants as names
@@ -38,11 +38,13 @@ current_by held documents outcome compiled d o k is are below =
 
 -- where only modules were tried, which are as before
 pub kept_by : (old new : Held) → documents_of new ≡ documents_of old → made_of new ≡ made_of old → outcome_in new ≡ outcome_in old → new.compiled ≡ old.compiled
-    → new.source ≡ old.source → new.modules.entries ≡ old.modules.entries → IsKept old new
-kept_by old new d n o k s m = record {
+    → new.source ≡ old.source → new.modules.entries ≡ old.modules.entries → steps_in new ≡ steps_in old → last_in new ≡ last_in old → IsKept old new
+kept_by old new d n o k s m t l = record {
   documents = d;
   made = n;
   outcome = o;
+  steps = t;
+  last = l;
   current = λ now. current_by new (documents_of old) (outcome_in old) old.compiled d o k now.outcome now.compiled
       (same_below (made_of old) (made_of new) old.source new.source old.modules.entries new.modules.entries n s m now.below);
 }

@@ -1,10 +1,14 @@
--- What outcomes stand for.
-use Rattle.std.specs.Prelude.{ℕ, Option}
-use Rattle.std.specs.Option.{option_map}
+-- What outcomes stand for, and what goes with them.
+use Rattle.std.specs.Prelude.{ℕ, ◌≡◌, Bool, true, false, Option}
+use Rattle.std.specs.Option.{is_some, option_map}
 use Rattle.spec_document.specs.Forest.{Plain, Document}
+use Rattle.spec_expression.specs.declared.code.Code.{Code}
+use Rattle.spec_expression.specs.declared.code.Code.TheVariants.{Static, Dynamic}
 use Rattle.spec_run.specs.Outcome as spec
 use Rattle.xt_syntax.specs.PartView.{place_of}
 use Rattle.xt_import.specs.View.{plain_of}
+use Rattle.xt_record.specs.declared.reuse.Steps.{Steps}
+use Rattle.xt_held.specs.declared.outcome.Came.{Came}
 use Rattle.xt_held.specs.declared.outcome.Outcome.{Outcome}
 use Rattle.xt_held.specs.declared.outcome.Outcome.TheVariants as outcomes
 use denote.Ref.{Bor}
@@ -16,3 +20,27 @@ plain_in document = option_map (λ d. plain_of d.now) document
 abbrev pub outcome_of : Outcome → spec.Outcome
 outcome_of (outcomes.Done result method messages) = spec.Done result method messages.items
 outcome_of (outcomes.Refused code place messages) = spec.Failed (record { code = code; place = place_of place }) messages.items
+
+-- ---- What a run leaves to the next, and what it took
+
+-- what it takes to run nothing
+abbrev pub no_steps : Steps
+no_steps = record { ran = 0; asked = 0 }
+
+abbrev pub is_done : spec.Outcome → Bool
+is_done (spec.Done result method messages) = true
+is_done (spec.Failed why messages) = false
+
+-- where there is no stylesheet, or no source, nothing is run
+abbrev pub IsFreeAt : Code → Steps → Type 0
+IsFreeAt (Static code) steps = steps ≡ no_steps
+IsFreeAt (Dynamic code) steps = Unit {0}
+
+abbrev pub IsFreeFor : spec.Outcome → Steps → Type 0
+IsFreeFor (spec.Done result method messages) steps = Unit {0}
+IsFreeFor (spec.Failed why messages) steps = IsFreeAt why.code steps
+
+-- what the run kept is there where it ended with a result, and only there; and what was not run took nothing
+pub record Fits (came : Came) : Type 0 where
+  pub kept : is_some came.kept ≡ is_done (outcome_of came.outcome)
+  pub steps : IsFreeFor (outcome_of came.outcome) came.steps

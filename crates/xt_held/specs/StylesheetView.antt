@@ -1,20 +1,14 @@
 -- What modules are compiled to.
-use Rattle.std.specs.Prelude.{ℕ, ◌≡◌, List, map, Option, None, Some, Result, Ok, Err, bytes_eq, if◌then◌else◌}
-use Rattle.spec_document.specs.Forest.{Plain, Document}
+use Rattle.std.specs.Prelude.{ℕ, ◌≡◌, List, Option, None, Some, Result, Ok, Err, bytes_eq, if◌then◌else◌}
+use Rattle.spec_document.specs.Forest.{Plain}
 use Rattle.spec_stylesheet.specs.Sheet as plain
 use Rattle.spec_structure.specs.Modules.{Modules}
 use Rattle.spec_compile.specs.Sheet as compile
 use Rattle.spec_compile.specs.Sheet.{IsSheet}
-use Rattle.spec_meaning.specs.Question.{Question}
-use Rattle.spec_run.specs.Documents.{Parameters, main_name}
-use Rattle.spec_run.specs.World.{globals_of}
-use Rattle.spec_node.specs.declared.node_ref.NodeRef.{NodeRef}
+use Rattle.spec_run.specs.Documents.{main_name}
 use Rattle.xt_syntax.specs.SheetView.{space_rules_of}
 use Rattle.xt_compile.specs.View.{refusal_in}
-use Rattle.xt_engine.specs.View.{named_of}
-use Rattle.xt_world.specs.Numbered.{element_called, truth_by_numbers}
-use Rattle.xt_world.specs.View.{truth_in}
-use Rattle.xt_world.specs.declared.stylesheet.Stylesheet as world
+pub use Rattle.xt_world.specs.Answering.{AnswersAs}
 use Rattle.xt_held.specs.declared.stylesheet.Compiled.{Compiled}
 use Rattle.xt_held.specs.declared.stylesheet.Compiled.TheVariants.{Stylesheet, Refused}
 
@@ -29,12 +23,6 @@ without_one name modules = λ other. if bytes_eq other name then None else modul
 -- there is a module of this name
 abbrev pub IsThere : Modules → List ℕ → Type 0
 IsThere modules name = (tree : Plain) × (modules name ≡ Some tree)
-
--- in the world of any source, with any parameters, it answers as this stylesheet does, and it has the globals of that
-pub record AnswersAs (held : world.Stylesheet) (sheet : plain.Sheet) : Type 0 where
-  pub truth : (parameters : Parameters) (document : Document ℕ) (q : Question NodeRef)
-      → truth_in held parameters document q ≡ truth_by_numbers sheet parameters document q
-  pub globals : map named_of held.globals.items ≡ globals_of (element_called sheet.units) sheet.units
 
 abbrev pub Holds : Compiled → Result plain.Sheet compile.Refusal → Type 0
 Holds (Stylesheet held rules method) result =

@@ -1,7 +1,7 @@
 -- What is held, what is ready to be adopted, and when it may be.
 use Rattle.std.specs.Prelude.{ℕ, ◌≡◌, ◌+◌, ◌<◌, List, Option, None, Some, IfSome, Result, Ok, Err, string_bytes}
 use Rattle.std.specs.Map.{lookup}
-use Rattle.std.specs.Option.{option_map}
+use Rattle.std.specs.Option.{option_map, unwrap_or}
 use Rattle.std.specs.Str.{chars}
 use Rattle.std.specs.HashMap.{spare}
 use Rattle.std.specs.declared.alloc.Global.{Global}
@@ -20,12 +20,15 @@ use Rattle.xt_edit.specs.View.{AreBelow}
 use Rattle.xt_edit.specs.declared.fault.EditFault.{EditFault}
 use Rattle.xt_edit.specs.declared.fault.EditFault.TheVariants as faults
 use Rattle.xt_import.specs.View.{is_name, modules_in, plain_of}
+use Rattle.xt_record.specs.declared.pool.Pool.{Pool}
+use Rattle.xt_record.specs.declared.reuse.Steps.{Steps}
 use Rattle.xt_world.specs.ParameterView.{HasRoomForOne, parameters_of}
-use Rattle.xt_held.specs.OutcomeView.{outcome_of}
+use Rattle.xt_held.specs.OutcomeView.{Fits, outcome_of}
 use Rattle.xt_held.specs.StylesheetView.{AreCompiled, IsThere}
 use Rattle.xt_held.specs.declared.held.Held.{Held}
 use Rattle.xt_held.specs.declared.name.DocName.{DocName}
 use Rattle.xt_held.specs.declared.name.DocName.TheVariants as names
+use Rattle.xt_held.specs.declared.outcome.Came.{Came}
 use Rattle.xt_held.specs.declared.ready.Change.{Change}
 use Rattle.xt_held.specs.declared.ready.Change.TheVariants as changes
 use Rattle.xt_held.specs.declared.ready.Ready.{Ready}
@@ -44,6 +47,13 @@ made_of held = held.next.number
 
 abbrev pub outcome_in : Held → spec.Outcome
 outcome_in held = outcome_of held.outcome
+
+-- what the last change took, and what the last run that ended with a result kept
+abbrev pub steps_in : Held → Steps
+steps_in held = held.steps
+
+abbrev pub last_in : Held → Pool
+last_in held = held.last
 
 -- all numbers of these documents are below this one: of a source, and of the modules of all names
 pub record AreAllBelow (first : ℕ) (document : Option (Document ℕ)) (entries : List (String Global × Document ℕ)) : Type 0 where
@@ -64,6 +74,8 @@ pub record IsKept (old new : Held) : Type 0 where
   pub documents : documents_of new ≡ documents_of old
   pub made : made_of new ≡ made_of old
   pub outcome : outcome_in new ≡ outcome_in old
+  pub steps : steps_in new ≡ steps_in old
+  pub last : last_in new ≡ last_in old
   pub current : IsCurrent old → IsCurrent new
 
 abbrev pub document_named : DocName → Documents → Option Plain
@@ -108,7 +120,18 @@ abbrev pub next_made : Ready → ℕ
 next_made ready = ready.next.number
 
 abbrev pub next_outcome : Ready → spec.Outcome
-next_outcome ready = outcome_of ready.outcome
+next_outcome ready = outcome_of ready.came.outcome
+
+abbrev pub next_steps : Ready → Steps
+next_steps ready = ready.came.steps
+
+-- where the new run kept nothing, what the last one kept stays
+abbrev pub next_last : Ready → Held → Pool
+next_last ready held = unwrap_or ready.came.kept held.last
+
+-- with what came in place of what came before
+abbrev pub with_came : Came → Held → Held
+with_came came held = record held { outcome = came.outcome; steps = came.steps; last = unwrap_or came.kept held.last }
 
 -- there is room for it, so that no memory is taken
 abbrev pub HasRoom : Change → Held → Type 0
@@ -124,10 +147,11 @@ IsBelow first (changes.Module name document compiled) = AreBelow first document
 IsBelow first (changes.Dropped name compiled) = Unit {0}
 IsBelow first (changes.Parameter name value) = Unit {0}
 
--- it was made from what is held: its outcome is that of the documents that will be held, the modules are what will be held of that, and the next
--- number will be that of no node
+-- it was made from what is held: its outcome is that of the documents that will be held, what was kept and counted goes with that, the modules are
+-- what will be held of that, and the next number will be that of no node
 pub record IsMadeFrom (held : Held) (ready : Ready) : Type 0 where
   pub outcome : IsOutcome (next_documents ready held) (next_outcome ready)
+  pub fits : Fits ready.came
   pub compiled : AreCompiled (next_documents ready held).modules (next_compiled ready.change held)
   pub room : HasRoom ready.change held
   pub others : HasBelow (next_made ready) held

@@ -14,11 +14,11 @@ ghost use Rattle.xt_build.specs.View.{Builds, document_in};
 ghost use Rattle.xt_edit.specs.View.{AreBelow, EditsPlain, edit_of};
 ghost use Rattle.xt_import.specs.View.{is_name, plain_of};
 ghost use Rattle.xt_world.specs.ParameterView.{HasRoomForOne};
-ghost use Rattle.xt_held.specs.OutcomeView.{outcome_of, plain_in};
-ghost use Rattle.xt_held.specs.View.{HasBelow, HasRoom, IsBelow, IsCurrent, IsKept, IsMadeFrom, IsReady, Prepares, PreparesDrop, PreparesEdit, PreparesMove, PreparesParameter, changed_by, document_named, documents_of, edit_fault_of, made_of, next_compiled, next_documents, next_made, next_outcome, numbered_document, outcome_in, with_document};
+ghost use Rattle.xt_held.specs.OutcomeView.{no_steps, outcome_of, plain_in};
+ghost use Rattle.xt_held.specs.View.{HasBelow, HasRoom, IsBelow, IsCurrent, IsKept, IsMadeFrom, IsReady, Prepares, PreparesDrop, PreparesEdit, PreparesMove, PreparesParameter, changed_by, document_named, documents_of, edit_fault_of, last_in, made_of, next_compiled, next_documents, next_last, next_made, next_outcome, next_steps, numbered_document, outcome_in, steps_in, with_came, with_document};
 
 use crate::name::DocName;
-use crate::outcome::{Outcome, at_no_element, outcome_of};
+use crate::outcome::{Came, Outcome, at_no_element, no_steps, outcome_of};
 use crate::parameter::{TriedParameter, outcome_with, parameter_fault};
 use crate::ready::{Change, Ready};
 use crate::stylesheet::Compiled;
@@ -33,12 +33,14 @@ use xt_build::{BuildFault, Built, build};
 use xt_edit::{Edit, EditFault, Edited, apply, relocate};
 use xt_io::Line;
 use xt_names::Scope;
+use xt_record::{Pool, Steps};
 use xt_text::{Memory, Path, Text};
 use xt_tree::{Doc, NodeId};
 use xt_world::Parameters;
 
 /// The documents that are held, what the modules are, the values that parameters are given, the number of the next
-/// node, and the outcome of the transformation, which is that of all these.
+/// node, and the outcome of the transformation, which is that of all these; and what the last run that ended with a
+/// result kept for the next, and what the last change took.
 #[derive(Drop)]
 pub struct Held {
     source: Option<Doc>,
@@ -47,13 +49,16 @@ pub struct Held {
     parameters: Parameters,
     next: NodeId,
     outcome: Outcome,
+    last: Pool,
+    steps: Steps,
 }
 
 impl Held {
-    /// No document, so that the outcome is S01; the first node will have the number 0. Takes no memory.
+    /// No document, so that the outcome is S01; the first node will have the number 0. No run was there. Takes no memory.
     pub fn new(alloc: Global) -> Held
         ensures documents { documents_of result ≡ no_documents }
         ensures made { made_of result ≡ 0 }
+        ensures steps { steps_in result ≡ no_steps }
         ensures current { IsCurrent result }
     {
         Held {
@@ -63,6 +68,8 @@ impl Held {
             parameters: Parameters::new(alloc),
             next: NodeId { number: 0 },
             outcome: at_no_element(alloc, StaticCode::NoMain),
+            last: Pool::new(alloc),
+            steps: no_steps(),
         }
     }
 
@@ -174,22 +181,38 @@ impl Held {
         }
     }
 
-    /// Makes present what is ready, which was made from what is held. Takes no memory.
+    /// Makes present what is ready, which was made from what is held. What the last run with a result kept stays where
+    /// the new outcome is a refusal. Takes no memory.
     pub fn adopt(&mut self, ready: Ready)
         requires { IsMadeFrom self.old ready }
         ensures documents { documents_of self.new ≡ next_documents ready self.old }
         ensures made { made_of self.new ≡ next_made ready }
         ensures outcome { outcome_in self.new ≡ next_outcome ready }
+        ensures steps { steps_in self.new ≡ next_steps ready }
+        ensures last { last_in self.new ≡ next_last ready self.old }
         ensures current { IsCurrent self.new }
     {
-        let Ready {
-            change,
-            next,
-            outcome,
-        } = ready;
+        let Ready { change, next, came } = ready;
         self.put(change);
         self.next = next;
+        self.take_over(came);
+    }
+
+    // What the last run with a result kept goes only where there is a new result.
+    fn take_over(&mut self, came: Came)
+        ensures { self.new ≡ with_came came self.old }
+    {
+        let Came {
+            outcome,
+            kept,
+            steps,
+        } = came;
         drop(mem::replace(&mut self.outcome, outcome));
+        self.steps = steps;
+        match kept {
+            Some(kept) => drop(mem::replace(&mut self.last, kept)),
+            None => {}
+        }
     }
 
     /// What the transformation of the documents comes to. Takes no memory.
@@ -197,6 +220,13 @@ impl Held {
         ensures { outcome_of result.now ≡ outcome_in self.now }
     {
         &self.outcome
+    }
+
+    /// What the last change that was adopted took. Takes no memory.
+    pub fn stats(&self) -> Steps
+        ensures { result ≡ steps_in self.now }
+    {
+        self.steps
     }
 
     /// The document of this name, where there is one. Takes no memory.
@@ -297,14 +327,15 @@ impl Held {
         ensures { IfOk result (λ ready. IsReady (with_source (plain_of document)) next.number self.now ready) }
     {
         let compiled = self.compiled.as_ref();
-        let Ok(outcome) = outcome_of(alloc, compiled, &self.parameters, Some(&document)) else {
+        let last = &self.last;
+        let Ok(came) = outcome_of(alloc, compiled, &self.parameters, Some(&document), last) else {
             drop(document);
             return Err(Memory);
         };
         Ok(Ready {
             change: Change::Source(document),
             next,
-            outcome,
+            came,
         })
     }
 
@@ -329,12 +360,12 @@ impl Held {
         let tried = compiled_with(alloc, &mut self.modules, name, document)?;
         let source = self.source.as_ref();
         let compiled = tried.compiled.as_ref();
-        let Ok(outcome) = outcome_of(alloc, compiled, &self.parameters, source) else {
+        let Ok(came) = outcome_of(alloc, compiled, &self.parameters, source, &self.last) else {
             drop(tried);
             return Err(Memory);
         };
         let Ok(()) = self.modules.reserve(1) else {
-            drop(outcome);
+            drop(came);
             drop(tried);
             return Err(Memory);
         };
@@ -342,7 +373,7 @@ impl Held {
         Ok(Ready {
             change: Change::Module(key, document, compiled),
             next,
-            outcome,
+            came,
         })
     }
 
@@ -355,14 +386,15 @@ impl Held {
         let dropped = name.copy(alloc)?;
         let compiled = compiled_without(alloc, &mut self.modules, name)?;
         let source = self.source.as_ref();
-        let Ok(outcome) = outcome_of(alloc, compiled.as_ref(), &self.parameters, source) else {
+        let last = &self.last;
+        let Ok(came) = outcome_of(alloc, compiled.as_ref(), &self.parameters, source, last) else {
             drop(compiled);
             return Err(Memory);
         };
         Ok(Ready {
             change: Change::Dropped(dropped, compiled),
             next: self.next,
-            outcome,
+            came,
         })
     }
 
@@ -374,16 +406,21 @@ impl Held {
     {
         let compiled = self.compiled.as_ref();
         let source = self.source.as_ref();
-        let tried = outcome_with(alloc, compiled, &mut self.parameters, name, value, source)?;
-        let TriedParameter {
+        let last = &self.last;
+        let tried = outcome_with(
+            alloc,
+            compiled,
+            &mut self.parameters,
             name,
             value,
-            outcome,
-        } = tried;
+            source,
+            last,
+        )?;
+        let TriedParameter { name, value, came } = tried;
         Ok(Ready {
             change: Change::Parameter(name, value),
             next: self.next,
-            outcome,
+            came,
         })
     }
 
@@ -391,6 +428,7 @@ impl Held {
         requires { HasRoom change self.old }
         ensures documents { documents_of self.new ≡ changed_by change (documents_of self.old) }
         ensures compiled { self.new.compiled ≡ next_compiled change self.old }
+        ensures last { last_in self.new ≡ last_in self.old }
         ensures below { (first : ℕ) → HasBelow first self.old → IsBelow first change → HasBelow first self.new }
     {
         match change {
@@ -404,6 +442,7 @@ impl Held {
     fn put_source(&mut self, document: Doc)
         ensures documents { documents_of self.new ≡ with_source (plain_of document) (documents_of self.old) }
         ensures compiled { self.new.compiled ≡ self.old.compiled }
+        ensures last { last_in self.new ≡ last_in self.old }
         ensures below { (first : ℕ) → HasBelow first self.old → AreBelow first document → HasBelow first self.new }
     {
         drop(mem::replace(&mut self.source, Some(document)));
@@ -414,6 +453,7 @@ impl Held {
         requires { 0 < spare self.old.modules }
         ensures documents { documents_of self.new ≡ with_module (chars (string_bytes name)) (plain_of document) (documents_of self.old) }
         ensures compiled { self.new.compiled ≡ compiled }
+        ensures last { last_in self.new ≡ last_in self.old }
         ensures below { (first : ℕ) → HasBelow first self.old → AreBelow first document → HasBelow first self.new }
     {
         drop(self.modules.insert(name, document));
@@ -423,6 +463,7 @@ impl Held {
     fn take_module(&mut self, name: &Text, compiled: Option<Compiled>)
         ensures documents { documents_of self.new ≡ without_module name.now (documents_of self.old) }
         ensures compiled { self.new.compiled ≡ compiled }
+        ensures last { last_in self.new ≡ last_in self.old }
         ensures below { (first : ℕ) → HasBelow first self.old → HasBelow first self.new }
     {
         drop(self.modules.shift_remove(name.as_str()));
@@ -434,6 +475,7 @@ impl Held {
         requires { HasRoomForOne self.old.parameters }
         ensures documents { documents_of self.new ≡ with_parameter (chars (string_bytes name)) value (documents_of self.old) }
         ensures compiled { self.new.compiled ≡ self.old.compiled }
+        ensures last { last_in self.new ≡ last_in self.old }
         ensures below { (first : ℕ) → HasBelow first self.old → HasBelow first self.new }
     {
         self.parameters.keep(name, value);

@@ -3,13 +3,15 @@
 //! then adopted, so that a refused or failing one leaves all as it was. A document is given whole, or edited by path
 //! with `edit`, or a node of it moves with `relocate`.
 //!
-//! So far the outcome of a change is that of a run from nothing. The modules are compiled again where one changes.
+//! What the last run that ended with a result kept stays, and the run of a change takes from it what still holds, so that it
+//! comes to what a run from nothing would. `stats` tells what that took. The modules are compiled again where one changes.
 //!
 //! ```text
 //! let mut held = Held::new(alloc);                   // S01 -
 //! let ready = held.set_source(alloc, body)?;         // nothing is changed yet
 //! let outcome = ready.outcome();                     // what it will come to
 //! held.adopt(ready);                                 // takes no memory
+//! let steps = held.stats();                          // what the change took
 //! let ready = held.edit(alloc, name, &edit)?;        // a document by its name, edited by path
 //! let ready = held.relocate(alloc, name, &path, &other)?;  // a node of it moved, by two paths
 //! let ready = held.set_param(alloc, name, value)?;   // the same for a parameter
@@ -31,3 +33,4 @@ pub use name::DocName;
 pub use outcome::Outcome;
 pub use ready::Ready;
 pub use xt_edit::{Edit, EditFault};
+pub use xt_record::Steps;

@@ -1,5 +1,5 @@
 // What the transformation of documents comes to.
-ghost use Rattle.std.specs.Prelude.{◌≡◌, IfOk, None, Some, []};
+ghost use Rattle.std.specs.Prelude.{◌≡◌, IfOk, None, Ok, Some, []};
 ghost use Rattle.std.specs.Option.{option_copied};
 ghost use Rattle.spec_document.specs.Forest.{Plain};
 ghost use Rattle.spec_expression.specs.declared.code.Code.TheVariants as codes;
@@ -8,16 +8,17 @@ ghost use Rattle.spec_structure.specs.Modules.{Modules};
 ghost use Rattle.spec_run.specs.Documents.{main_name};
 ghost use Rattle.spec_run.specs.Meaning.{run_of};
 ghost use Rattle.spec_run.specs.Outcome as spec;
-ghost use Rattle.spec_run.specs.Outcome.{Comes, document_of, outcome_by, refused_static};
+ghost use Rattle.spec_run.specs.Outcome.{Comes, document_of, outcome_by, refused_dynamic, refused_static};
 ghost use Rattle.spec_run.specs.Plan.{nowhere};
 ghost use Rattle.spec_run.specs.World.{setting_of};
 ghost use Rattle.spec_seen.specs.Seen.{seen as seen_of};
 ghost use Rattle.xt_syntax.specs.SheetView.{space_rules_of};
 ghost use Rattle.xt_compile.specs.View.{refusal_in};
+ghost use Rattle.xt_engine.specs.View.{refused_of};
 ghost use Rattle.xt_driver.specs.View.{whole_of};
 ghost use Rattle.xt_import.specs.View.{plain_of};
 ghost use Rattle.xt_world.specs.ParameterView.{parameters_of};
-ghost use Rattle.xt_held.specs.OutcomeView.{outcome_of, plain_in};
+ghost use Rattle.xt_held.specs.OutcomeView.{Fits, no_steps, outcome_of, plain_in};
 ghost use Rattle.xt_held.specs.StylesheetView.{AnswersAs, AreCompiled, IsCompiledFrom};
 
 use crate::stylesheet::{Compiled, copy_method};
@@ -27,7 +28,9 @@ use std::alloc::Global;
 use xt_base::{Code, Place};
 use xt_compile::StaticRefusal;
 use xt_driver::{Whole, run};
+use xt_engine::Refused;
 use xt_questions::copy_place;
+use xt_record::{Pool, Reuse, Steps};
 use xt_result::{ResultTree, shape};
 use xt_runner::Runner;
 use xt_strip::seen;
@@ -58,24 +61,57 @@ pub enum Outcome {
     },
 }
 
+/// An outcome, with what its run leaves to the next and what it took.
+#[derive(Drop)]
+pub(crate) struct Came {
+    pub outcome: Outcome,
+    /// What the run kept, where it ended with a result.
+    pub kept: Option<Pool>,
+    /// What the run took, where there was one.
+    pub steps: Steps,
+}
+
 /// The outcome of modules that are this on this source with these parameters: `S01` without a module `main`, else `S02` without a source,
-/// else the first static refusal of the modules, else the first dynamic refusal of the run, else the result.
+/// else the first static refusal of the modules, else the first dynamic refusal of the run, else the result. The run takes what still
+/// holds from what the last one kept.
 pub(crate) fn outcome_of(
     alloc: Global,
     compiled: Option<&Compiled>,
     parameters: &Parameters,
     source: Option<&Doc>,
-) -> Result<Outcome, Memory>
-    ensures { (modules : Modules) → AreCompiled modules (option_copied compiled.entry)
-        → IfOk result (λ outcome. Comes modules (parameters_of parameters.now) (modules main_name) (plain_in source.entry) (outcome_of outcome)) }
+    last: &Pool,
+) -> Result<Came, Memory>
+    ensures outcome { (modules : Modules) → AreCompiled modules (option_copied compiled.entry)
+        → IfOk result (λ came. Comes modules (parameters_of parameters.now) (modules main_name) (plain_in source.entry) (outcome_of came.outcome)) }
+    ensures fits { IfOk result (λ came. Fits came) }
 {
     match compiled {
-        None => Ok(at_no_element(alloc, StaticCode::NoMain)),
+        None => Ok(with_no_run(at_no_element(alloc, StaticCode::NoMain))),
         Some(compiled) => match source {
-            None => Ok(at_no_element(alloc, StaticCode::NoSource)),
-            Some(source) => transformed(alloc, compiled, parameters, source),
+            None => Ok(with_no_run(at_no_element(alloc, StaticCode::NoSource))),
+            Some(source) => transformed(alloc, compiled, parameters, source, last),
         },
     }
+}
+
+// The outcome where nothing is run.
+fn with_no_run(outcome: Outcome) -> Came
+    ensures outcome { result.outcome ≡ outcome }
+    ensures kept { result.kept ≡ None }
+    ensures steps { result.steps ≡ no_steps }
+{
+    Came {
+        outcome,
+        kept: None,
+        steps: no_steps(),
+    }
+}
+
+/// What it takes to run nothing.
+pub(crate) fn no_steps() -> Steps
+    ensures { result ≡ no_steps }
+{
+    Steps { ran: 0, asked: 0 }
 }
 
 /// A refusal that no element has. Takes no memory.
@@ -98,33 +134,44 @@ fn transformed(
     compiled: &Compiled,
     parameters: &Parameters,
     source: &Doc,
-) -> Result<Outcome, Memory>
-    ensures { (modules : Modules) (main : Plain) → IsCompiledFrom modules compiled.now
-        → IfOk result (λ outcome. Comes modules (parameters_of parameters.now) (Some main) (Some (plain_of source.now)) (outcome_of outcome)) }
+    last: &Pool,
+) -> Result<Came, Memory>
+    ensures outcome { (modules : Modules) (main : Plain) → IsCompiledFrom modules compiled.now
+        → IfOk result (λ came. Comes modules (parameters_of parameters.now) (Some main) (Some (plain_of source.now)) (outcome_of came.outcome)) }
+    ensures fits { IfOk result (λ came. Fits came) }
 {
     match compiled {
         Compiled::Stylesheet(stylesheet, space_rules, method) => {
-            let whole = whole_of_seen(alloc, stylesheet, space_rules, parameters, source)?;
+            let over = whole_of_seen(alloc, stylesheet, space_rules, parameters, source, last)?;
             let Ok(method) = copy_method(alloc, method) else {
-                drop(whole);
+                drop(over);
                 return Err(Memory);
             };
-            ended(method, whole)
+            ended(method, over)
         }
         Compiled::Refused(refusal) => refused(alloc, refusal),
     }
 }
 
 // The outcome of modules with this static refusal.
-fn refused(alloc: Global, refusal: &StaticRefusal) -> Result<Outcome, Memory>
-    ensures { IfOk result (λ outcome. outcome_of outcome ≡ spec.Failed (refused_static (refusal_in refusal.now)) []) }
+fn refused(alloc: Global, refusal: &StaticRefusal) -> Result<Came, Memory>
+    ensures outcome { IfOk result (λ came. outcome_of came.outcome ≡ spec.Failed (refused_static (refusal_in refusal.now)) []) }
+    ensures fits { IfOk result (λ came. Fits came) }
 {
     let place = copy_place(alloc, &refusal.place)?;
-    Ok(Outcome::Refused {
+    Ok(with_no_run(Outcome::Refused {
         code: Code::Static(refusal.code),
         place,
         messages: Vec::new(alloc),
-    })
+    }))
+}
+
+// A run that is over, with what it kept and what it took.
+#[derive(Drop)]
+struct Over {
+    whole: Whole,
+    kept: Pool,
+    steps: Steps,
 }
 
 // The run of the stylesheet on what it sees of the source (XSLT 1.0, section 3.4).
@@ -134,13 +181,14 @@ fn whole_of_seen(
     space_rules: &SpaceRules,
     parameters: &Parameters,
     source: &Doc,
-) -> Result<Whole, Memory>
+    last: &Pool,
+) -> Result<Over, Memory>
     ensures { (sheet : plain.Sheet) → AnswersAs stylesheet.now sheet → space_rules_of space_rules.now ≡ sheet.space_rules
-        → IfOk result (λ whole. whole_of whole ≡ run_of (setting_of sheet (parameters_of parameters.now) (seen_of sheet.space_rules.rules (document_of (plain_of source.now))))) }
+        → IfOk result (λ over. whole_of over.whole ≡ run_of (setting_of sheet (parameters_of parameters.now) (seen_of sheet.space_rules.rules (document_of (plain_of source.now))))) }
 {
     labels_do_not_matter();
     let seen = seen(alloc, source, space_rules.rules.as_slice())?;
-    whole(alloc, stylesheet, parameters, &seen)
+    whole(alloc, stylesheet, parameters, &seen, last)
 }
 
 // The run of the stylesheet on this source, in a world of its own.
@@ -149,28 +197,50 @@ fn whole(
     stylesheet: &Stylesheet,
     parameters: &Parameters,
     source: &Doc,
-) -> Result<Whole, Memory>
+    last: &Pool,
+) -> Result<Over, Memory>
     ensures { (sheet : plain.Sheet) → AnswersAs stylesheet.now sheet
-        → IfOk result (λ whole. whole_of whole ≡ run_of (setting_of sheet (parameters_of parameters.now) (document_of (plain_of source.now)))) }
+        → IfOk result (λ over. whole_of over.whole ≡ run_of (setting_of sheet (parameters_of parameters.now) (document_of (plain_of source.now)))) }
 {
     same_run();
     source.distinct_numbers();
     let root = NodeRef::of(source.root());
+    let mut reuse = Reuse::new(alloc, last)?;
     let mut world = SheetWorld::new(alloc, source, stylesheet, parameters);
     let mut engine = Runner::new();
-    run(
+    let whole = run(
         alloc,
         &mut engine,
         &mut world,
         root,
         stylesheet.globals.as_slice(),
-    )
+        &mut reuse,
+    );
+    with_kept(whole, reuse)
+}
+
+// The run with what it kept.
+fn with_kept(whole: Result<Whole, Memory>, reuse: Reuse<'_>) -> Result<Over, Memory>
+    ensures { IfOk result (λ over. whole ≡ Ok over.whole) }
+{
+    match whole {
+        Ok(whole) => {
+            let (kept, steps) = reuse.ended();
+            Ok(Over { whole, kept, steps })
+        }
+        Err(_) => {
+            drop(reuse);
+            Err(Memory)
+        }
+    }
 }
 
 // The outcome of a run of a stylesheet with this output method.
-fn ended(method: Option<Method>, whole: Whole) -> Result<Outcome, Memory>
-    ensures { IfOk result (λ outcome. outcome_of outcome ≡ outcome_by method (whole_of whole)) }
+fn ended(method: Option<Method>, over: Over) -> Result<Came, Memory>
+    ensures outcome { IfOk result (λ came. outcome_of came.outcome ≡ outcome_by method (whole_of over.whole)) }
+    ensures fits { IfOk result (λ came. Fits came) }
 {
+    let Over { whole, kept, steps } = over;
     let Whole {
         content,
         messages,
@@ -178,23 +248,41 @@ fn ended(method: Option<Method>, whole: Whole) -> Result<Outcome, Memory>
     } = whole;
     match refusal {
         None => match shape(&content) {
-            Ok(result) => Ok(Outcome::Done {
-                result,
-                method,
-                messages,
+            Ok(result) => Ok(Came {
+                outcome: Outcome::Done {
+                    result,
+                    method,
+                    messages,
+                },
+                kept: Some(kept),
+                steps,
             }),
             Err(_) => {
                 drop(method);
+                drop(kept);
                 Err(Memory)
             }
         },
         Some(why) => {
             drop(method);
-            Ok(Outcome::Refused {
-                code: Code::Dynamic(why.code),
-                place: why.place,
-                messages,
-            })
+            drop(kept);
+            Ok(refused_in_run(why, messages, steps))
         }
+    }
+}
+
+// The outcome of a run that was refused, of which nothing is kept.
+fn refused_in_run(why: Refused, messages: Vec<Text>, steps: Steps) -> Came
+    ensures outcome { outcome_of result.outcome ≡ spec.Failed (refused_dynamic (refused_of why)) messages.items }
+    ensures fits { Fits result }
+{
+    Came {
+        outcome: Outcome::Refused {
+            code: Code::Dynamic(why.code),
+            place: why.place,
+            messages,
+        },
+        kept: None,
+        steps,
     }
 }

@@ -9,14 +9,15 @@ ghost use Rattle.spec_run.specs.Documents.{main_name, parameter_fault};
 ghost use Rattle.spec_run.specs.Outcome.{Comes};
 ghost use Rattle.xt_base.specs.Code.{edit_number};
 ghost use Rattle.xt_world.specs.ParameterView.{HasRoomForOne, parameters_of, with_value};
-ghost use Rattle.xt_held.specs.OutcomeView.{outcome_of, plain_in};
+ghost use Rattle.xt_held.specs.OutcomeView.{Fits, outcome_of, plain_in};
 ghost use Rattle.xt_held.specs.StylesheetView.{AreCompiled};
 
-use crate::outcome::{Outcome, outcome_of};
+use crate::outcome::{Came, outcome_of};
 use crate::stylesheet::Compiled;
 use std::alloc::Global;
 use xt_base::EditCode;
 use xt_names::{is_char, is_ncname};
+use xt_record::Pool;
 use xt_text::{Memory, Text};
 use xt_tree::Doc;
 use xt_world::Parameters;
@@ -43,16 +44,16 @@ fn has_only_chars(text: &str) -> bool
     text.chars().all(|character| is_char(character))
 }
 
-/// A parameter with a value that was tried, and what the outcome was then.
+/// A parameter with a value that was tried, and what came then.
 #[derive(Drop)]
 pub(crate) struct TriedParameter {
     pub name: String,
     pub value: Text,
-    pub outcome: Outcome,
+    pub came: Came,
 }
 
-/// The outcome of modules that are this on this source where the parameter of this name has this value. Afterwards the
-/// parameters are as before, with room for one more.
+/// The outcome of modules that are this on this source where the parameter of this name has this value, by a run that takes
+/// what still holds from what the last one kept. Afterwards the parameters are as before, with room for one more.
 pub(crate) fn outcome_with(
     alloc: Global,
     compiled: Option<&Compiled>,
@@ -60,9 +61,11 @@ pub(crate) fn outcome_with(
     name: &Text,
     value: &Text,
     source: Option<&Doc>,
+    last: &Pool,
 ) -> Result<TriedParameter, Memory>
     ensures outcome { (modules : Modules) → AreCompiled modules (option_copied compiled.entry)
-        → IfOk result (λ tried. Comes modules (with_value name.now value.now (parameters_of parameters.old)) (modules main_name) (plain_in source.entry) (outcome_of tried.outcome)) }
+        → IfOk result (λ tried. Comes modules (with_value name.now value.now (parameters_of parameters.old)) (modules main_name) (plain_in source.entry) (outcome_of tried.came.outcome)) }
+    ensures fits { IfOk result (λ tried. Fits tried.came) }
     ensures name { IfOk result (λ tried. chars (string_bytes tried.name) ≡ name.now) }
     ensures value { IfOk result (λ tried. tried.value ≡ value.now) }
     ensures room { OnOk result (HasRoomForOne parameters.new) }
@@ -71,16 +74,16 @@ pub(crate) fn outcome_with(
     let key = String::from_str(alloc, name.as_str())?;
     let kept = value.copy(alloc)?;
     let before = parameters.give(alloc, name, value)?;
-    let outcome = outcome_of(alloc, compiled, parameters, source);
+    let came = outcome_of(alloc, compiled, parameters, source, last);
     parameters.take_back(before);
-    let outcome = outcome?;
+    let came = came?;
     let Ok(()) = parameters.reserve() else {
-        drop(outcome);
+        drop(came);
         return Err(Memory);
     };
     Ok(TriedParameter {
         name: key,
         value: kept,
-        outcome,
+        came,
     })
 }

@@ -1,5 +1,5 @@
 // Changes that are ready to be adopted.
-use crate::outcome::Outcome;
+use crate::outcome::{Came, Outcome};
 use crate::stylesheet::Compiled;
 use xt_text::Text;
 use xt_tree::{Doc, NodeId};
@@ -9,7 +9,7 @@ use xt_tree::{Doc, NodeId};
 pub struct Ready {
     pub(crate) change: Change,
     pub(crate) next: NodeId,
-    pub(crate) outcome: Outcome,
+    pub(crate) came: Came,
 }
 
 /// What changes.
@@ -34,6 +34,6 @@ impl Ready {
     pub fn outcome(&self) -> &Outcome
         ensures { outcome_of result.now ≡ next_outcome self.now }
     {
-        &self.outcome
+        &self.came.outcome
     }
 }

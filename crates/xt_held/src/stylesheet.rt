@@ -8,10 +8,11 @@ ghost use Rattle.xt_held.specs.StylesheetView.{AreCompiled, Holds, IsCompiledFro
 
 use indexmap::IndexMap;
 use std::alloc::Global;
+use xt_base::Place;
 use xt_compile::{SheetFault, StaticRefusal, sheet};
 use xt_names::copy_name;
-use xt_syntax::{Method, Sheet, SpaceRules};
-use xt_text::{Memory, Text};
+use xt_syntax::{Method, Sheet, SpaceRules, Unit};
+use xt_text::{Memory, Path, Text};
 use xt_tree::Doc;
 use xt_world::Stylesheet;
 
@@ -46,7 +47,7 @@ fn compiled_main(alloc: Global, modules: &IndexMap<String, Doc>) -> Result<Compi
     ensures { IfOk result (λ compiled. IsCompiledFrom (modules_in modules.now.entries) compiled) }
 {
     match sheet_of_main(alloc, modules) {
-        Ok(sheet) => runnable(alloc, sheet),
+        Ok(sheet) => numbered(alloc, modules, sheet),
         Err(SheetFault::Refused(refusal)) => Ok(Compiled::Refused(refusal)),
         Err(SheetFault::NoMain) => unreachable!(),
         Err(SheetFault::Memory) => Err(Memory),
@@ -61,8 +62,23 @@ fn sheet_of_main(alloc: Global, modules: &IndexMap<String, Doc>) -> Result<Sheet
     sheet(alloc, modules, &main)
 }
 
+// The stylesheet of these modules made ready to be run, its units called by the numbers of their elements.
+fn numbered(
+    alloc: Global,
+    modules: &IndexMap<String, Doc>,
+    sheet: Sheet,
+) -> Result<Compiled, Memory>
+    ensures { IfOk result (λ compiled. Holds compiled (Ok (sheet_of sheet))) }
+{
+    let Ok(numbers) = numbers_of(alloc, modules, sheet.units.as_slice()) else {
+        drop(sheet);
+        return Err(Memory);
+    };
+    runnable(alloc, sheet, numbers)
+}
+
 // The stylesheet made ready to be run. The run asks neither for its rules of white space nor for its method.
-fn runnable(alloc: Global, sheet: Sheet) -> Result<Compiled, Memory>
+fn runnable(alloc: Global, sheet: Sheet, numbers: Vec<u64>) -> Result<Compiled, Memory>
     ensures { IfOk result (λ compiled. Holds compiled (Ok (sheet_of sheet))) }
 {
     let Sheet {
@@ -81,12 +97,41 @@ fn runnable(alloc: Global, sheet: Sheet) -> Result<Compiled, Memory>
         method: None,
         aliases,
     };
-    let Ok(stylesheet) = Stylesheet::new(alloc, asked) else {
+    let Ok(stylesheet) = Stylesheet::new(alloc, asked, numbers) else {
         drop(space_rules);
         drop(method);
         return Err(Memory);
     };
     Ok(Compiled::Stylesheet(stylesheet, space_rules, method))
+}
+
+// The numbers that the modules give to the elements of these units. They stay where a module is edited elsewhere. The
+// stylesheet looks them through and takes others where they do not serve, so nothing has to be known of them.
+fn numbers_of(
+    alloc: Global,
+    modules: &IndexMap<String, Doc>,
+    units: &[Unit],
+) -> Result<Vec<u64>, Memory> {
+    let mut numbers = Vec::new(alloc);
+    for unit in units {
+        if let Some(number) = number_at(modules, &unit.site.place) {
+            numbers.push(number)?;
+        }
+    }
+    Ok(numbers)
+}
+
+// The number of the element at this place.
+fn number_at(modules: &IndexMap<String, Doc>, place: &Place) -> Option<u64> {
+    match &place.module {
+        None => None,
+        Some(name) => number_in(modules.get(name.as_str())?, &place.path),
+    }
+}
+
+fn number_in(module: &Doc, path: &Path) -> Option<u64> {
+    let element = module.at(path)?;
+    Some(element.node.number)
 }
 
 /// The same output method, in memory of its own.

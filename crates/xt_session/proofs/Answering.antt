@@ -11,7 +11,8 @@ use Rattle.spec_stylesheet.specs.declared.method.Method.TheVariants as method
 use Rattle.spec_run.specs.Documents.{Documents, with_parameter, without_module}
 use Rattle.spec_run.specs.Outcome.{Outcome, IsOutcome}
 use Rattle.spec_session.specs.Command.{Command}
-use Rattle.spec_session.specs.Machine.{State, Answer, Changes, ShowsResult, WritesResult, ShowsMessages, ShowsDocument, Refuses, kept_in, kept_by}
+use Rattle.spec_session.specs.Machine.{State, Answer, Changes, ShowsResult, WritesResult, ShowsMessages, ShowsDocument, TellsCounts, Refuses, kept_in, kept_by}
+use Rattle.spec_session.specs.Machine.{TellsNumbers}
 use Rattle.spec_session.specs.Machine.{document_named, with_document, edited_by}
 use Rattle.spec_session.specs.Machine.{shows, dropped_by, given_by, change_reply, result_reply, written_by, written_reply, messages_reply, answer_by, answer_to, Gives, Step}
 use Rattle.spec_session.specs.Request.{DocumentName, Request, request_of}
@@ -66,6 +67,9 @@ gives_written old outcome reply text stands is e = record { reply = reply; gives
 pub gives_messages : (old : State) (outcome : Outcome) (reply : Reply) (text : List ℕ) → IsOutcome old.documents outcome
     → reply ≡ messages_reply outcome → text ≡ reply_text reply → GivesText old ShowsMessages text old
 gives_messages old outcome reply text stands is e = record { reply = reply; gives = ((outcome, stands, is), refl); text_is = e }
+
+pub gives_counts : (old : State) (reply : Reply) (text : List ℕ) → TellsNumbers reply → text ≡ reply_text reply → GivesText old TellsCounts text old
+gives_counts old reply text tells e = record { reply = reply; gives = (tells, refl); text_is = e }
 
 -- by the output method
 pub as_text : (m : Option (Method Expanded)) (tree : Plain) → is_text m ≡ true → written_by m tree ≡ Written (texts_in tree)

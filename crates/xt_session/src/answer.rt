@@ -1,7 +1,7 @@
 // Answers one command.
 ghost use Rattle.std.specs.Prelude.{◌≡◌, IfOk, OnErr};
 ghost use Rattle.std.specs.Str.{encode_utf8_all};
-ghost use Rattle.spec_session.specs.Machine.{answer_to, edited_in, shows, document_named, ShowsMessages, ShowsResult, WritesResult};
+ghost use Rattle.spec_session.specs.Machine.{answer_to, edited_in, shows, document_named, ShowsMessages, ShowsResult, TellsCounts, WritesResult};
 ghost use Rattle.xt_edit.specs.View.{edit_of};
 ghost use Rattle.xt_held.specs.OutcomeView.{plain_in};
 ghost use Rattle.xt_held.specs.View.{IsCurrent};
@@ -13,7 +13,7 @@ use crate::changes::{drop_module, edit, relocate, set_module, set_parameter, set
 use crate::command::Command;
 use crate::messages::messages_reply;
 use crate::names::doc_name;
-use crate::replies::{dump_reply, result_reply, text_of, written_reply};
+use crate::replies::{counts_reply, dump_reply, result_reply, text_of, written_reply};
 use std::alloc::Global;
 use xt_base::EditCode;
 use xt_held::{Edit, Held};
@@ -51,6 +51,7 @@ fn carry_out(alloc: Global, held: &mut Held, asked: xt_wire::Command) -> Result<
         xt_wire::Command::Write => write(alloc, held),
         xt_wire::Command::SetParameter(name, value) => set_parameter(alloc, held, &name, &value),
         xt_wire::Command::Messages => messages(alloc, held),
+        xt_wire::Command::Statistics => statistics(alloc, held),
         xt_wire::Command::Insert(document, path, body) => {
             change(alloc, held, document, Edit::Insert { path, body })
         }
@@ -117,6 +118,14 @@ fn messages(alloc: Global, held: &Held) -> Result<Text, Memory>
 {
     let reply = messages_reply(alloc, held.outcome())?;
     text_of(alloc, reply)
+}
+
+// Tells what the last accepted change has cost.
+fn statistics(alloc: Global, held: &Held) -> Result<Text, Memory>
+    ensures { IfOk result (λ text. GivesText (state_of held.now) TellsCounts text (state_of held.now)) }
+{
+    let steps = held.stats();
+    text_of(alloc, counts_reply(steps.ran, steps.asked))
 }
 
 // Shows the document of this name, where it is held.

@@ -76,6 +76,13 @@ fn is_text(method: &Option<Method>) -> bool
     matches!(method, Some(Method::Text))
 }
 
+/// The reply to a request for the counts, where they are these.
+pub(crate) fn counts_reply(ran: u64, asked: u64) -> Reply
+    ensures { machine.TellsNumbers (reply_of result) }
+{
+    Reply::Counted { ran, asked }
+}
+
 /// The reply to a request for this document: its lines.
 pub(crate) fn dump_reply(alloc: Global, document: &Doc) -> Result<Reply, Memory>
     ensures { IfOk result (λ reply. reply_of reply ≡ written.Shown (lines_of (plain_of document.now))) }

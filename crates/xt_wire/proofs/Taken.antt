@@ -25,6 +25,7 @@ pub record IsNoCommand (word : List ℕ) : Type 0 where
   pub not_write : word ≡ codes "write" → ⊥
   pub not_param : word ≡ codes "param" → ⊥
   pub not_messages : word ≡ codes "messages" → ⊥
+  pub not_stats : word ≡ codes "stats" → ⊥
   pub not_insert : word ≡ codes "insert" → ⊥
   pub not_delete : word ≡ codes "delete" → ⊥
   pub not_text : word ≡ codes "text" → ⊥
@@ -45,6 +46,7 @@ not_asked word rest body u n = rw (
   is_other word (codes "write") u refl n.not_write,
   is_other word (codes "param") u refl n.not_param,
   is_other word (codes "messages") u refl n.not_messages,
+  is_other word (codes "stats") u refl n.not_stats,
   is_other word (codes "insert") u refl n.not_insert,
   is_other word (codes "delete") u refl n.not_delete,
   is_other word (codes "text") u refl n.not_text,

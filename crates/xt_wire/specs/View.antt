@@ -12,7 +12,7 @@ use Rattle.xt_base.specs.declared.codes.EditCode.{EditCode}
 use Rattle.xt_base.specs.declared.codes.EditCode.TheVariants as edit
 use Rattle.xt_base.specs.declared.place.Place.{Place}
 use Rattle.xt_wire.specs.declared.command.Command.{Command}
-use Rattle.xt_wire.specs.declared.command.Command.TheVariants.{SetSource, SetModule, DropModule, Show, Dump, Write, SetParameter, Messages}
+use Rattle.xt_wire.specs.declared.command.Command.TheVariants.{SetSource, SetModule, DropModule, Show, Dump, Write, SetParameter, Messages, Statistics}
 use Rattle.xt_wire.specs.declared.command.Command.TheVariants.{Insert, Delete, SetText, SetAttribute, RemoveAttribute, Rename, Move}
 use Rattle.xt_wire.specs.declared.document.DocumentName.{DocumentName}
 use Rattle.xt_wire.specs.declared.document.DocumentName.TheVariants.{Source, Module}
@@ -20,7 +20,7 @@ use Rattle.xt_wire.specs.declared.fault.WireFault.{WireFault}
 use Rattle.xt_wire.specs.declared.fault.WireFault.TheVariants as variant
 use Rattle.xt_wire.specs.declared.replies.Refusal.{Refusal}
 use Rattle.xt_wire.specs.declared.replies.Reply.{Reply}
-use Rattle.xt_wire.specs.declared.replies.Reply.TheVariants.{OkDone, OkRefused, Refused, Shown, Written, No}
+use Rattle.xt_wire.specs.declared.replies.Reply.TheVariants.{OkDone, OkRefused, Refused, Shown, Written, Counted, No}
 use Rattle.xt_wire.specs.declared.target.Target.{Target}
 use Rattle.xt_wire.specs.declared.word.Words.{Words}
 use denote.Ref.{Bor}
@@ -57,6 +57,7 @@ asked_of (Dump document) = spec.Dump (name_of document)
 asked_of Write = spec.Write
 asked_of (SetParameter name value) = spec.SetParameter name value
 asked_of Messages = spec.Messages
+asked_of Statistics = spec.Statistics
 asked_of (Insert document path body) = spec.Insert (name_of document) path body.items
 asked_of (Delete document path) = spec.Delete (name_of document) path
 asked_of (SetText document path value) = spec.SetText (name_of document) path value
@@ -105,4 +106,5 @@ reply_of (OkRefused why) = written.OkRefused (refusal_of why)
 reply_of (Refused why) = written.Refused (refusal_of why)
 reply_of (Shown lines) = written.Shown lines.items
 reply_of (Written text) = written.Written text
+reply_of (Counted ran asked) = written.Counted ran asked
 reply_of (No code) = written.No (edit_number code)

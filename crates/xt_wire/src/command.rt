@@ -38,6 +38,8 @@ pub enum Command {
     SetParameter(Text, Text),
     /// `messages`: the messages of the transformation.
     Messages,
+    /// `stats`: what the last accepted change has cost.
+    Statistics,
     /// `insert DOC PATH` and a body: the nodes of these lines, before what is at the path.
     Insert(DocumentName, Path, Vec<Line>),
     /// `delete DOC PATH`: the node goes, with all below it.
@@ -110,6 +112,7 @@ fn read_words(
         "write" => read_alone(rest, Command::Write),
         "param" => read_parameter(alloc, rest),
         "messages" => read_alone(rest, Command::Messages),
+        "stats" => read_alone(rest, Command::Statistics),
         "insert" => read_insert(alloc, rest, body),
         "delete" => read_delete(alloc, rest),
         "text" => read_set_text(alloc, rest),

@@ -23,6 +23,7 @@ pub fn reply(alloc: Global, reply: &Reply) -> Result<Text, Memory>
         Reply::Refused(why) => refusal_line(alloc, "refused ", why),
         Reply::Shown(lines) => shown_lines(alloc, lines.as_slice()),
         Reply::Written(text) => written_text(alloc, text),
+        Reply::Counted { ran, asked } => counts_line(alloc, *ran, *asked),
         Reply::No(code) => no_line(alloc, *code),
     }
 }
@@ -62,6 +63,18 @@ fn written_text(alloc: Global, text: &Text) -> Result<Text, Memory>
     written.push_str(text.as_str())?;
     written.push('\n')?;
     Ok(written)
+}
+
+// The line of the counts.
+fn counts_line(alloc: Global, ran: u64, asked: u64) -> Result<Text, Memory>
+    ensures { IfOk result (λ text. text ≡ with_newline (codes "ran " ++ decimal ran ++ codes " asked " ++ decimal asked)) }
+{
+    let mut text = Text::from_str(alloc, "ran ")?;
+    push_number(&mut text, ran)?;
+    text.push_str(" asked ")?;
+    push_number(&mut text, asked)?;
+    text.push('\n')?;
+    Ok(text)
 }
 
 // The line of a refused command.

@@ -1,10 +1,11 @@
 -- The globals of a stylesheet, one unit after another.
-use Rattle.std.proofs.Common.{◌≡◌, ◌+◌, arith, List, [], ◌∷◌, ◌++◌, Bool, true, false, cond, length, refl, sym, ap, ◌∙◌}
+use Rattle.std.proofs.Common.{◌≡◌, ℕ, ◌+◌, arith, List, [], ◌∷◌, ◌++◌, Bool, true, false, cond, length, refl, sym, ap, ◌∙◌}
 use Rattle.std.specs.Prelude.{◌||◌, not}
 use Rattle.std.specs.List.{flat_map, list_any}
 use Rattle.std.specs.declared.rc.Rc.{Rc}
 use Rattle.std.specs.Global.{Global}
 use Rattle.std.proofs.lemmas.List.{append_assoc, map-append}
+use Rattle.spec_stylesheet.specs.Place.{Place}
 use Rattle.spec_stylesheet.specs.Sheet.{Unit as Piece, Declared, AGlobal, GlobalBinding}
 use Rattle.spec_document.specs.Name.{same_name}
 use Rattle.spec_run.specs.World.{global_by, global_in, is_global}
@@ -15,23 +16,23 @@ use Rattle.xt_world.specs.Numbered.{element_called}
 use Rattle.xt_world.specs.Units.{global_before, plain_units}
 use Rattle.xt_world.specs.declared.key.NameKey.{NameKey}
 
-either : (us : List Piece) (u : Piece) (later : List Piece) (g : GlobalBinding) (b : Bool) → u.declared ≡ AGlobal g
+either : (numbers : Place → ℕ) (u : Piece) (later : List Piece) (g : GlobalBinding) (b : Bool) → u.declared ≡ AGlobal g
     → list_any (λ other. is_global g.binding.name other.declared) later ≡ b
-    → global_before us u later ≡ cond b [] (record { name = g.binding.name; element = element_called us u.site.place } ∷ []) ++ []
-either us u later g b is h =
-    ap (λ (d : Declared). flat_map (global_by (element_called us) u later) (global_in d)) is
-    ∙ ap (λ b. cond b [] (record { name = g.binding.name; element = element_called us u.site.place } ∷ []) ++ []) h
+    → global_before numbers u later ≡ cond b [] (record { name = g.binding.name; element = element_called numbers u.site.place } ∷ []) ++ []
+either numbers u later g b is h =
+    ap (λ (d : Declared). flat_map (global_by (element_called numbers) u later) (global_in d)) is
+    ∙ ap (λ b. cond b [] (record { name = g.binding.name; element = element_called numbers u.site.place } ∷ []) ++ []) h
 
 -- one that a later one hides
-pub hidden : (us : List Piece) (u : Piece) (later : List Piece) (g : GlobalBinding) → u.declared ≡ AGlobal g
-    → list_any (λ other. is_global g.binding.name other.declared) later ≡ true → global_before us u later ≡ []
-hidden us u later g is h = either us u later g true is h
+pub hidden : (numbers : Place → ℕ) (u : Piece) (later : List Piece) (g : GlobalBinding) → u.declared ≡ AGlobal g
+    → list_any (λ other. is_global g.binding.name other.declared) later ≡ true → global_before numbers u later ≡ []
+hidden numbers u later g is h = either numbers u later g true is h
 
 -- the last of its name
-pub last : (us : List Piece) (u : Piece) (later : List Piece) (g : GlobalBinding) → u.declared ≡ AGlobal g
+pub last : (numbers : Place → ℕ) (u : Piece) (later : List Piece) (g : GlobalBinding) → u.declared ≡ AGlobal g
     → list_any (λ other. is_global g.binding.name other.declared) later ≡ false
-    → global_before us u later ≡ record { name = g.binding.name; element = element_called us u.site.place } ∷ []
-last us u later g is h = either us u later g false is h
+    → global_before numbers u later ≡ record { name = g.binding.name; element = element_called numbers u.site.place } ∷ []
+last numbers u later g is h = either numbers u later g false is h
 
 -- ---- From the last on
 

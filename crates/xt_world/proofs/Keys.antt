@@ -22,7 +22,7 @@ by_characters text u (e ∷ es) =
     ∙ ap (λ rest. cond (has_name (chars text) e.0) (Some e.1) rest) (by_characters text u es)
 
 -- which of two values is found, by whether the keys are one and which of them is sought
-chosen : {X : Type 0} (one first second : Bool) (v w rest : X) → (one ≡ true → first ≡ second)
+pub chosen : {X : Type 0} (one first second : Bool) (v w rest : X) → (one ≡ true → first ≡ second)
     → (first ≡ true → second ≡ true → one ≡ true)
     → cond one (cond second v rest) (cond second w (cond first v rest)) ≡ cond first v (cond second w rest)
 chosen true true true v w rest f g = refl

@@ -1,6 +1,7 @@
 pub mod Answering
 pub mod Choosing
 pub mod Elements
+pub mod First
 pub mod Globals
 pub mod Holding
 pub mod Keyed

@@ -5,6 +5,7 @@ use Rattle.std.proofs.lemmas.Bool.Decides.{Decides-eqb}
 use Rattle.spec_document.specs.Forest.{Written, Content, Forest, Empty, Node, Document}
 use Rattle.spec_document.specs.Place.{Found, root_of, found_in, attributes_of, namespaces_of}
 use Rattle.spec_document.specs.Order.{Entry, namespace_entries, attribute_entries, own_entries, entries_in, entries_of, is_same_place}
+use Rattle.spec_stylesheet.specs.Place.{Place}
 use Rattle.spec_stylesheet.specs.Sheet.{Unit as Piece}
 use Rattle.spec_meaning.specs.Naming.{AllDiffer, AreApart}
 use Rattle.spec_run.specs.World.{InSource, InModule, same_node}
@@ -81,14 +82,16 @@ and_neither : (a b : Bool) → b ≡ false → (a && b) ≡ false
 and_neither true b h = h
 and_neither false b h = refl
 
-strangers_counted : (us : List Piece) (es : List (Entry ℕ)) → AllCounted es → AreStrangers ref_of same_ref (element_called us) us es
-strangers_counted us [] h = tt
-strangers_counted us (e ∷ es) h = (
-  (λ p k. (and_neither ((element_called us p).node.number == number_of e.item) _ h.0.0, and_neither (number_of e.item == (element_called us p).node.number) _ h.0.1)),
-  strangers_counted us es h.1,
+strangers_counted : (numbers : Place → ℕ) (us : List Piece) (es : List (Entry ℕ)) → AllCounted es
+    → AreStrangers ref_of same_ref (element_called numbers) us es
+strangers_counted numbers us [] h = tt
+strangers_counted numbers us (e ∷ es) h = (
+  (λ p k. (and_neither (numbers p == number_of e.item) _ h.0.0, and_neither (number_of e.item == numbers p) _ h.0.1)),
+  strangers_counted numbers us es h.1,
 )
 
-pub strangers_at_numbers : (us : List Piece) (document : Document ℕ) → AreStrangers ref_of same_ref (element_called us) us (entries_of document)
-strangers_at_numbers us document =
-    strangers_counted us (entries_of document)
+pub strangers_at_numbers : (numbers : Place → ℕ) (us : List Piece) (document : Document ℕ)
+    → AreStrangers ref_of same_ref (element_called numbers) us (entries_of document)
+strangers_at_numbers numbers us document =
+    strangers_counted numbers us (entries_of document)
     (counted_append (own_entries [] (root_of document)) (entries_in [] [] 1 document.nodes) (own_counted [] (root_of document)) (siblings_counted [] [] 1 document.nodes))

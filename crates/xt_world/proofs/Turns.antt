@@ -1,120 +1,82 @@
--- The unit that is called so is the one of its turn.
+-- The unit that is called so is the one of the turn of its number.
 use Rattle.std.proofs.Common.{◌≡◌, ◌≤◌, ℕ, zero, suc, ◌+◌, ◌==◌, arith, List, [], ◌∷◌, map, Bool, true, false, cond, Option, None, Some, refl, sym, ap, ◌∙◌}
-use Rattle.std.specs.Prelude.{◌&&◌, ◌||◌, not, slice_get}
+use Rattle.std.specs.Prelude.{◌&&◌, length, slice_get}
 use Rattle.std.specs.List.{find}
 use Rattle.std.specs.Option.{option_map}
-use Rattle.std.proofs.lemmas.Bool.Decides.{Decides-eqb}
-use Rattle.std.proofs.lemmas.Option.{slice_get-map}
+use Rattle.std.proofs.lemmas.Option.{slice_get-map, slice_get_past}
 use Rattle.std.specs.declared.rc.Rc.{Rc}
 use Rattle.std.specs.Global.{Global}
 use Rattle.spec_stylesheet.specs.Place.{Place}
 use Rattle.spec_stylesheet.specs.Sheet.{Alias, Unit as Piece}
 use Rattle.spec_meaning.specs.Question as question
 use Rattle.spec_meaning.specs.Question.{Answer, Gone, Resolved}
-use Rattle.spec_run.specs.World.{same_element, unit_at, unit_by}
+use Rattle.spec_run.specs.World.{unit_at, unit_by}
 use Rattle.spec_node.specs.declared.node_ref.NodeRef.{NodeRef}
 use Rattle.spec_node.specs.declared.node_ref.Part.TheVariants as part
 use Rattle.spec_node.specs.Naming.{same_ref, same_part}
 use Rattle.xt_questions.specs.View.{resolved_of}
 use Rattle.xt_questions.specs.declared.answer.ResolvedUnit.{ResolvedUnit}
-use Rattle.xt_world.specs.Numbered.{index_from, element_called}
+use Rattle.xt_world.specs.Numbered.{element_called}
+use Rattle.xt_world.specs.Turned.{at_number, found_or, turn_found, turn_of_number}
 use Rattle.xt_world.specs.Units.{called_among, resolved_by, resolved_among}
-use Rattle.xt_world.specs.View.{unit_called}
-use Rattle.xt_world.specs.Sameness.{element_itself, same_places}
-use Rattle.xt_world.proofs.Elements.{at_least}
-
-apart : (k n : ℕ) → (k ≡ n → ⊥) → (k == n) ≡ false
-apart k n h = by (k == n) refl
-  where
-    by : (b : Bool) → (k == n) ≡ b → b ≡ false
-    by true e = absurd (h ((Decides-eqb k n).0 e))
-    by false e = refl
-
-never : (s b f : Bool) → b ≡ false → (not s && (b && f)) ≡ false
-never true b f h = refl
-never false true f h = absurd (cc)
-never false false f h = refl
-
-not_either : (s b : Bool) → (not (s || true) && b) ≡ false
-not_either true b = refl
-not_either false b = refl
-
-or_false : (s : Bool) → (s || false) ≡ s
-or_false true = refl
-or_false false = refl
+use Rattle.xt_world.specs.View.{unit_at_turn, unit_called, unit_held, unit_turned}
+use Rattle.xt_world.specs.declared.stylesheet.Stylesheet.{Stylesheet}
 
 -- what is at hand, if it passes
 abbrev picked : {A : Type 0} → (A → Bool) → Option A → Option A
 picked test None = None
 picked test (Some x) = cond (test x) (Some x) None
 
--- a place that was not seen, whose element is of this turn; `fits` is what else is asked
-abbrev sought : Bool → ℕ → (Place → Bool) → ℕ → List Piece → Place → Bool
-sought fits k seen base us p = not (seen p) && ((k == index_from base p us) && fits)
-
-abbrev seen_too : (Place → Bool) → Place → Place → Bool
-seen_too seen q p = seen p || same_element p q
-
 none_found : {A : Type 0} (test : A → Bool) (xs : List A) → ((x : A) → test x ≡ false) → find test xs ≡ None
 none_found test [] h = refl
 none_found test (x ∷ xs) h = ap (λ b. cond b (Some x) (find test xs)) (h x) ∙ none_found test xs h
 
--- if the first is not what is sought, though it is of this turn, nothing is
-none_behind : (fits : Bool) (k : ℕ) (seen : Place → Bool) (base : ℕ) (u : Piece) (us : List Piece) → k ≤ base
-    → sought fits k seen base (u ∷ us) u.site.place ≡ false → (p : Place) → sought fits k seen base (u ∷ us) p ≡ false
-none_behind fits k seen base u us within h p = by (same_element p u.site.place) refl
-  where
-    by : (b : Bool) → same_element p u.site.place ≡ b → sought fits k seen base (u ∷ us) p ≡ false
-    by true e = ap (sought fits k seen base (u ∷ us)) (same_places p u.site.place e) ∙ h
-    by false e =
-        let later = at_least (base + 1) p us in
-        ap (λ b. not (seen p) && ((k == cond b base (index_from (base + 1) p us)) && fits)) e
-        ∙ never (seen p) (k == index_from (base + 1) p us) fits (apart k (index_from (base + 1) p us) (λ is. omega (arith, later, is, within)))
-
--- where the first is not of this turn, what is sought is sought behind it, and was not seen there
-onward : (fits : Bool) (k : ℕ) (seen : Place → Bool) (base : ℕ) (u : Piece) (us : List Piece) → (k == base) ≡ false
-    → (p : Place) → sought fits k seen base (u ∷ us) p ≡ sought fits k (seen_too seen u.site.place) (base + 1) us p
-onward fits k seen base u us h p = by (same_element p u.site.place)
-  where
-    by : (b : Bool) → (not (seen p) && ((k == cond b base (index_from (base + 1) p us)) && fits))
-        ≡ (not (seen p || b) && ((k == index_from (base + 1) p us) && fits))
-    by true = never (seen p) (k == base) fits h ∙ sym (not_either (seen p) ((k == index_from (base + 1) p us) && fits))
-    by false = ap (λ s. not s && ((k == index_from (base + 1) p us) && fits)) (sym (or_false (seen p)))
-
-first_only : {A : Type 0} (test : A → Bool) (x : A) (xs : List A) → (test x ≡ false → (y : A) → test y ≡ false)
-    → find test (x ∷ xs) ≡ picked test (Some x)
-first_only test x xs h = by (test x) refl
-  where
-    by : (b : Bool) → test x ≡ b → cond b (Some x) (find test xs) ≡ cond b (Some x) None
-    by true e = refl
-    by false e = none_found test xs (h e)
-
 passed_by : {A : Type 0} (test : A → Bool) (x : A) (xs : List A) → test x ≡ false → find test (x ∷ xs) ≡ find test xs
 passed_by test x xs h = ap (λ b. cond b (Some x) (find test xs)) h
 
--- the first of a turn is not of another one
-not_first : (fits : Bool) (k : ℕ) (seen : Place → Bool) (base : ℕ) (u : Piece) (us : List Piece) → (k == base) ≡ false
-    → sought fits k seen base (u ∷ us) u.site.place ≡ false
-not_first fits k seen base u us h =
-    ap (λ b. not (seen u.site.place) && ((k == cond b base (index_from (base + 1) u.site.place us)) && fits)) (element_itself u.site.place)
-    ∙ never (seen u.site.place) (k == base) fits h
+and_false : (b : Bool) → (b && false) ≡ false
+and_false true = refl
+and_false false = refl
 
--- what is found is what is at hand behind as many as are before that turn
-found : (fits : Bool) (k : ℕ) (us : List Piece) (seen : Place → Bool) (base j : ℕ) → base + j ≡ k
-    → find (λ (u : Piece). sought fits k seen base us u.site.place) us ≡ picked (λ (u : Piece). sought fits k seen base us u.site.place) (slice_get us j)
-found fits k [] seen base j e = refl
-found fits k (u ∷ us) seen base zero e =
-    first_only (λ (v : Piece). sought fits k seen base (u ∷ us) v.site.place) u us
-    (λ h v. none_behind fits k seen base u us (omega (arith, e)) h v.site.place)
-found fits k (u ∷ us) seen base (suc j) e =
-    let other = apart k base (λ is. omega (arith, e, is)) in
-    let next : base + 1 + j ≡ k = omega (arith, e) in
-    let same : (λ (v : Piece). sought fits k seen base (u ∷ us) v.site.place) ≡ (λ (v : Piece). sought fits k (seen_too seen u.site.place) (base + 1) us v.site.place)
-    = λ i v. onward fits k seen base u us other v.site.place i in
-    passed_by (λ (v : Piece). sought fits k seen base (u ∷ us) v.site.place) u us (not_first fits k seen base u us other)
-    ∙ ap (λ (t : Piece → Bool). find t us) same
-    ∙ found fits k us (seen_too seen u.site.place) (base + 1) j next
-    ∙ ap (λ (t : Piece → Bool). picked t (slice_get us j)) (sym same)
+-- a unit whose place has this number; `fits` is what else is asked
+abbrev sought : (Place → ℕ) → Bool → ℕ → Piece → Bool
+sought numbers fits k u = (k == numbers u.site.place) && fits
+
+-- where one of this number is not what is sought, nothing is
+first_only : (numbers : Place → ℕ) (fits : Bool) (k : ℕ) (u : Piece) (us : List Piece) → (k == numbers u.site.place) ≡ true
+    → find (sought numbers fits k) (u ∷ us) ≡ picked (sought numbers fits k) (Some u)
+first_only numbers true k u us e =
+    ap (λ b. cond (b && true) (Some u) (find (sought numbers true k) us)) e ∙ sym (ap (λ b. cond (b && true) (Some u) None) e)
+first_only numbers false k u us e =
+    none_found (sought numbers false k) (u ∷ us) (λ v. and_false (k == numbers v.site.place))
+    ∙ sym (ap (λ b. cond b (Some u) None) (and_false (k == numbers u.site.place)))
+
+at_least : (numbers : Place → ℕ) (turn k : ℕ) (us : List Piece) → turn ≤ turn_of_number numbers turn k us
+at_least numbers turn k [] = omega arith
+at_least numbers turn k (u ∷ us) = either (k == numbers u.site.place) (at_least numbers (turn + 1) k us)
+  where
+    either : (b : Bool) → turn + 1 ≤ turn_of_number numbers (turn + 1) k us → turn ≤ cond b turn (turn_of_number numbers (turn + 1) k us)
+    either true later = omega arith
+    either false later = omega (arith, later)
+
+-- what is found is what is at hand at the turn of its number
+found : (numbers : Place → ℕ) (fits : Bool) (k : ℕ) (us : List Piece) (turn j : ℕ) → turn_of_number numbers turn k us ≡ turn + j
+    → find (sought numbers fits k) us ≡ picked (sought numbers fits k) (slice_get us j)
+found numbers fits k [] turn j e = refl
+found numbers fits k (u ∷ us) turn zero e = by (k == numbers u.site.place) refl e
+  where
+    by : (b : Bool) → (k == numbers u.site.place) ≡ b → cond b turn (turn_of_number numbers (turn + 1) k us) ≡ turn + 0
+        → find (sought numbers fits k) (u ∷ us) ≡ picked (sought numbers fits k) (Some u)
+    by true is e = first_only numbers fits k u us is
+    by false is e = absurd (let later = at_least numbers (turn + 1) k us in omega (arith, later, e))
+found numbers fits k (u ∷ us) turn (suc j) e =
+    by (λ h. found numbers fits k us (turn + 1) j h) (k == numbers u.site.place) refl e
+  where
+    by : (turn_of_number numbers (turn + 1) k us ≡ turn + 1 + j → find (sought numbers fits k) us ≡ picked (sought numbers fits k) (slice_get us j))
+        → (b : Bool) → (k == numbers u.site.place) ≡ b → cond b turn (turn_of_number numbers (turn + 1) k us) ≡ turn + suc j
+        → find (sought numbers fits k) (u ∷ us) ≡ picked (sought numbers fits k) (slice_get us j)
+    by rest true is e = absurd (omega (arith, e))
+    by rest false is e = passed_by (sought numbers fits k) u us (ap (λ b. b && fits) is) ∙ rest (omega (arith, e))
 
 -- ---- What is answered
 abbrev called_so : NodeRef → Option NodeRef → Option (question.ResolvedUnit NodeRef) → Answer NodeRef
@@ -128,26 +90,47 @@ told_as element None unit = refl
 told_as element (Some name) None = refl
 told_as element (Some name) (Some unit) = refl
 
-at_turn : (aliases : List Alias) (us : List Piece) (element : NodeRef) (o : Option Piece)
-    → called_so element (option_map (λ (u : Piece). element_called us u.site.place) o) (option_map (λ (u : Piece). resolved_by aliases us u) o)
-    ≡ unit_by (element_called us) aliases us (picked (λ (u : Piece). same_ref element (element_called us u.site.place)) o)
-at_turn aliases us element None = refl
-at_turn aliases us element (Some u) = by (same_ref element (element_called us u.site.place))
+at_turn : (numbers : Place → ℕ) (aliases : List Alias) (us : List Piece) (element : NodeRef) (o : Option Piece)
+    → called_so element (option_map (λ (u : Piece). element_called numbers u.site.place) o) (option_map (λ (u : Piece). resolved_by numbers aliases us u) o)
+    ≡ unit_by (element_called numbers) aliases us (picked (λ (u : Piece). same_ref element (element_called numbers u.site.place)) o)
+at_turn numbers aliases us element None = refl
+at_turn numbers aliases us element (Some u) = by (same_ref element (element_called numbers u.site.place))
   where
-    by : (b : Bool) → cond b (Resolved (resolved_by aliases us u)) Gone ≡ unit_by (element_called us) aliases us (cond b (Some u) None)
+    by : (b : Bool) → cond b (Resolved (resolved_by numbers aliases us u)) Gone ≡ unit_by (element_called numbers) aliases us (cond b (Some u) None)
     by true = refl
     by false = refl
 
-pub unit_is : (aliases : List Alias) (us : List Piece) (element : NodeRef) (names : List NodeRef) (rs : List (Rc ResolvedUnit Global)) → names ≡ called_among us us
-    → map (λ (r : Rc ResolvedUnit Global). resolved_of r.value) rs ≡ resolved_among aliases us us
-    → unit_called element (slice_get names element.node.number) (slice_get rs element.node.number)
-    ≡ unit_at (element_called us) same_ref aliases us element
-unit_is aliases us element names rs named are =
-    let k = element.node.number in
-    let name = ap (λ (l : List NodeRef). slice_get l k) named ∙ slice_get-map (λ (u : Piece). element_called us u.site.place) us k in
+unit_there : (numbers : Place → ℕ) (aliases : List Alias) (us : List Piece) (s : Stylesheet) (element : NodeRef) (k : ℕ)
+    → s.elements.items ≡ called_among numbers us
+    → map (λ (r : Rc ResolvedUnit Global). resolved_of r.value) s.units.items ≡ resolved_among numbers aliases us us
+    → unit_at_turn s element k
+    ≡ unit_by (element_called numbers) aliases us (picked (λ (u : Piece). same_ref element (element_called numbers u.site.place)) (slice_get us k))
+unit_there numbers aliases us s element k named are =
+    let name = ap (λ (l : List NodeRef). slice_get l k) named ∙ slice_get-map (λ (u : Piece). element_called numbers u.site.place) us k in
     let unit =
-    sym (slice_get-map (λ (r : Rc ResolvedUnit Global). resolved_of r.value) rs k)
-    ∙ ap (λ (l : List (question.ResolvedUnit NodeRef)). slice_get l k) are ∙ slice_get-map (λ (u : Piece). resolved_by aliases us u) us k in
-    told_as element (slice_get names k) (slice_get rs k) ∙ (λ i. called_so element (name i) (unit i)) ∙ at_turn aliases us element (slice_get us k)
-    ∙ ap (λ (o : Option Piece). unit_by (element_called us) aliases us o)
-    (sym (found (same_part element.part (part.Attribute 0)) k us (λ p. false) 0 k (omega arith)))
+    sym (slice_get-map (λ (r : Rc ResolvedUnit Global). resolved_of r.value) s.units.items k)
+    ∙ ap (λ (l : List (question.ResolvedUnit NodeRef)). slice_get l k) are ∙ slice_get-map (λ (u : Piece). resolved_by numbers aliases us u) us k in
+    told_as element (slice_get s.elements.items k) (slice_get s.units.items k) ∙ (λ i. called_so element (name i) (unit i))
+    ∙ at_turn numbers aliases us element (slice_get us k)
+
+-- where a number has no turn, it is as if its turn were behind all
+turned : (numbers : Place → ℕ) (us : List Piece) (s : Stylesheet) (element : NodeRef) (o : Option ℕ) → s.elements.items ≡ called_among numbers us
+    → unit_turned s element o ≡ unit_at_turn s element (found_or (length us) o)
+turned numbers us s element None named =
+    let name = ap (λ (l : List NodeRef). slice_get l (length us)) named ∙ slice_get-map (λ (u : Piece). element_called numbers u.site.place) us (length us)
+    ∙ ap (option_map (λ (u : Piece). element_called numbers u.site.place)) (slice_get_past us (length us) (omega arith)) in
+    sym (ap (λ (o : Option NodeRef). unit_called element o (slice_get s.units.items (length us))) name)
+turned numbers us s element (Some turn) named = refl
+
+pub unit_is : (numbers : Place → ℕ) (aliases : List Alias) (us : List Piece) (s : Stylesheet) (element : NodeRef) → s.elements.items ≡ called_among numbers us
+    → map (λ (r : Rc ResolvedUnit Global). resolved_of r.value) s.units.items ≡ resolved_among numbers aliases us us
+    → ((number : ℕ) → at_number (length us) s.turns.entries number ≡ turn_of_number numbers 0 number us)
+    → unit_held s element ≡ unit_at (element_called numbers) same_ref aliases us element
+unit_is numbers aliases us s element named are turns =
+    let k = element.node.number in
+    let turn = turn_of_number numbers 0 k us in
+    turned numbers us s element (turn_found s.turns.entries k) named
+    ∙ ap (unit_at_turn s element) (turns k)
+    ∙ unit_there numbers aliases us s element turn named are
+    ∙ ap (λ (o : Option Piece). unit_by (element_called numbers) aliases us o)
+    (sym (found numbers (same_part element.part (part.Attribute 0)) k us 0 turn (omega arith)))

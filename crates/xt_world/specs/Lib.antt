@@ -1,9 +1,12 @@
+pub mod Answering
 pub mod Indexed
 pub mod KeyView
 pub mod Numbered
 pub mod ParameterView
+pub mod PartsView
 pub mod Sameness
 pub mod SourceView
+pub mod Turned
 pub mod Units
 pub mod View
 pub mod WorldView

@@ -1,7 +1,8 @@
 -- The true answers of a stylesheet and a source where nodes are named by numbers: those of the source by their own, and the element of a unit
--- by the turn of the first unit of that place, from 0, as an attribute of the number 0. Attributes are counted from 1, so no element is called
--- as a node of the source is.
-use Rattle.std.specs.Prelude.{ℕ, ◌+◌, List, [], ◌∷◌, if◌then◌else◌}
+-- by a number that its place is given, as an attribute of the number 0. Attributes are counted from 1, so no element is called as a node of
+-- the source is.
+use Rattle.std.specs.Prelude.{ℕ, ◌≡◌, Bool, List, IsTrue}
+use Rattle.std.specs.List.{list_any}
 use Rattle.spec_document.specs.Forest.{Document}
 use Rattle.spec_document.specs.Order.{entries_of}
 use Rattle.spec_stylesheet.specs.Place.{Place}
@@ -14,24 +15,30 @@ use Rattle.spec_node.specs.declared.node_ref.NodeRef.{NodeRef}
 use Rattle.spec_node.specs.declared.node_ref.Part.TheVariants as part
 use Rattle.spec_node.specs.Naming.{ref_of, same_ref}
 
-abbrev pub index_from : ℕ → Place → List Unit → ℕ
-index_from index place [] = index
-index_from index place (u ∷ us) = if same_element place u.site.place then index else index_from (index + 1) place us
+-- whether one of these units stands at this place
+abbrev pub has_unit : List Unit → Place → Bool
+has_unit units place = list_any (λ u. same_element place u.site.place) units
+
+-- these numbers of places tell units apart: where units stand at two places with one number, the two are one place
+abbrev pub IsNaming : (Place → ℕ) → List Unit → Type 0
+IsNaming numbers units =
+    (place other : Place) → IsTrue (has_unit units place) → IsTrue (has_unit units other) → numbers place ≡ numbers other → place ≡ other
 
 abbrev pub ref_to : ℕ → NodeRef
 ref_to number = record { node = record { number = number }; part = part.Itself }
 
-abbrev pub element_called : List Unit → Place → NodeRef
-element_called units place = record { node = record { number = index_from 0 place units }; part = part.Attribute 0 }
+-- what the element at a place is called, where places have these numbers
+abbrev pub element_called : (Place → ℕ) → Place → NodeRef
+element_called numbers place = record { node = record { number = numbers place }; part = part.Attribute 0 }
 
-abbrev pub truth_by_numbers : Sheet → Parameters → Document ℕ → Question NodeRef → Answer NodeRef
-truth_by_numbers s parameters document = truth_by ref_of same_ref (element_called s.units) s parameters (entries_of document)
+abbrev pub truth_by_numbers : (Place → ℕ) → Sheet → Parameters → Document ℕ → Question NodeRef → Answer NodeRef
+truth_by_numbers numbers s parameters document = truth_by ref_of same_ref (element_called numbers) s parameters (entries_of document)
 
-abbrev pub setting_by_numbers : Sheet → Parameters → Document ℕ → Setting NodeRef
-setting_by_numbers s parameters document =
+abbrev pub setting_by_numbers : (Place → ℕ) → Sheet → Parameters → Document ℕ → Setting NodeRef
+setting_by_numbers numbers s parameters document =
     record {
-      ask = truth_by_numbers s parameters document;
+      ask = truth_by_numbers numbers s parameters document;
       same = same_ref;
       root = ref_to document.root;
-      globals = globals_of (element_called s.units) s.units;
+      globals = globals_of (element_called numbers) s.units;
     }

@@ -1,5 +1,5 @@
 -- The units of a stylesheet, and what their names name.
-use Rattle.std.specs.Prelude.{List, map}
+use Rattle.std.specs.Prelude.{ℕ, List, map}
 use Rattle.std.specs.List.{filter, flat_map}
 use Rattle.std.specs.declared.rc.Rc.{Rc}
 use Rattle.std.specs.declared.vec.Vec.{Vec}
@@ -28,25 +28,26 @@ plain_aliases aliases = map alias_of aliases.value.items
 abbrev pub place_in : Bor Place → stylesheet.Place
 place_in place = place_of place.now
 
--- what the elements of some units of a stylesheet are called
-abbrev pub called_among : List sheet.Unit → List sheet.Unit → List NodeRef
-called_among units some = map (λ u. element_called units u.site.place) some
+-- what the elements of some units are called, where places have these numbers
+abbrev pub called_among : (stylesheet.Place → ℕ) → List sheet.Unit → List NodeRef
+called_among numbers some = map (λ u. element_called numbers u.site.place) some
 
 -- the global that a unit is, unless one of those after it is one of the same name
-abbrev pub global_before : List sheet.Unit → sheet.Unit → List sheet.Unit → List (NamedGlobal NodeRef)
-global_before units u later = flat_map (global_by (element_called units) u later) (global_in u.declared)
+abbrev pub global_before : (stylesheet.Place → ℕ) → sheet.Unit → List sheet.Unit → List (NamedGlobal NodeRef)
+global_before numbers u later = flat_map (global_by (element_called numbers) u later) (global_in u.declared)
 
--- the elements of the attribute sets of a name among some units of a stylesheet
-abbrev pub elements_named : List sheet.Unit → Expanded → List sheet.Unit → List NodeRef
-elements_named units name some = map (λ u. element_called units u.site.place) (filter (λ u. is_set name u.declared) some)
+-- the elements of the attribute sets of a name among some units
+abbrev pub elements_named : (stylesheet.Place → ℕ) → Expanded → List sheet.Unit → List NodeRef
+elements_named numbers name some = map (λ u. element_called numbers u.site.place) (filter (λ u. is_set name u.declared) some)
 
--- a unit with what its names name
-abbrev pub resolved_by : List sheet.Alias → List sheet.Unit → sheet.Unit → question.ResolvedUnit NodeRef
-resolved_by aliases units u = resolved_in (element_called units) aliases units u
+-- a unit of a stylesheet with what its names name
+abbrev pub resolved_by : (stylesheet.Place → ℕ) → List sheet.Alias → List sheet.Unit → sheet.Unit → question.ResolvedUnit NodeRef
+resolved_by numbers aliases units u = resolved_in (element_called numbers) aliases units u
 
--- the globals that count among some units of a stylesheet
-abbrev pub globals_among : List sheet.Unit → List sheet.Unit → List (NamedGlobal NodeRef)
-globals_among units some = globals_of (element_called units) some
+-- the globals that count among some units
+abbrev pub globals_among : (stylesheet.Place → ℕ) → List sheet.Unit → List (NamedGlobal NodeRef)
+globals_among numbers some = globals_of (element_called numbers) some
 
-abbrev pub resolved_among : List sheet.Alias → List sheet.Unit → List sheet.Unit → List (question.ResolvedUnit NodeRef)
-resolved_among aliases units some = map (λ u. resolved_by aliases units u) some
+-- some units of a stylesheet with what their names name
+abbrev pub resolved_among : (stylesheet.Place → ℕ) → List sheet.Alias → List sheet.Unit → List sheet.Unit → List (question.ResolvedUnit NodeRef)
+resolved_among numbers aliases units some = map (λ u. resolved_by numbers aliases units u) some

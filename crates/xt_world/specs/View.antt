@@ -23,16 +23,25 @@ use Rattle.xt_questions.specs.declared.fault.EvalFault.{EvalFault}
 use Rattle.xt_questions.specs.declared.fault.EvalFault.TheVariants as faults
 use Rattle.xt_match.specs.Context.{units_in}
 use Rattle.xt_world.specs.SourceView.{source_in}
+use Rattle.xt_world.specs.Turned.{turn_found}
 use Rattle.xt_world.specs.declared.stylesheet.Stylesheet.{Stylesheet}
 
--- the unit of this turn, where its element is called so
+-- the unit of a turn, where its element is called so
 abbrev pub unit_called : NodeRef → Option NodeRef → Option (Rc ResolvedUnit Global) → Answer NodeRef
 unit_called element None unit = Gone
 unit_called element (Some name) None = Gone
 unit_called element (Some name) (Some unit) = if same_ref element name then Resolved (resolved_of unit.value) else Gone
 
+abbrev pub unit_at_turn : Stylesheet → NodeRef → ℕ → Answer NodeRef
+unit_at_turn s element turn = unit_called element (slice_get s.elements.items turn) (slice_get s.units.items turn)
+
+-- the unit of the turn that the number of an element has
+abbrev pub unit_turned : Stylesheet → NodeRef → Option ℕ → Answer NodeRef
+unit_turned s element None = Gone
+unit_turned s element (Some turn) = unit_at_turn s element turn
+
 abbrev pub unit_held : Stylesheet → NodeRef → Answer NodeRef
-unit_held s element = unit_called element (slice_get s.elements.items element.node.number) (slice_get s.units.items element.node.number)
+unit_held s element = unit_turned s element (turn_found s.turns.entries element.node.number)
 
 -- a rule, by the element of its unit, with what its stylesheet imports
 abbrev pub chosen_in : Rule → Option NodeRef → Option (ChosenRule NodeRef)

@@ -1,18 +1,18 @@
-// The units of a stylesheet by their places and by the names of what they declare, so that none is searched for.
-ghost use Rattle.std.specs.Prelude.{◌≡◌, ℕ, None, Some, length, IfOk, OnOk, if◌then◌else◌};
+// The units of a stylesheet by the names of what they declare, so that none is searched for.
+ghost use Rattle.std.specs.Prelude.{◌≡◌, None, Some, IfOk, OnOk, if◌then◌else◌};
 ghost use Rattle.std.specs.Option.{option_map};
 ghost use Rattle.spec_document.specs.Name.{same_name};
 ghost use Rattle.spec_run.specs.World as definition;
-ghost use Rattle.spec_run.specs.World.{same_element};
 ghost use Rattle.xt_syntax.specs.PartView.{place_of};
 ghost use Rattle.xt_syntax.specs.SheetView.{declared_of};
-ghost use Rattle.xt_world.specs.Numbered.{index_from};
+ghost use Rattle.xt_world.specs.Numbered.{IsNaming};
+ghost use Rattle.xt_world.specs.Turned.{numbers_in, units_of};
 ghost use Rattle.xt_world.specs.Units.{place_in, plain_units};
-ghost use Rattle.xt_world.specs.Indexed.{AreGlobals, AreTemplates, AreTurns, place_at, place_named, turn_at, units_of};
+ghost use Rattle.xt_world.specs.Indexed.{AreGlobals, AreTemplates, place_at, place_named};
 ghost use Rattle.xt_world.specs.declared.key.NameKey.{NameKey};
-ghost use Rattle.xt_world.specs.declared.key.PlaceKey.{PlaceKey};
 
-use crate::key::{NameKey, PlaceKey};
+use crate::key::NameKey;
+use crate::numbers::{Numbers, numbers_of};
 use indexmap::IndexMap;
 use std::alloc::Global;
 use std::rc::Rc;
@@ -21,68 +21,33 @@ use xt_names::Expanded;
 use xt_syntax::{Declared, Unit};
 use xt_text::Memory;
 
-/// Units, and the turn of the first at each place.
-#[derive(Drop)]
-pub(crate) struct Turns<'a> {
-    pub(crate) units: &'a [Rc<Unit>],
-    first: IndexMap<PlaceKey<'a>, u64>,
-}
-
-/// Units by their places, with the place of the last of each name.
+/// Units by the numbers of their places, with the place of the last of each name.
 #[derive(Drop)]
 pub(crate) struct Index<'a> {
-    pub(crate) turns: Turns<'a>,
+    pub(crate) numbers: Numbers<'a>,
     templates: IndexMap<NameKey<'a>, &'a Place>,
     globals: IndexMap<NameKey<'a>, &'a Place>,
 }
 
-/// The index of these units.
-pub(crate) fn index_of<'a>(alloc: Global, units: &'a [Rc<Unit>]) -> Result<Index<'a>, Memory>
-    ensures units { IfOk result (λ index. index.turns.units.now ≡ units.now) }
-    ensures turns { IfOk result (λ index. AreTurns index.turns) }
+/// The index of these units, by these numbers if they serve, and else by their turns.
+pub(crate) fn index_of<'a>(
+    alloc: Global,
+    units: &'a [Rc<Unit>],
+    given: &[u64],
+) -> Result<Index<'a>, Memory>
+    ensures units { IfOk result (λ index. index.numbers.units.now ≡ units.now) }
+    ensures naming { IfOk result (λ index. IsNaming (numbers_in index.numbers) (units_of index.numbers)) }
     ensures templates { IfOk result AreTemplates }
     ensures globals { IfOk result AreGlobals }
 {
-    let first = first_turns(alloc, units)?;
+    let numbers = numbers_of(alloc, units, given)?;
     let templates = templates_of(alloc, units)?;
     let globals = globals_of(alloc, units)?;
     Ok(Index {
-        turns: Turns { units, first },
+        numbers,
         templates,
         globals,
     })
-}
-
-// The turn of the first unit at each place.
-fn first_turns<'a>(
-    alloc: Global,
-    units: &'a [Rc<Unit>],
-) -> Result<IndexMap<PlaceKey<'a>, u64>, Memory>
-    ensures { IfOk result (λ first. (key : PlaceKey) → turn_at (length units.now) first.entries key ≡ index_from 0 (place_of key.place.now) (plain_units units.now)) }
-{
-    let mut first = IndexMap::new(alloc);
-    let mut turn = 0;
-    for unit in units {
-        add_turn(&mut first, &unit.site.place, turn)?;
-        turn += 1;
-    }
-    Ok(first)
-}
-
-// Adds a turn, unless one was added for its place before.
-fn add_turn<'a>(
-    first: &mut IndexMap<PlaceKey<'a>, u64>,
-    place: &'a Place,
-    turn: u64,
-) -> Result<(), Memory>
-    ensures { OnOk result ((key : PlaceKey) (other : ℕ) → turn_at other first.new.entries key ≡ turn_at (if same_element (place_of key.place.now) (place_of place.now) then turn else other) first.old.entries key) }
-{
-    let key = PlaceKey { place };
-    if first.contains_key(&key) {
-        return Ok(());
-    }
-    first.insert(key, turn)?;
-    Ok(())
 }
 
 // The place of the last template of each name.
@@ -158,24 +123,11 @@ fn set_place<'a>(
     Ok(())
 }
 
-impl<'a> Turns<'a> {
-    /// The turn of the first unit that stands at this place, and their number where none does.
-    pub(crate) fn at(&self, place: &'a Place) -> u64
-        requires { AreTurns self.now }
-        ensures { result ≡ index_from 0 (place_of place.now) (units_of self.now) }
-    {
-        match self.first.get(&PlaceKey { place }) {
-            None => self.units.len() as u64,
-            Some(turn) => *turn,
-        }
-    }
-}
-
 impl<'a> Index<'a> {
     /// The place of the last template of this name.
     pub(crate) fn last_template(&self, name: &'a Expanded) -> Option<&'a Place>
         requires { AreTemplates self.now }
-        ensures { option_map place_in result ≡ definition.last_element (definition.is_template name.now) None (units_of self.now.turns) }
+        ensures { option_map place_in result ≡ definition.last_element (definition.is_template name.now) None (units_of self.now.numbers) }
     {
         place_of_name(&self.templates, name)
     }
@@ -183,7 +135,7 @@ impl<'a> Index<'a> {
     /// The place of the last global of this name.
     pub(crate) fn last_global(&self, name: &'a Expanded) -> Option<&'a Place>
         requires { AreGlobals self.now }
-        ensures { option_map place_in result ≡ definition.last_element (definition.is_global name.now) None (units_of self.now.turns) }
+        ensures { option_map place_in result ≡ definition.last_element (definition.is_global name.now) None (units_of self.now.numbers) }
     {
         place_of_name(&self.globals, name)
     }

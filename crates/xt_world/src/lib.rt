@@ -4,7 +4,7 @@
 //! for all nodes when a first value is asked for.
 //!
 //! ```text
-//! let stylesheet = Stylesheet::new(alloc, sheet)?;
+//! let stylesheet = Stylesheet::new(alloc, sheet, numbers)?;   // of the elements of its units, if they serve
 //! let mut world = SheetWorld::new(alloc, &source, &stylesheet, &parameters);
 //! ```
 #![tactic(auto)]
@@ -14,6 +14,7 @@ mod index;
 mod key;
 mod laws;
 mod naming;
+mod numbers;
 mod parameters;
 mod resolve;
 mod source;

@@ -1,23 +1,20 @@
 // A stylesheet that can be run.
-ghost use Rattle.std.specs.Prelude.{◌≡◌, ◌++◌, ◌∷◌, ℕ, List, map, reverse, IfOk, OnOk};
-ghost use Rattle.spec_document.specs.Forest.{Document};
-ghost use Rattle.spec_meaning.specs.Question.{Question};
-ghost use Rattle.spec_run.specs.Documents.{Parameters};
-ghost use Rattle.spec_run.specs.World.{globals_of};
+ghost use Rattle.std.specs.Prelude.{◌≡◌, ◌++◌, ◌∷◌, List, map, reverse, IfOk, OnOk};
 ghost use Rattle.spec_stylesheet.specs.Sheet as spec;
 ghost use Rattle.xt_syntax.specs.SheetView.{sheet_of, unit_of};
 ghost use Rattle.xt_questions.specs.View.{resolved_of};
-ghost use Rattle.spec_node.specs.declared.node_ref.NodeRef.{NodeRef};
-ghost use Rattle.xt_world.specs.Indexed.{AreGlobals, AreNamed, AreTemplates, AreTurns, units_of};
-ghost use Rattle.xt_world.specs.Numbered.{element_called, truth_by_numbers};
 ghost use Rattle.xt_engine.specs.View.{named_of};
+ghost use Rattle.xt_world.specs.Answering.{AnswersAs};
+ghost use Rattle.xt_world.specs.Indexed.{AreGlobals, AreNamed, AreTemplates};
+ghost use Rattle.xt_world.specs.PartsView.{AreParts};
+ghost use Rattle.xt_world.specs.Turned.{numbers_in, units_of};
 ghost use Rattle.xt_world.specs.Units.{called_among, global_before, globals_among, plain_aliases, plain_units, resolved_among};
-ghost use Rattle.xt_world.specs.View.{truth_in};
 
-use crate::index::{Index, Turns, index_of};
+use crate::index::{Index, index_of};
 use crate::key::NameKey;
+use crate::numbers::{Numbers, turns_of};
 use crate::resolve::{element_called, name_of, resolve};
-use indexmap::IndexSet;
+use indexmap::{IndexMap, IndexSet};
 use std::alloc::Global;
 use std::rc::Rc;
 use xt_engine::NamedGlobal;
@@ -36,15 +33,17 @@ pub struct Stylesheet {
     pub units: Vec<Rc<ResolvedUnit>>,
     /// What the element of each unit is called.
     pub elements: Vec<NodeRef>,
+    /// The turn of the first unit whose element is called by each number.
+    pub turns: IndexMap<u64, u64>,
     /// The globals that count, each once, in the order of the stylesheet.
     pub globals: Vec<NamedGlobal>,
 }
 
 impl Stylesheet {
-    /// The stylesheet, of which the world of any source answers truly.
-    pub fn new(alloc: Global, sheet: Sheet) -> Result<Stylesheet, Memory>
-        ensures truth { IfOk result (λ s. (parameters : Parameters) (document : Document ℕ) (q : Question NodeRef) → truth_in s parameters document q ≡ truth_by_numbers (sheet_of sheet) parameters document q) }
-        ensures globals { IfOk result (λ s. map named_of s.globals.items ≡ globals_of (element_called (sheet_of sheet).units) (sheet_of sheet).units) }
+    /// The stylesheet, of which the world of any source answers truly. The elements of its units are called by these
+    /// numbers, one for each unit, if they tell the elements apart, and else by the turns of the units.
+    pub fn new(alloc: Global, sheet: Sheet, numbers: Vec<u64>) -> Result<Stylesheet, Memory>
+        ensures { IfOk result (λ s. AnswersAs s (sheet_of sheet)) }
     {
         let Sheet {
             units,
@@ -57,11 +56,12 @@ impl Stylesheet {
         drop(method);
         let aliases = Rc::new(alloc, aliases)?;
         let units = shared(alloc, units)?;
-        let parts = indexed(alloc, &aliases, units.as_slice())?;
+        let parts = indexed(alloc, &aliases, units.as_slice(), numbers.as_slice())?;
         Ok(Stylesheet {
             rules,
             units: parts.units,
             elements: parts.elements,
+            turns: parts.turns,
             globals: parts.globals,
         })
     }
@@ -83,49 +83,53 @@ fn shared(alloc: Global, units: Vec<Unit>) -> Result<Vec<Rc<Unit>>, Memory>
 struct Parts {
     units: Vec<Rc<ResolvedUnit>>,
     elements: Vec<NodeRef>,
+    turns: IndexMap<u64, u64>,
     globals: Vec<NamedGlobal>,
 }
 
 // What is made of these units, by an index of them.
-fn indexed(alloc: Global, aliases: &Rc<Vec<Alias>>, units: &[Rc<Unit>]) -> Result<Parts, Memory>
-    ensures units { IfOk result (λ r. map (λ u. resolved_of u.value) r.units.items ≡ resolved_among (plain_aliases aliases.now) (plain_units units.now) (plain_units units.now)) }
-    ensures elements { IfOk result (λ r. r.elements.items ≡ called_among (plain_units units.now) (plain_units units.now)) }
-    ensures globals { IfOk result (λ r. map named_of r.globals.items ≡ globals_among (plain_units units.now) (plain_units units.now)) }
+fn indexed(
+    alloc: Global,
+    aliases: &Rc<Vec<Alias>>,
+    units: &[Rc<Unit>],
+    given: &[u64],
+) -> Result<Parts, Memory>
+    ensures { IfOk result (λ parts. AreParts (plain_aliases aliases.now) (plain_units units.now) parts) }
 {
-    let index = index_of(alloc, units)?;
-    let elements = elements(alloc, &index.turns)?;
-    let globals = globals(alloc, &index.turns)?;
+    let index = index_of(alloc, units, given)?;
+    let elements = elements(alloc, &index.numbers)?;
+    let turns = turns_of(alloc, &index.numbers)?;
+    let globals = globals(alloc, &index.numbers)?;
     let units = resolved(alloc, aliases, &index)?;
     Ok(Parts {
         units,
         elements,
+        turns,
         globals,
     })
 }
 
 /// What the elements of the units are called.
-fn elements(alloc: Global, turns: &Turns) -> Result<Vec<NodeRef>, Memory>
-    requires { AreTurns turns.now }
-    ensures { IfOk result (λ list. list.items ≡ called_among (units_of turns.now) (units_of turns.now)) }
+fn elements(alloc: Global, numbers: &Numbers) -> Result<Vec<NodeRef>, Memory>
+    ensures { IfOk result (λ list. list.items ≡ called_among (numbers_in numbers.now) (units_of numbers.now)) }
 {
     let mut elements = Vec::new(alloc);
-    for unit in turns.units {
-        elements.push(element_called(turns, &unit.site.place))?;
+    for unit in numbers.units {
+        elements.push(element_called(numbers, &unit.site.place))?;
     }
     Ok(elements)
 }
 
 /// The globals that count. Where a module is imported twice its units stand there twice, so that a global counts
 /// where it stands last.
-fn globals(alloc: Global, turns: &Turns) -> Result<Vec<NamedGlobal>, Memory>
-    requires { AreTurns turns.now }
-    ensures { IfOk result (λ list. map named_of list.items ≡ globals_among (units_of turns.now) (units_of turns.now)) }
+fn globals(alloc: Global, numbers: &Numbers) -> Result<Vec<NamedGlobal>, Memory>
+    ensures { IfOk result (λ list. map named_of list.items ≡ globals_among (numbers_in numbers.now) (units_of numbers.now)) }
 {
     let mut later = IndexSet::new(alloc);
     let mut list = Vec::new(alloc);
-    let mut left = turns.units;
+    let mut left = numbers.units;
     while let Some((unit, before)) = left.split_last() {
-        add_global(alloc, turns, unit, &mut later, &mut list)?;
+        add_global(alloc, numbers, unit, &mut later, &mut list)?;
         left = before;
     }
     list.reverse();
@@ -135,14 +139,13 @@ fn globals(alloc: Global, turns: &Turns) -> Result<Vec<NamedGlobal>, Memory>
 // Adds the unit, if it is a global and none of the later ones is one of its name. The last comes first.
 fn add_global<'a>(
     alloc: Global,
-    turns: &Turns<'a>,
+    numbers: &Numbers<'a>,
     unit: &'a Unit,
     later: &mut IndexSet<NameKey<'a>>,
     list: &mut Vec<NamedGlobal>,
 ) -> Result<(), Memory>
-    requires { AreTurns turns.now }
     ensures later { OnOk result ((rest : List spec.Unit) → AreNamed later.old.keys rest → AreNamed later.new.keys (unit_of unit.now ∷ rest)) }
-    ensures list { OnOk result ((rest : List spec.Unit) → AreNamed later.old.keys rest → map named_of (reverse list.new.items) ≡ global_before (units_of turns.now) (unit_of unit.now) rest ++ map named_of (reverse list.old.items)) }
+    ensures list { OnOk result ((rest : List spec.Unit) → AreNamed later.old.keys rest → map named_of (reverse list.new.items) ≡ global_before (numbers_in numbers.now) (unit_of unit.now) rest ++ map named_of (reverse list.old.items)) }
 {
     match &unit.declared {
         Declared::Global(global) => {
@@ -151,7 +154,7 @@ fn add_global<'a>(
             if !is_last {
                 return Ok(());
             }
-            let element = element_called(turns, &unit.site.place);
+            let element = element_called(numbers, &unit.site.place);
             add_named(alloc, name, element, list)
         }
         Declared::Template(_) => Ok(()),
@@ -179,13 +182,12 @@ fn resolved(
     aliases: &Rc<Vec<Alias>>,
     index: &Index,
 ) -> Result<Vec<Rc<ResolvedUnit>>, Memory>
-    requires turns { AreTurns index.now.turns }
     requires templates { AreTemplates index.now }
     requires globals { AreGlobals index.now }
-    ensures { IfOk result (λ list. map (λ r. resolved_of r.value) list.items ≡ resolved_among (plain_aliases aliases.now) (units_of index.now.turns) (units_of index.now.turns)) }
+    ensures { IfOk result (λ list. map (λ r. resolved_of r.value) list.items ≡ resolved_among (numbers_in index.now.numbers) (plain_aliases aliases.now) (units_of index.now.numbers) (units_of index.now.numbers)) }
 {
     let mut list = Vec::new(alloc);
-    for unit in index.turns.units {
+    for unit in index.numbers.units {
         list.push(resolve(alloc, aliases, index, unit)?)?;
     }
     Ok(list)

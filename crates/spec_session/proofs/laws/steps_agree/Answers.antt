@@ -1,5 +1,9 @@
-use Rattle.spec_session.proofs.Steps.{steps_agree_lem}
+use Rattle.spec_session.proofs.Steps.{replies_agree, states_agree}
 use Rattle.spec_session.proofs.laws.steps_agree.Goals as goal
 
-pub returns : goal.returns
-returns c = λ old command reply other new another s t m n. steps_agree_lem c.one_outcome.ensures old command reply other new another s t m n
+pub returns-clause-replies : goal.returns-clause-replies
+returns-clause-replies c =
+    λ old command reply other new another differs s t m n. replies_agree c.one_outcome.ensures old command reply other new another differs s t m n
+
+pub returns-clause-states : goal.returns-clause-states
+returns-clause-states c = λ old command reply other new another s t m n. states_agree old command reply other new another s t m n

@@ -1,32 +1,52 @@
-use Rattle.std.proofs.Common.{◌≡◌, ◌≤◌, ◌∙◌, ◌-◌, map, sym, ap, zero, Ok, Err, length, arith}
+use Rattle.std.proofs.Common.{◌≡◌, ◌≤◌, ◌∙◌, ◌-◌, ◌+◌, ◌<◌, ◌∷◌, [], ℕ, List, Option, suc, map, refl, sym, ap, subst, Ok, Err, length, arith}
+use Rattle.std.specs.Prelude.{Box}
+use Rattle.std.specs.declared.alloc.Global.{Global as Allocator}
 use Rattle.std.proofs.lemmas.List.{length-map}
-use Rattle.spec_meaning.specs.Stream.{filled, holes}
+use Rattle.spec_meaning.specs.Stream.{Stream, filled, holes}
 use Rattle.spec_run.specs.Direct.{Outcome}
-use Rattle.spec_run.specs.Meaning.{meaning}
+use Rattle.spec_run.specs.Going.{Event}
+use Rattle.spec_run.specs.Meaning.{Setting, meaning}
 use Rattle.xt_syntax.specs.PartView.{place_of}
 use Rattle.spec_node.specs.declared.node_ref.NodeRef.{NodeRef}
 use Rattle.xt_tree.specs.StreamView.{streams_of}
-use Rattle.xt_engine.specs.View.{call_of}
+use Rattle.xt_engine.specs.declared.event.Ran.{Ran}
+use Rattle.xt_engine.specs.View.{call_of, event_of}
 use Rattle.xt_engine.specs.declared.turn.Turn.TheVariants.{Done}
+use Rattle.xt_engine.specs.Progress.{Gift}
 use Rattle.xt_engine.specs.Advances.{Advances, gift_of, ran_of}
+use Rattle.xt_record.specs.declared.record.Record.{Record}
+use Rattle.xt_record.specs.View.{kept_in, MayServe}
 use Rattle.xt_driver.specs.declared.globals.Evaluation.{Evaluation}
-use Rattle.xt_driver.specs.View.{setting_of, past_of, IsStreamed}
-use Rattle.xt_driver.specs.Referring.{entry_of, entries_of, Refers}
+use Rattle.xt_driver.specs.declared.drive.Served.{Served}
+use Rattle.xt_driver.specs.declared.outcome.Outcome.{Outcome as Came}
+use Rattle.xt_driver.specs.View.{setting_of, past_of, outcome_of, IsStreamed}
+use Rattle.xt_driver.specs.Remembered.{Lasts}
+use Rattle.xt_driver.specs.Referring.{entry_of, entries_of, Refers, Settles}
 use Rattle.xt_driver.specs.Stands.{level_of, Stands}
-use Rattle.xt_driver.specs.Steps.{Enters, Needs, Finishes, ran_with}
+use Rattle.xt_driver.specs.Steps.{Enters, Needs}
+use Rattle.xt_driver.specs.Along.{IsNext}
+use Rattle.xt_driver.specs.Lost.{IsServed, IsOfCall, IsOfReference}
+use Rattle.xt_driver.specs.Followed.{instance_of, IsFollowed}
 use Rattle.xt_driver.proofs.NoHoles.{meaning_whole}
-use Rattle.xt_driver.proofs.Standing.{stands_entered, stands_referred, stands_done, stands_fault, stepped, meant_from, gives_from, if_ok, on_ok}
+use Rattle.xt_driver.proofs.Remembering.{keeps_all}
+use Rattle.xt_driver.proofs.Following.{lasts_done}
+use Rattle.xt_driver.proofs.Standing.{stands_entered, stands_referred, stands_done, stands_begun, stands_fault, stepped, meant_from, gives_from, if_ok, on_ok}
 use Rattle.xt_driver.proofs.Referring.{refers_given, refers_evaluated, aside_of, evaluates_as}
-use Rattle.xt_driver.proofs.Onward.{Onward, onward_entered, onward_referred, on_any, evaluation_ready, evaluation_all, done_lasts}
+use Rattle.xt_driver.proofs.Onward.{Onward, onward_begun, onward_entered, onward_referred, on_any, evaluation_ready, evaluation_all, remembers_there, lasts_fault}
+use Rattle.xt_driver.proofs.Serving.{followed_begun}
+use Rattle.xt_driver.proofs.Along.{rest_from, rest_all, rest_none, along_turn, along_even, along_ended, gone_holds, gone_entered, gone_referred, gone_on, left_entered, left_referred, lost_on, lost_there, keeps_there, served_there, served_as, served_not}
+use Rattle.xt_driver.proofs.Regaining.{some_of, regained_means, regained_lasts, regained_settles}
+use Rattle.xt_driver.proofs.Keeping.{done_kept}
+use Rattle.xt_driver.proofs.Coming.{Ask, sure_there, of_streamed, of_taken, of_takes, of_reference, as_served, on_is, on_all, of_evaluates}
 use Rattle.xt_driver.proofs.drive.+drive.Goals as goal
 
-pub means-loop-standing-smaller-in-Continue-branch-4 : goal.means-loop-standing-smaller-in-Continue-branch-4
-means-loop-standing-smaller-in-Continue-branch-4 g t c =
+pub run_call-loop-standing-smaller-in-Continue-branch-4 : goal.run_call-loop-standing-smaller-in-Continue-branch-4
+run_call-loop-standing-smaller-in-Continue-branch-4 g t c =
     let truth = (g.W.World.state c.args.world.now).truth in
     let prog = g.E.Engine.progress in
     let globals = c.args.globals.now in
     let past = past_of globals in
-    let below = c.args.levels - 1 in
+    let below = c.args.below in
     let l = level_of truth globals below (call_of c.args.call.now) in
     let inv = c.loop-standing.invariant in
     let old = c.deref_mut.result.now in
@@ -41,20 +61,20 @@ means-loop-standing-smaller-in-Continue-branch-4 g t c =
     let resumed = c.advance.ensures.truth ∙ inv.truth in
     let entered = ap call_of c.deref.ensures ∙ e.call in
     let same = meant_from (λ a. setting_of a globals) past below e.depth left (call_of c.deref.result.now) _ resumed e.levels entered in
-    let came = if_ok c.means-came.result c.means-came.ensures.meaning (λ x h. h ∙ same) in
+    let came = if_ok c.enter-came.result c.enter-came.ensures.meaning (λ x h. h ∙ same) in
     let next = c.take_stream.new.standing in
     let at = c.deref_mut-in-Enter.ensures.value in
-    let streamed : IsStreamed next.given c.means-came.result ss (streams_of next.parts.items) = rw (sym at) c.in_ok-take_stream-in-Enter.ensures.streamed in
-    let onto = stands_entered l (prog old.run) (prog new.run) gift ss (streams_of next.parts.items) e.wanted e.depth c.means-came.result next.given stands e.advances came streamed in
+    let streamed : IsStreamed next.given c.enter-came.result ss (streams_of next.parts.items) = rw (sym at) c.in_ok-take_stream-in-Enter.ensures.streamed in
+    let onto = stands_entered l (prog old.run) (prog new.run) gift ss (streams_of next.parts.items) e.wanted e.depth c.enter-came.result next.given stands e.advances came streamed in
     rw (c.take_stream.ensures.run, at, sym c.deref_mut.ensures.value) onto.less
 
-pub means-loop-standing-preserved-in-Continue-branch-4 : goal.means-loop-standing-preserved-in-Continue-branch-4
-means-loop-standing-preserved-in-Continue-branch-4 g t c =
+pub run_call-loop-standing-preserved-in-Continue-branch-4 : goal.run_call-loop-standing-preserved-in-Continue-branch-4
+run_call-loop-standing-preserved-in-Continue-branch-4 g t c =
     let truth = (g.W.World.state c.args.world.now).truth in
     let prog = g.E.Engine.progress in
     let globals = c.args.globals.now in
     let past = past_of globals in
-    let below = c.args.levels - 1 in
+    let below = c.args.below in
     let l = level_of truth globals below (call_of c.args.call.now) in
     let inv = c.loop-standing.invariant in
     let old = c.deref_mut.result.now in
@@ -69,29 +89,35 @@ means-loop-standing-preserved-in-Continue-branch-4 g t c =
     let resumed = c.advance.ensures.truth ∙ inv.truth in
     let entered = ap call_of c.deref.ensures ∙ e.call in
     let same = meant_from (λ a. setting_of a globals) past below e.depth left (call_of c.deref.result.now) _ resumed e.levels entered in
-    let came = if_ok c.means-came.result c.means-came.ensures.meaning (λ x h. h ∙ same) in
+    let came = if_ok c.enter-came.result c.enter-came.ensures.meaning (λ x h. h ∙ same) in
     let next = c.take_stream.new.standing in
     let at = c.deref_mut-in-Enter.ensures.value in
-    let streamed : IsStreamed next.given c.means-came.result ss (streams_of next.parts.items) = rw (sym at) c.in_ok-take_stream-in-Enter.ensures.streamed in
-    let onto = stands_entered l (prog old.run) (prog new.run) gift ss (streams_of next.parts.items) e.wanted e.depth c.means-came.result next.given stands e.advances came streamed in
+    let streamed : IsStreamed next.given c.enter-came.result ss (streams_of next.parts.items) = rw (sym at) c.in_ok-take_stream-in-Enter.ensures.streamed in
+    let onto = stands_entered l (prog old.run) (prog new.run) gift ss (streams_of next.parts.items) e.wanted e.depth c.enter-came.result next.given stands e.advances came streamed in
     let on : Stands l (prog next.run) (gift_of next.given) (streams_of next.parts.items) = rw (c.take_stream.ensures.run, at) onto.stands in
     let first = entries_of c.args.memo.now in
     let held = entries_of c.loop-standing.memo in
-    let more = entries_of c.means-came.new.memo in
+    let more = entries_of c.enter-came.new.memo in
     let before : Onward l first held new.spare (prog old.run) gift = rw (c.advance.ensures.spare, c.deref_mut.ensures.value) inv.onward in
     let fewer : next.spare ≤ new.spare = rw (sym at) c.take_stream.ensures.spare in
-    let onward = onward_entered (λ a. setting_of a globals) past below l.call first held more new.spare next.spare (prog old.run) (prog new.run) gift e.wanted e.depth left (call_of c.deref.result.now) c.means-came.result next.given ss
-    (streams_of next.parts.items) resumed before e.advances e.levels entered c.means-came.ensures.keeps c.means-came.ensures.lasts streamed fewer c.take_stream.ensures.inner in
+    let onward = onward_entered (λ a. setting_of a globals) past below l.call first held more new.spare next.spare (prog old.run) (prog new.run) gift e.wanted e.depth left (call_of c.deref.result.now) c.enter-came.result next.given ss
+    (streams_of next.parts.items) resumed before e.advances e.levels entered c.enter-came.ensures.keeps c.enter-came.ensures.lasts streamed fewer c.take_stream.ensures.inner in
     let onward_next : Onward l first more next.spare (prog next.run) (gift_of next.given) = rw (c.take_stream.ensures.run, at) onward in
-    record { stands = on; onward = onward_next; room = inv.room; truth = c.means-came.ensures.truth ∙ resumed; name = c.means-came.ensures.name ∙ c.advance.ensures.name ∙ inv.name }
+    record {
+      stands = on;
+      onward = onward_next;
+      sure = sure_there resumed (of_streamed next.given ss (streams_of next.parts.items) c.enter-came.result streamed c.enter-came.ensures.sure);
+      truth = c.enter-came.ensures.truth ∙ resumed;
+      name = c.enter-came.ensures.name ∙ c.advance.ensures.name ∙ inv.name;
+    }
 
-pub means-loop-standing-smaller : goal.means-loop-standing-smaller
-means-loop-standing-smaller g t c =
+pub run_call-loop-standing-smaller : goal.run_call-loop-standing-smaller
+run_call-loop-standing-smaller g t c =
     let truth = (g.W.World.state c.args.world.now).truth in
     let prog = g.E.Engine.progress in
     let globals = c.args.globals.now in
     let past = past_of globals in
-    let below = c.args.levels - 1 in
+    let below = c.args.below in
     let l = level_of truth globals below (call_of c.args.call.now) in
     let inv = c.loop-standing.invariant in
     let old = c.deref_mut.result.now in
@@ -104,19 +130,20 @@ means-loop-standing-smaller g t c =
     let left = c.in-Refer.left in
     let e : Needs truth gift (prog old.run) (prog new.run) below needed left = steps in
     let resumed = c.advance.ensures.truth ∙ inv.truth in
-    let gives = if_ok c.refer-came.result c.refer-came.ensures.settles (λ x h. gives_from (λ a. setting_of a globals) past below e.depth left needed.name (place_of needed.place) x.value.entered resumed e.levels h.gives) in
+    let settles = if_ok c.need-came.result c.need-came.ensures.settles (λ x h. let H : Settles (setting_of (g.W.World.state c.advance.new.world).truth globals) past (entries_of c.need-came.new.memo) needed.name left (place_of needed.place) x.value = rw (sym c.deref-in-Refer.ensures) h in H) in
+    let gives = if_ok c.need-came.result settles (λ x h. gives_from (λ a. setting_of a globals) past below e.depth left needed.name (place_of needed.place) x.value.entered resumed e.levels h.gives) in
     let next = c.take_global.new.standing in
     let at = c.deref_mut-in-Refer.ensures.value in
-    let onto = stands_referred l (prog old.run) (prog new.run) gift ss needed e.depth c.refer-came.result next.given stands e.advances gives c.in_ok-take_global-in-Refer.ensures.taken in
+    let onto = stands_referred l (prog old.run) (prog new.run) gift ss needed e.depth c.need-came.result next.given stands e.advances gives c.in_ok-take_global-in-Refer.ensures.taken in
     rw (c.take_global.ensures.run, at, sym c.deref_mut.ensures.value) onto.less
 
-pub means-loop-standing-preserved : goal.means-loop-standing-preserved
-means-loop-standing-preserved g t c =
+pub run_call-loop-standing-preserved : goal.run_call-loop-standing-preserved
+run_call-loop-standing-preserved g t c =
     let truth = (g.W.World.state c.args.world.now).truth in
     let prog = g.E.Engine.progress in
     let globals = c.args.globals.now in
     let past = past_of globals in
-    let below = c.args.levels - 1 in
+    let below = c.args.below in
     let l = level_of truth globals below (call_of c.args.call.now) in
     let inv = c.loop-standing.invariant in
     let old = c.deref_mut.result.now in
@@ -129,28 +156,35 @@ means-loop-standing-preserved g t c =
     let left = c.in-Refer.left in
     let e : Needs truth gift (prog old.run) (prog new.run) below needed left = steps in
     let resumed = c.advance.ensures.truth ∙ inv.truth in
-    let gives = if_ok c.refer-came.result c.refer-came.ensures.settles (λ x h. gives_from (λ a. setting_of a globals) past below e.depth left needed.name (place_of needed.place) x.value.entered resumed e.levels h.gives) in
+    let settles = if_ok c.need-came.result c.need-came.ensures.settles (λ x h. let H : Settles (setting_of (g.W.World.state c.advance.new.world).truth globals) past (entries_of c.need-came.new.memo) needed.name left (place_of needed.place) x.value = rw (sym c.deref-in-Refer.ensures) h in H) in
+    let gives = if_ok c.need-came.result settles (λ x h. gives_from (λ a. setting_of a globals) past below e.depth left needed.name (place_of needed.place) x.value.entered resumed e.levels h.gives) in
     let next = c.take_global.new.standing in
     let at = c.deref_mut-in-Refer.ensures.value in
-    let onto = stands_referred l (prog old.run) (prog new.run) gift ss needed e.depth c.refer-came.result next.given stands e.advances gives c.in_ok-take_global-in-Refer.ensures.taken in
+    let onto = stands_referred l (prog old.run) (prog new.run) gift ss needed e.depth c.need-came.result next.given stands e.advances gives c.in_ok-take_global-in-Refer.ensures.taken in
     let on : Stands l (prog next.run) (gift_of next.given) (streams_of next.parts.items) = rw (c.take_global.ensures.run, c.take_global.ensures.parts, at) onto.stands in
     let first = entries_of c.args.memo.now in
     let held = entries_of c.loop-standing.memo in
-    let more = entries_of c.refer-came.new.memo in
+    let more = entries_of c.need-came.new.memo in
     let before : Onward l first held new.spare (prog old.run) gift = rw (c.advance.ensures.spare, c.deref_mut.ensures.value) inv.onward in
     let fewer : next.spare ≤ new.spare = rw (sym at) c.take_global.ensures.spare in
-    let onward = onward_referred (λ a. setting_of a globals) past below l.call first held more new.spare next.spare (prog old.run) (prog new.run) gift needed e.depth left c.refer-came.result next.given resumed before e.advances e.levels
-    c.refer-came.ensures.keeps c.refer-came.ensures.settles c.in_ok-take_global-in-Refer.ensures.taken fewer (on_any c.refer-came.result c.in_ok-take_global-in-Refer.ensures.inner) in
+    let onward = onward_referred (λ a. setting_of a globals) past below l.call first held more new.spare next.spare (prog old.run) (prog new.run) gift needed e.depth left c.need-came.result next.given resumed before e.advances e.levels
+    c.need-came.ensures.keeps settles c.in_ok-take_global-in-Refer.ensures.taken fewer (on_any c.need-came.result c.in_ok-take_global-in-Refer.ensures.inner) in
     let onward_next : Onward l first more next.spare (prog next.run) (gift_of next.given) = rw (c.take_global.ensures.run, at) onward in
-    record { stands = on; onward = onward_next; room = inv.room; truth = c.refer-came.ensures.truth ∙ resumed; name = c.refer-came.ensures.name ∙ c.advance.ensures.name ∙ inv.name }
+    record {
+      stands = on;
+      onward = onward_next;
+      sure = sure_there resumed (of_taken next.given c.need-came.result c.in_ok-take_global-in-Refer.ensures.taken c.need-came.ensures.sure);
+      truth = c.need-came.ensures.truth ∙ resumed;
+      name = c.need-came.ensures.name ∙ c.advance.ensures.name ∙ inv.name;
+    }
 
-pub means-done-requires : goal.means-done-requires
-means-done-requires g t c =
+pub run_call-done-requires : goal.run_call-done-requires
+run_call-done-requires g t c =
     let truth = (g.W.World.state c.args.world.now).truth in
     let prog = g.E.Engine.progress in
     let globals = c.args.globals.now in
     let past = past_of globals in
-    let below = c.args.levels - 1 in
+    let below = c.args.below in
     let l = level_of truth globals below (call_of c.args.call.now) in
     let inv = c.loop-standing.invariant in
     let old = c.deref_mut.result.now in
@@ -158,21 +192,19 @@ means-done-requires g t c =
     let gift = gift_of old.given in
     let ss = streams_of new.parts.items in
     let stands : Stands l (prog old.run) gift ss = rw (c.advance.ensures.parts, c.deref_mut.ensures.value) inv.stands in
-    let steps = stepped gift (prog old.run) (prog new.run) l.call below inv.truth c.in-Done.is c.in_ok-inner.ensures.steps in
-    let finishes : Finishes truth gift (prog old.run) (prog new.run) c.in-Done.ended.value = steps in
-    let ran = ran_with c.in-Done.ended.value finishes.events in
-    let adv : Advances truth gift (prog old.run) (prog new.run) (Ok (Done ran)) = finishes.advances in
+    let ran = c.in-Done.ran.value in
+    let adv : Advances truth gift (prog old.run) (prog new.run) (Ok (Done ran)) = stepped gift (prog old.run) (prog new.run) l.call below inv.truth c.in-Done.is c.in_ok-inner.ensures.steps in
     let is = stands_done l (prog old.run) (prog new.run) gift ss ran stands adv in
-    let parts : c.as_slice.result.now ≡ new.parts.items = rw (sym c.deref-in-Done.ensures) c.as_slice.ensures.value in
-    is.even ∙ length-map new.parts.items _ ∙ ap length (sym parts)
+    let parts : c.as_slice.result.now ≡ new.parts.items = rw (sym c.deref-in-Done-2.ensures) c.as_slice.ensures.value in
+    ap (λ (r : Ran). holes (ran_of r).content) c.deref-in-Done.ensures ∙ is.even ∙ length-map new.parts.items _ ∙ ap length (sym parts)
 
-pub means-returns-in-Done-clause-meaning : goal.means-returns-in-Done-clause-meaning
-means-returns-in-Done-clause-meaning g t c =
+pub run_call-returns-in-Done-clause-made : goal.run_call-returns-in-Done-clause-made
+run_call-returns-in-Done-clause-made g t c =
     let truth = (g.W.World.state c.args.world.now).truth in
     let prog = g.E.Engine.progress in
     let globals = c.args.globals.now in
     let past = past_of globals in
-    let below = c.args.levels - 1 in
+    let below = c.args.below in
     let l = level_of truth globals below (call_of c.args.call.now) in
     let inv = c.loop-standing.invariant in
     let old = c.deref_mut.result.now in
@@ -180,23 +212,41 @@ means-returns-in-Done-clause-meaning g t c =
     let gift = gift_of old.given in
     let ss = streams_of new.parts.items in
     let stands : Stands l (prog old.run) gift ss = rw (c.advance.ensures.parts, c.deref_mut.ensures.value) inv.stands in
-    let steps = stepped gift (prog old.run) (prog new.run) l.call below inv.truth c.in-Done.is c.in_ok-inner.ensures.steps in
-    let finishes : Finishes truth gift (prog old.run) (prog new.run) c.in-Done.ended.value = steps in
-    let ran = ran_with c.in-Done.ended.value finishes.events in
-    let adv : Advances truth gift (prog old.run) (prog new.run) (Ok (Done ran)) = finishes.advances in
+    let ran = c.in-Done.ran.value in
+    let adv : Advances truth gift (prog old.run) (prog new.run) (Ok (Done ran)) = stepped gift (prog old.run) (prog new.run) l.call below inv.truth c.in-Done.is c.in_ok-inner.ensures.steps in
+    (done_kept l (prog old.run) (prog new.run) gift ss ran stands adv).lasting
+
+pub run_call-returns-in-Done-clause-meaning : goal.run_call-returns-in-Done-clause-meaning
+run_call-returns-in-Done-clause-meaning g t c =
+    let truth = (g.W.World.state c.args.world.now).truth in
+    let prog = g.E.Engine.progress in
+    let globals = c.args.globals.now in
+    let past = past_of globals in
+    let below = c.args.below in
+    let l = level_of truth globals below (call_of c.args.call.now) in
+    let inv = c.loop-standing.invariant in
+    let old = c.deref_mut.result.now in
+    let new = c.advance.new.standing in
+    let gift = gift_of old.given in
+    let ss = streams_of new.parts.items in
+    let stands : Stands l (prog old.run) gift ss = rw (c.advance.ensures.parts, c.deref_mut.ensures.value) inv.stands in
+    let ran = c.in-Done.ran.value in
+    let adv : Advances truth gift (prog old.run) (prog new.run) (Ok (Done ran)) = stepped gift (prog old.run) (prog new.run) l.call below inv.truth c.in-Done.is c.in_ok-inner.ensures.steps in
     let is = stands_done l (prog old.run) (prog new.run) gift ss ran stands adv in
-    let parts : c.as_slice.result.now ≡ new.parts.items = rw (sym c.deref-in-Done.ensures) c.as_slice.ensures.value in
-    if_ok c.done.result c.done.ensures.outcome (λ x h.
-    h ∙ ap (λ xs. record { content = filled (ran_of ran).content (streams_of xs); ending = (ran_of ran).ending }) parts
-    ∙ sym is.means ∙ ap (λ r. meaning l.setting r past zero l.call) inv.room)
+    let parts : c.as_slice.result.now ≡ new.parts.items = rw (sym c.deref-in-Done-2.ensures) c.as_slice.ensures.value in
+    let x = c.in_ok-outcome-in-Done.outcome.value in
+    let made = c.in_ok-outcome-in-Done.ensures.outcome
+    ∙ ap (λ (r : Ran). record { content = filled (ran_of r).content (streams_of c.as_slice.result.now); ending = (ran_of r).ending }) c.deref-in-Done.ensures
+    ∙ ap (λ xs. record { content = filled (ran_of ran).content (streams_of xs); ending = (ran_of ran).ending }) parts in
+    made ∙ sym is.means
 
-pub means-returns-in-Done-clause-lasts : goal.means-returns-in-Done-clause-lasts
-means-returns-in-Done-clause-lasts g t c =
+pub run_call-returns-in-Done-clause-lasts : goal.run_call-returns-in-Done-clause-lasts
+run_call-returns-in-Done-clause-lasts g t c =
     let truth = (g.W.World.state c.args.world.now).truth in
     let prog = g.E.Engine.progress in
     let globals = c.args.globals.now in
     let past = past_of globals in
-    let below = c.args.levels - 1 in
+    let below = c.args.below in
     let l = level_of truth globals below (call_of c.args.call.now) in
     let inv = c.loop-standing.invariant in
     let old = c.deref_mut.result.now in
@@ -204,23 +254,26 @@ means-returns-in-Done-clause-lasts g t c =
     let gift = gift_of old.given in
     let ss = streams_of new.parts.items in
     let stands : Stands l (prog old.run) gift ss = rw (c.advance.ensures.parts, c.deref_mut.ensures.value) inv.stands in
-    let steps = stepped gift (prog old.run) (prog new.run) l.call below inv.truth c.in-Done.is c.in_ok-inner.ensures.steps in
-    let finishes : Finishes truth gift (prog old.run) (prog new.run) c.in-Done.ended.value = steps in
-    let ran = ran_with c.in-Done.ended.value finishes.events in
-    let adv : Advances truth gift (prog old.run) (prog new.run) (Ok (Done ran)) = finishes.advances in
-    let parts : c.as_slice.result.now ≡ new.parts.items = rw (sym c.deref-in-Done.ensures) c.as_slice.ensures.value in
+    let ran = c.in-Done.ran.value in
+    let adv : Advances truth gift (prog old.run) (prog new.run) (Ok (Done ran)) = stepped gift (prog old.run) (prog new.run) l.call below inv.truth c.in-Done.is c.in_ok-inner.ensures.steps in
+    let is = stands_done l (prog old.run) (prog new.run) gift ss ran stands adv in
+    let parts : c.as_slice.result.now ≡ new.parts.items = rw (sym c.deref-in-Done-2.ensures) c.as_slice.ensures.value in
+    let x = c.in_ok-outcome-in-Done.outcome.value in
+    let made = c.in_ok-outcome-in-Done.ensures.outcome
+    ∙ ap (λ (r : Ran). record { content = filled (ran_of r).content (streams_of c.as_slice.result.now); ending = (ran_of r).ending }) c.deref-in-Done.ensures
+    ∙ ap (λ xs. record { content = filled (ran_of ran).content (streams_of xs); ending = (ran_of ran).ending }) parts in
     let before : Onward l (entries_of c.args.memo.now) (entries_of c.loop-standing.memo) new.spare (prog old.run) gift = rw (c.advance.ensures.spare, c.deref_mut.ensures.value) inv.onward in
-    let outcome = if_ok c.done.result c.done.ensures.outcome (λ x h. h ∙ ap (λ xs. record { content = filled (ran_of ran).content (streams_of xs); ending = (ran_of ran).ending }) parts) in
-    let fewer = if_ok c.done.result c.done.ensures.spare (λ x h. let low : x.value.spare ≤ new.spare = rw (sym c.deref-in-Done-2.ensures) h in low) in
-    done_lasts l (entries_of c.args.memo.now) (entries_of c.loop-standing.memo) new.spare c.args.levels (prog old.run) (prog new.run) gift ss ran c.done.result stands before adv inv.room fewer c.done.ensures.height outcome
+    let low : x.spare ≤ new.spare = rw (sym c.deref-in-Done-3.ensures) c.in_ok-outcome-in-Done.ensures.spare in
+    let high : x.spare ≤ below - ran.height = rw (sym c.deref-in-Done.ensures) c.in_ok-outcome-in-Done.ensures.height in
+    lasts_done l (entries_of c.loop-standing.memo) new.spare x.spare (prog old.run) (prog new.run) gift ss ran (outcome_of x) stands before.elsewhere adv low high made
 
-pub means-returns-in-Failed-clause-meaning : goal.means-returns-in-Failed-clause-meaning
-means-returns-in-Failed-clause-meaning g t c =
+pub run_call-returns-in-Done-clause-asks : goal.run_call-returns-in-Done-clause-asks
+run_call-returns-in-Done-clause-asks g t c =
     let truth = (g.W.World.state c.args.world.now).truth in
     let prog = g.E.Engine.progress in
     let globals = c.args.globals.now in
     let past = past_of globals in
-    let below = c.args.levels - 1 in
+    let below = c.args.below in
     let l = level_of truth globals below (call_of c.args.call.now) in
     let inv = c.loop-standing.invariant in
     let old = c.deref_mut.result.now in
@@ -228,11 +281,526 @@ means-returns-in-Failed-clause-meaning g t c =
     let gift = gift_of old.given in
     let ss = streams_of new.parts.items in
     let stands : Stands l (prog old.run) gift ss = rw (c.advance.ensures.parts, c.deref_mut.ensures.value) inv.stands in
-    let steps = stepped gift (prog old.run) (prog new.run) l.call below inv.truth c.in-Failed.is c.in_ok-inner.ensures.steps in
+    let ran = c.in-Done.ran.value in
+    let adv : Advances truth gift (prog old.run) (prog new.run) (Ok (Done ran)) = stepped gift (prog old.run) (prog new.run) l.call below inv.truth c.in-Done.is c.in_ok-inner.ensures.steps in
+    (done_kept l (prog old.run) (prog new.run) gift ss ran stands adv).asks
+
+pub run_call-returns-in-Failed-clause-meaning : goal.run_call-returns-in-Failed-clause-meaning
+run_call-returns-in-Failed-clause-meaning g t c =
+    let truth = (g.W.World.state c.args.world.now).truth in
+    let prog = g.E.Engine.progress in
+    let globals = c.args.globals.now in
+    let past = past_of globals in
+    let below = c.args.below in
+    let l = level_of truth globals below (call_of c.args.call.now) in
+    let inv = c.loop-standing.invariant in
+    let old = c.deref_mut.result.now in
+    let new = c.advance.new.standing in
+    let gift = gift_of old.given in
+    let ss = streams_of new.parts.items in
+    let stands : Stands l (prog old.run) gift ss = rw (c.advance.ensures.parts, c.deref_mut.ensures.value) inv.stands in
     let fault = c.in-Failed.fault.value in
-    let adv : Advances truth gift (prog old.run) (prog new.run) (Err fault) = steps in
-    if_ok c.refused.result c.refused.ensures (λ x h.
-    stands_fault l (prog old.run) (prog new.run) gift ss fault x.value stands adv h ∙ ap (λ r. meaning l.setting r past zero l.call) inv.room)
+    let adv : Advances truth gift (prog old.run) (prog new.run) (Err fault) = stepped gift (prog old.run) (prog new.run) l.call below inv.truth c.in-Failed.is c.in_ok-inner.ensures.steps in
+    stands_fault l (prog old.run) (prog new.run) gift ss fault c.in_ok-outcome-in-Failed.outcome.value stands adv c.in_ok-outcome-in-Failed.ensures
+
+pub run_call-enter-came-requires : goal.run_call-enter-came-requires
+run_call-enter-came-requires g t c =
+    let truth = (g.W.World.state c.args.world.now).truth in
+    let prog = g.E.Engine.progress in
+    let globals = c.args.globals.now in
+    let past = past_of globals in
+    let below = c.args.below in
+    let l = level_of truth globals below (call_of c.args.call.now) in
+    let inv = c.loop-standing.invariant in
+    let old = c.deref_mut.result.now in
+    let new = c.advance.new.standing in
+    let gift = gift_of old.given in
+    let e : Enters truth gift (prog old.run) (prog new.run) l.call below c.in-Enter.inner.value c.in-Enter.left
+    = stepped gift (prog old.run) (prog new.run) l.call below inv.truth c.in-Enter.is c.in_ok-inner.ensures.steps in
+    let room = e.levels in
+    let resumed = c.advance.ensures.truth ∙ inv.truth in
+    let at : Ask → Setting NodeRef = λ a. setting_of a globals in
+    let remembers = remembers_there at past (entries_of c.loop-standing.memo) resumed inv.onward.keeps.remembers in
+    λ κs lives. (omega (arith, room), (lives.0, (lives.1.0, (lives.1.1, (remembers, (sure_there (sym resumed) inv.sure, lost_there at past c.args.lost.now resumed c.requires.lost))))))
+
+pub run_call-need-came-requires : goal.run_call-need-came-requires
+run_call-need-came-requires g t c =
+    let truth = (g.W.World.state c.args.world.now).truth in
+    let prog = g.E.Engine.progress in
+    let globals = c.args.globals.now in
+    let past = past_of globals in
+    let below = c.args.below in
+    let l = level_of truth globals below (call_of c.args.call.now) in
+    let inv = c.loop-standing.invariant in
+    let old = c.deref_mut.result.now in
+    let new = c.advance.new.standing in
+    let gift = gift_of old.given in
+    let e : Needs truth gift (prog old.run) (prog new.run) below c.in-Refer.needed.value c.in-Refer.left
+    = stepped gift (prog old.run) (prog new.run) l.call below inv.truth c.in-Refer.is c.in_ok-inner.ensures.steps in
+    let room = e.levels in
+    let resumed = c.advance.ensures.truth ∙ inv.truth in
+    let at : Ask → Setting NodeRef = λ a. setting_of a globals in
+    let remembers = remembers_there at past (entries_of c.loop-standing.memo) resumed inv.onward.keeps.remembers in
+    λ κs lives. (omega (arith, room), (lives.0, (lives.1.0, (lives.1.1, (remembers, (sure_there (sym resumed) inv.sure, lost_there at past c.args.lost.now resumed c.requires.lost))))))
+
+pub follow-loop-event-init : goal.follow-loop-event-init
+follow-loop-event-init g t c =
+    let truth = (g.W.World.state c.args.world.now).truth in
+    let globals = c.args.globals.now in
+    let s = setting_of truth globals in
+    let past = past_of globals in
+    let i = instance_of (call_of c.args.call.now) c.args.below past in
+    let first = entries_of c.args.memo.now in
+    let k = kept_in c.args.kept.now in
+    let way = c.in_ok-way.way.value in
+    let ss = streams_of way.parts.items in
+    let P : List (Event NodeRef) → Type 0 = λ es. IsFollowed s i first first way.spare k ss es in
+    let begun = followed_begun s i first way.spare k c.requires.remembers c.requires.serves.asks c.a_record_lasts.ensures (ap streams_of c.in_ok-way.ensures) in
+    record { followed = subst P (rest_all c.as_slice-events.result.now c.as_slice-events.ensures.value) begun; sure = c.requires.sure; truth = refl; name = refl }
+
+pub follow-go_on-requires : goal.follow-go_on-requires
+follow-go_on-requires g t c =
+    let globals = c.args.globals.now in
+    let inv = c.loop-event.invariant in
+    let remembers = remembers_there (λ a. setting_of a globals) (past_of globals) (entries_of c.loop-event.memo) inv.truth inv.followed.keeps.remembers in
+    λ κs lives. (omega arith, (lives.0, (lives.1.0, (lives.1.1, (remembers, sure_there (sym inv.truth) inv.sure)))))
+
+pub follow-loop-event-preserved : goal.follow-loop-event-preserved
+follow-loop-event-preserved g t c =
+    let truth = (g.W.World.state c.args.world.now).truth in
+    let globals = c.args.globals.now in
+    let s = setting_of truth globals in
+    let past = past_of globals in
+    let i = instance_of (call_of c.args.call.now) c.args.below past in
+    let first = entries_of c.args.memo.now in
+    let k = kept_in c.args.kept.now in
+    let inv = c.loop-event.invariant in
+    let n = c.loop-event.event-index in
+    let events = c.as_slice-events.result.now in
+    let way = c.loop-event.way.value in
+    let ss = streams_of way.parts.items in
+    let held = entries_of c.loop-event.memo in
+    let e = c.event-item.result in
+    let more = entries_of c.go_on.new.memo in
+    let old = c.deref_mut.result.now in
+    let next = c.go_on.new.way in
+    let turned = along_turn s i first held way.spare k ss events n e (omega arith) c.event-item.is inv.followed in
+    let before : IsFollowed s i first held old.spare k (streams_of old.parts.items) (event_of e ∷ rest_from events (n + 1)) = rw c.deref_mut.ensures.value turned in
+    record {
+      followed = gone_on (λ a. setting_of a globals) i first held more old next (event_of e) k (rest_from events (n + 1)) c.in_ok-go_on.field-0 inv.truth c.in_ok-go_on.ensures.goes c.in-None.is before;
+      sure = sure_there inv.truth c.in_ok-go_on.ensures.sure;
+      truth = c.go_on.ensures.truth ∙ inv.truth;
+      name = c.go_on.ensures.name ∙ inv.name;
+    }
+
+pub follow-returns-in-Some-clause-keeps : goal.follow-returns-in-Some-clause-keeps
+follow-returns-in-Some-clause-keeps g t c =
+    let truth = (g.W.World.state c.args.world.now).truth in
+    let globals = c.args.globals.now in
+    let s = setting_of truth globals in
+    let past = past_of globals in
+    let i = instance_of (call_of c.args.call.now) c.args.below past in
+    let first = entries_of c.args.memo.now in
+    let k = kept_in c.args.kept.now in
+    let inv = c.loop-event.invariant in
+    let n = c.loop-event.event-index in
+    let events = c.as_slice-events.result.now in
+    let way = c.loop-event.way.value in
+    let ss = streams_of way.parts.items in
+    let held = entries_of c.loop-event.memo in
+    keeps_there (λ a. setting_of a globals) past first held (entries_of c.go_on.new.memo) inv.truth inv.followed.keeps c.in_ok-go_on.ensures.keeps
+
+pub follow-returns-in-Some-clause-served : goal.follow-returns-in-Some-clause-served
+follow-returns-in-Some-clause-served g t c =
+    let truth = (g.W.World.state c.args.world.now).truth in
+    let globals = c.args.globals.now in
+    let s = setting_of truth globals in
+    let past = past_of globals in
+    let i = instance_of (call_of c.args.call.now) c.args.below past in
+    let first = entries_of c.args.memo.now in
+    let k = kept_in c.args.kept.now in
+    let inv = c.loop-event.invariant in
+    let n = c.loop-event.event-index in
+    let events = c.as_slice-events.result.now in
+    let way = c.loop-event.way.value in
+    let ss = streams_of way.parts.items in
+    let held = entries_of c.loop-event.memo in
+    lost_on (λ a. setting_of a globals) i held (entries_of c.go_on.new.memo) c.deref_mut.result.now c.go_on.new.way (event_of c.event-item.result) c.in_ok-go_on.field-0 c.in-Some.lost inv.truth c.in_ok-go_on.ensures.goes c.in-Some.is
+
+pub follow-returns-in-Some-clause-sure : goal.follow-returns-in-Some-clause-sure
+follow-returns-in-Some-clause-sure g t c =
+    let truth = (g.W.World.state c.args.world.now).truth in
+    let globals = c.args.globals.now in
+    let s = setting_of truth globals in
+    let past = past_of globals in
+    let i = instance_of (call_of c.args.call.now) c.args.below past in
+    let first = entries_of c.args.memo.now in
+    let k = kept_in c.args.kept.now in
+    let inv = c.loop-event.invariant in
+    let n = c.loop-event.event-index in
+    let events = c.as_slice-events.result.now in
+    let way = c.loop-event.way.value in
+    let ss = streams_of way.parts.items in
+    let held = entries_of c.loop-event.memo in
+    sure_there inv.truth c.in_ok-go_on.ensures.sure
+
+pub follow-done-requires : goal.follow-done-requires
+follow-done-requires g t c =
+    let truth = (g.W.World.state c.args.world.now).truth in
+    let globals = c.args.globals.now in
+    let s = setting_of truth globals in
+    let past = past_of globals in
+    let i = instance_of (call_of c.args.call.now) c.args.below past in
+    let first = entries_of c.args.memo.now in
+    let k = kept_in c.args.kept.now in
+    let inv = c.loop-event.invariant in
+    let n = c.loop-event.event-index in
+    let events = c.as_slice-events.result.now in
+    let way = c.loop-event.way.value in
+    let ss = streams_of way.parts.items in
+    let held = entries_of c.loop-event.memo in
+    let none = rest_none events n (omega arith) in
+    let parts : c.as_slice.result.now ≡ way.parts.items = rw (sym c.deref.ensures) c.as_slice.ensures.value in
+    along_even s i first held way.spare k ss (rest_from events n) inv.followed none ∙ length-map way.parts.items _ ∙ ap length (sym parts)
+
+pub follow-returns-clause-served : goal.follow-returns-clause-served
+follow-returns-clause-served g t c =
+    let truth = (g.W.World.state c.args.world.now).truth in
+    let globals = c.args.globals.now in
+    let s = setting_of truth globals in
+    let past = past_of globals in
+    let i = instance_of (call_of c.args.call.now) c.args.below past in
+    let first = entries_of c.args.memo.now in
+    let k = kept_in c.args.kept.now in
+    let inv = c.loop-event.invariant in
+    let n = c.loop-event.event-index in
+    let events = c.as_slice-events.result.now in
+    let way = c.loop-event.way.value in
+    let ss = streams_of way.parts.items in
+    let held = entries_of c.loop-event.memo in
+    let none = rest_none events n (omega arith) in
+    let parts : c.as_slice.result.now ≡ way.parts.items = rw (sym c.deref.ensures) c.as_slice.ensures.value in
+    let o = c.in_ok-outcome.outcome in
+    let low : o.value.spare ≤ way.spare = rw (sym c.deref-2.ensures) c.in_ok-outcome.ensures.spare in
+    let made = c.in_ok-outcome.ensures.outcome ∙ ap (λ xs. record { content = filled k.content (streams_of xs); ending = k.ending }) parts in
+    along_ended s i first held way.spare k ss (rest_from events n) o inv.followed none c.a_record_lasts.ensures c.requires.serves.of_call c.requires.serves.levels low c.in_ok-outcome.ensures.height made
+
+pub follow-returns-clause-keeps : goal.follow-returns-clause-keeps
+follow-returns-clause-keeps g t c =
+    let inv = c.loop-event.invariant in
+    let n = c.loop-event.event-index in
+    let events = c.as_slice-events.result.now in
+    let way = c.loop-event.way.value in
+    let ss = streams_of way.parts.items in
+    let held = entries_of c.loop-event.memo in
+    inv.followed.keeps
+
+pub go_on-returns-in-Holds-clause-goes : goal.go_on-returns-in-Holds-clause-goes
+go_on-returns-in-Holds-clause-goes g t c =
+    let truth = (g.W.World.state c.args.world.now).truth in
+    let globals = c.args.globals.now in
+    let s = setting_of truth globals in
+    let i = instance_of (call_of c.args.call.now) c.args.below (past_of globals) in
+    let all = entries_of c.args.memo.now in
+    let way = c.args.way.now in
+    let e = event_of c.args.event.now in
+    let x = c.in_ok-next_done.field-0 in
+    let n : IsNext x i.call i.below (streams_of way.parts.items) e = rw (sym c.as_slice.ensures.value) c.in_ok-next_done.ensures in
+    gone_holds s i all way e x n c.in-Holds.is
+
+pub go_on-means-came-requires : goal.go_on-means-came-requires
+go_on-means-came-requires g t c =
+    let ss = streams_of c.args.way.now.parts.items in
+    let call = call_of c.args.call.now in
+    let below = c.args.below in
+    let e = event_of c.args.event.now in
+    let x = c.in_ok-next_done.field-0 in
+    let n : IsNext x call below ss e = rw (sym c.as_slice.ensures.value) c.in_ok-next_done.ensures in
+    let low = left_entered x c.in-Enter.inner c.in-Enter.left call below ss e n c.in-Enter.is in
+    λ κs lives. (omega (arith, low), (lives.0, (lives.1.0, (lives.1.1, (c.requires.remembers, c.requires.sure)))))
+
+pub go_on-returns-in-Enter-clause-keeps : goal.go_on-returns-in-Enter-clause-keeps
+go_on-returns-in-Enter-clause-keeps g t c =
+    on_ok c.take_entered.result c.take_entered.ensures (λ l h. of_takes l _ _ _ _ c.means-came.result h c.means-came.ensures.keeps)
+
+pub go_on-returns-in-Enter-clause-goes : goal.go_on-returns-in-Enter-clause-goes
+go_on-returns-in-Enter-clause-goes g t c =
+    let truth = (g.W.World.state c.args.world.now).truth in
+    let globals = c.args.globals.now in
+    let s = setting_of truth globals in
+    let i = instance_of (call_of c.args.call.now) c.args.below (past_of globals) in
+    let all = entries_of c.args.memo.now in
+    let way = c.args.way.now in
+    let e = event_of c.args.event.now in
+    let x = c.in_ok-next_done.field-0 in
+    let n : IsNext x i.call i.below (streams_of way.parts.items) e = rw (sym c.as_slice.ensures.value) c.in_ok-next_done.ensures in
+    if_ok c.take_entered.result c.take_entered.ensures (λ l h.
+    gone_entered s i all (entries_of c.means-came.new.memo) way c.take_entered.new.way e x c.in-Enter.inner c.deref.result.now c.in-Enter.left c.means-came.result l c.deref.ensures n c.in-Enter.is
+    c.means-came.ensures.keeps c.means-came.ensures.lasts c.means-came.ensures.meaning h)
+
+pub go_on-returns-in-Enter-clause-sure : goal.go_on-returns-in-Enter-clause-sure
+go_on-returns-in-Enter-clause-sure g t c =
+    on_ok c.take_entered.result c.take_entered.ensures (λ l h. of_takes l _ _ _ _ c.means-came.result h c.means-came.ensures.sure)
+
+pub go_on-refer-came-requires : goal.go_on-refer-came-requires
+go_on-refer-came-requires g t c =
+    let ss = streams_of c.args.way.now.parts.items in
+    let call = call_of c.args.call.now in
+    let below = c.args.below in
+    let e = event_of c.args.event.now in
+    let x = c.in_ok-next_done.field-0 in
+    let n : IsNext x call below ss e = rw (sym c.as_slice.ensures.value) c.in_ok-next_done.ensures in
+    let low = left_referred x c.in-Refer.needed c.in-Refer.left call below ss e n c.in-Refer.is in
+    λ κs lives. (omega (arith, low), (lives.0, (lives.1.0, (lives.1.1, (c.requires.remembers, c.requires.sure)))))
+
+pub go_on-returns-in-Refer-clause-keeps : goal.go_on-returns-in-Refer-clause-keeps
+go_on-returns-in-Refer-clause-keeps g t c =
+    on_ok c.take_reference.result c.take_reference.ensures (λ l h. of_reference l _ _ _ _ _ c.refer-came.result h c.refer-came.ensures.keeps)
+
+pub go_on-returns-in-Refer-clause-goes : goal.go_on-returns-in-Refer-clause-goes
+go_on-returns-in-Refer-clause-goes g t c =
+    let truth = (g.W.World.state c.args.world.now).truth in
+    let globals = c.args.globals.now in
+    let s = setting_of truth globals in
+    let i = instance_of (call_of c.args.call.now) c.args.below (past_of globals) in
+    let all = entries_of c.args.memo.now in
+    let way = c.args.way.now in
+    let e = event_of c.args.event.now in
+    let x = c.in_ok-next_done.field-0 in
+    let n : IsNext x i.call i.below (streams_of way.parts.items) e = rw (sym c.as_slice.ensures.value) c.in_ok-next_done.ensures in
+    if_ok c.take_reference.result c.take_reference.ensures (λ l h.
+    gone_referred s i all (entries_of c.refer-came.new.memo) way c.take_reference.new.way e x c.in-Refer.needed c.deref-in-Refer.result.now c.in-Refer.left c.refer-came.result l c.deref-in-Refer.ensures n c.in-Refer.is
+    c.refer-came.ensures.keeps c.refer-came.ensures.settles h)
+
+pub go_on-returns-in-Refer-clause-sure : goal.go_on-returns-in-Refer-clause-sure
+go_on-returns-in-Refer-clause-sure g t c =
+    on_ok c.take_reference.result c.take_reference.ensures (λ l h. of_reference l _ _ _ _ _ c.refer-came.result h c.refer-came.ensures.sure)
+
+pub serve-loop-found-init : goal.serve-loop-found-init
+serve-loop-found-init g t c =
+    record { keeps = keeps_all c.requires.remembers; sure = c.requires.sure; truth = refl; name = refl }
+
+pub serve-find-requires : goal.serve-find-requires
+serve-find-requires g t c =
+    let inv = c.loop-found.invariant in
+    record { sure = sure_there (sym inv.truth) inv.sure }
+
+pub serve-returns-in-None-clause-sure : goal.serve-returns-in-None-clause-sure
+serve-returns-in-None-clause-sure g t c =
+    let inv = c.loop-found.invariant in
+    sure_there inv.truth c.in_ok-find.ensures.sure
+
+pub serve-returns-in-None-clause-keeps : goal.serve-returns-in-None-clause-keeps
+serve-returns-in-None-clause-keeps g t c =
+    let inv = c.loop-found.invariant in
+    inv.keeps
+
+pub serve-follow-served-requires : goal.serve-follow-served-requires
+serve-follow-served-requires g t c =
+    let globals = c.args.globals.now in
+    let inv = c.loop-found.invariant in
+    let found = c.in-Some.found in
+    let call = call_of c.args.call.now in
+    let there = (g.W.World.state c.loop-found.world).truth in
+    let here = c.find.ensures.truth ∙ inv.truth in
+    let may : MayServe there call c.args.below (kept_in found.record.value) = some_of (λ f. MayServe there call c.args.below (kept_in f.record.value)) c.in_ok-find.field-0 found c.in-Some.is c.in_ok-find.ensures.serves in
+    let P : Ask → Type 0 = λ a. MayServe a call c.args.below (kept_in found.record.value) in
+    let Q : Record → Type 0 = λ r. MayServe (g.W.World.state c.find.new.world).truth call c.args.below (kept_in r) in
+    let serves = subst Q (sym c.deref.ensures) (subst P (sym c.find.ensures.truth) may) in
+    let remembers = remembers_there (λ a. setting_of a globals) (past_of globals) (entries_of c.loop-found.memo) here inv.keeps.remembers in
+    λ κs lives. (omega arith, (lives.0, (lives.1.0, (lives.1.1, (remembers, (sure_there (sym c.find.ensures.truth) c.in_ok-find.ensures.sure, serves))))))
+
+pub serve-loop-found-smaller : goal.serve-loop-found-smaller
+serve-loop-found-smaller g t c =
+    let from = c.loop-found.from in
+    let later = some_of (λ f. from < f.next) c.in_ok-find.field-0 c.in-Some.found c.in-Some.is c.in_ok-find.ensures.next in
+    let same = c.next_turn-from.ensures.same in
+    let fits = c.next_turn-from.ensures.fits in
+    omega (arith, later, same, fits)
+
+pub serve-loop-found-preserved : goal.serve-loop-found-preserved
+serve-loop-found-preserved g t c =
+    let truth = (g.W.World.state c.args.world.now).truth in
+    let globals = c.args.globals.now in
+    let past = past_of globals in
+    let inv = c.loop-found.invariant in
+    let first = entries_of c.args.memo.now in
+    let held = entries_of c.loop-found.memo in
+    let found = c.in-Some.found in
+    let there = (g.W.World.state c.loop-found.world).truth in
+    let here = c.find.ensures.truth ∙ inv.truth in
+    let may : MayServe there (call_of c.args.call.now) c.args.below (kept_in found.record.value)
+    = some_of (λ f. MayServe there (call_of c.args.call.now) c.args.below (kept_in f.record.value)) c.in_ok-find.field-0 found c.in-Some.is c.in_ok-find.ensures.serves in
+    record {
+      keeps = keeps_there (λ a. setting_of a globals) past first held (entries_of c.follow-served.new.memo) here inv.keeps (on_is c.follow-served.result c.in_ok-tried-in-Some.ensures.came c.follow-served.ensures.keeps);
+      sure = sure_there inv.truth (c.in_ok-tried-in-Some.ensures.sure there (sure_there c.find.ensures.truth (on_is c.follow-served.result c.in_ok-tried-in-Some.ensures.came c.follow-served.ensures.sure)) may.asks);
+      truth = c.follow-served.ensures.truth ∙ here;
+      name = c.follow-served.ensures.name ∙ c.find.ensures.name ∙ inv.name;
+    }
+
+pub serve-returns-in-Some-2-clause-keeps : goal.serve-returns-in-Some-2-clause-keeps
+serve-returns-in-Some-2-clause-keeps g t c =
+    let truth = (g.W.World.state c.args.world.now).truth in
+    let globals = c.args.globals.now in
+    let past = past_of globals in
+    let inv = c.loop-found.invariant in
+    let first = entries_of c.args.memo.now in
+    let held = entries_of c.loop-found.memo in
+    let found = c.in-Some.found in
+    let there = (g.W.World.state c.loop-found.world).truth in
+    let here = c.find.ensures.truth ∙ inv.truth in
+    let may : MayServe there (call_of c.args.call.now) c.args.below (kept_in found.record.value)
+    = some_of (λ f. MayServe there (call_of c.args.call.now) c.args.below (kept_in f.record.value)) c.in_ok-find.field-0 found c.in-Some.is c.in_ok-find.ensures.serves in
+    keeps_there (λ a. setting_of a globals) past first held (entries_of c.follow-served.new.memo) here inv.keeps (on_is c.follow-served.result c.in_ok-tried-in-Some.ensures.came c.follow-served.ensures.keeps)
+
+pub serve-returns-in-Some-2-clause-served : goal.serve-returns-in-Some-2-clause-served
+serve-returns-in-Some-2-clause-served g t c =
+    let truth = (g.W.World.state c.args.world.now).truth in
+    let globals = c.args.globals.now in
+    let past = past_of globals in
+    let inv = c.loop-found.invariant in
+    let first = entries_of c.args.memo.now in
+    let held = entries_of c.loop-found.memo in
+    let found = c.in-Some.found in
+    let there = (g.W.World.state c.loop-found.world).truth in
+    let here = c.find.ensures.truth ∙ inv.truth in
+    let may : MayServe there (call_of c.args.call.now) c.args.below (kept_in found.record.value)
+    = some_of (λ f. MayServe there (call_of c.args.call.now) c.args.below (kept_in f.record.value)) c.in_ok-find.field-0 found c.in-Some.is c.in_ok-find.ensures.serves in
+    let is = some_of (λ v. c.follow-served.result ≡ Ok v) c.in_ok-tried-in-Some.field-0 c.in-Some-2.served c.in-Some-2.is c.in_ok-tried-in-Some.ensures.served in
+    let v = c.in-Some-2.served in
+    let new = entries_of c.follow-served.new.memo in
+    let call = call_of c.args.call.now in
+    let P : Served → Type 0 = λ x. IsServed x (setting_of (g.W.World.state c.find.new.world).truth globals) past (suc c.args.below) new call in
+    served_there (λ a. setting_of a globals) past v (suc c.args.below) new call here (as_served P v c.follow-served.result is c.follow-served.ensures.served)
+
+pub serve-returns-in-Some-2-clause-sure : goal.serve-returns-in-Some-2-clause-sure
+serve-returns-in-Some-2-clause-sure g t c =
+    let truth = (g.W.World.state c.args.world.now).truth in
+    let globals = c.args.globals.now in
+    let past = past_of globals in
+    let inv = c.loop-found.invariant in
+    let first = entries_of c.args.memo.now in
+    let held = entries_of c.loop-found.memo in
+    let found = c.in-Some.found in
+    let there = (g.W.World.state c.loop-found.world).truth in
+    let here = c.find.ensures.truth ∙ inv.truth in
+    let may : MayServe there (call_of c.args.call.now) c.args.below (kept_in found.record.value)
+    = some_of (λ f. MayServe there (call_of c.args.call.now) c.args.below (kept_in f.record.value)) c.in_ok-find.field-0 found c.in-Some.is c.in_ok-find.ensures.serves in
+    sure_there inv.truth (c.in_ok-tried-in-Some.ensures.sure there (sure_there c.find.ensures.truth (on_is c.follow-served.result c.in_ok-tried-in-Some.ensures.came c.follow-served.ensures.sure)) may.asks)
+
+pub means-returns-in-As-clause-lasts : goal.means-returns-in-As-clause-lasts
+means-returns-in-As-clause-lasts g t c =
+    let truth = (g.W.World.state c.args.world.now).truth in
+    let globals = c.args.globals.now in
+    let s = setting_of truth globals in
+    let past = past_of globals in
+    let call = call_of c.args.call.now in
+    let v = c.in_ok-outcome.field-0 in
+    let mid = entries_of c.serve.new.memo in
+    let room : suc (c.args.levels - 1) ≡ c.args.levels = omega arith in
+    (served_as s past v (suc (c.args.levels - 1)) c.args.levels mid call c.in-As.outcome c.in_ok-outcome.ensures.served c.in-As.is room).1
+
+pub means-returns-in-As-clause-meaning : goal.means-returns-in-As-clause-meaning
+means-returns-in-As-clause-meaning g t c =
+    let truth = (g.W.World.state c.args.world.now).truth in
+    let globals = c.args.globals.now in
+    let s = setting_of truth globals in
+    let past = past_of globals in
+    let call = call_of c.args.call.now in
+    let v = c.in_ok-outcome.field-0 in
+    let mid = entries_of c.serve.new.memo in
+    let room : suc (c.args.levels - 1) ≡ c.args.levels = omega arith in
+    (served_as s past v (suc (c.args.levels - 1)) c.args.levels mid call c.in-As.outcome c.in_ok-outcome.ensures.served c.in-As.is room).0
+
+pub means-run_call-requires : goal.means-run_call-requires
+means-run_call-requires g t c =
+    let truth = (g.W.World.state c.args.world.now).truth in
+    let globals = c.args.globals.now in
+    let past = past_of globals in
+    let mid = entries_of c.serve.new.memo in
+    let at : Ask → Setting NodeRef = λ a. setting_of a globals in
+    let there = c.serve.ensures.truth in
+    let room : suc (c.args.levels - 1) ≡ c.args.levels = omega arith in
+    let remembers = remembers_there at past mid there c.in_ok-outcome.ensures.keeps.remembers in
+    let lost = served_not (setting_of truth globals) past c.in_ok-outcome.field-0 (suc (c.args.levels - 1)) mid (call_of c.args.call.now) c.in-Not.lost c.in_ok-outcome.ensures.served c.in-Not.is in
+    λ κs lives. (omega (arith, room), (lives.0, (lives.1.0, (lives.1.1, (remembers, (sure_there (sym there) c.in_ok-outcome.ensures.sure, lost_there at past c.in-Not.lost there lost))))))
+
+pub means-returns-in_ok-ended-in-Not-clause-keeps : goal.means-returns-in_ok-ended-in-Not-clause-keeps
+means-returns-in_ok-ended-in-Not-clause-keeps g t c =
+    let globals = c.args.globals.now in
+    on_any c.keep_ended.result (keeps_there (λ a. setting_of a globals) (past_of globals) (entries_of c.args.memo.now) (entries_of c.serve.new.memo) (entries_of c.run_call.new.memo) c.serve.ensures.truth c.in_ok-outcome.ensures.keeps c.in_ok-ended-in-Not.ensures.keeps)
+
+pub means-returns-in_ok-ended-in-Not-clause-lasts : goal.means-returns-in_ok-ended-in-Not-clause-lasts
+means-returns-in_ok-ended-in-Not-clause-lasts g t c =
+    let truth = (g.W.World.state c.args.world.now).truth in
+    let globals = c.args.globals.now in
+    let past = past_of globals in
+    let call = call_of c.args.call.now in
+    let room : suc (c.args.levels - 1) ≡ c.args.levels = omega arith in
+    let e = c.in_ok-ended-in-Not.ended in
+    let new = entries_of c.run_call.new.memo in
+    let P : Ask → Type 0 = λ a. Lasts (setting_of a globals) past (suc (c.args.levels - 1) - e.outcome.value.spare) new call (outcome_of e.outcome.value) in
+    let Q : ℕ → Type 0 = λ n. Lasts (setting_of truth globals) past (n - e.outcome.value.spare) new call (outcome_of e.outcome.value) in
+    let R : Box Came Allocator → Type 0 = λ o. Lasts (setting_of truth globals) past (c.args.levels - o.value.spare) new call (outcome_of o.value) in
+    let lasts = subst Q room (subst P c.serve.ensures.truth c.in_ok-ended-in-Not.ensures.lasts) in
+    if_ok c.keep_ended.result c.keep_ended.ensures.outcome (λ o h. subst R (sym h) lasts)
+
+pub means-returns-in_ok-ended-in-Not-clause-meaning : goal.means-returns-in_ok-ended-in-Not-clause-meaning
+means-returns-in_ok-ended-in-Not-clause-meaning g t c =
+    let truth = (g.W.World.state c.args.world.now).truth in
+    let globals = c.args.globals.now in
+    let past = past_of globals in
+    let call = call_of c.args.call.now in
+    let room : suc (c.args.levels - 1) ≡ c.args.levels = omega arith in
+    let e = c.in_ok-ended-in-Not.ended in
+    let meant = c.in_ok-ended-in-Not.ensures.meaning ∙ ap (λ a. meaning (setting_of a globals) (suc (c.args.levels - 1)) past 0 call) c.serve.ensures.truth
+    ∙ ap (λ n. meaning (setting_of truth globals) n past 0 call) room in
+    if_ok c.keep_ended.result c.keep_ended.ensures.outcome (λ o h. ap (λ (x : Box Came Allocator). outcome_of x.value) h ∙ meant)
+
+pub means-returns-in_ok-ended-in-Not-clause-sure : goal.means-returns-in_ok-ended-in-Not-clause-sure
+means-returns-in_ok-ended-in-Not-clause-sure g t c =
+    on_all c.keep_ended.result c.keep_ended.ensures.sure (λ keeps. sure_there c.serve.ensures.truth (keeps (g.W.World.state c.serve.new.world).truth c.in_ok-ended-in-Not.ensures.sure c.in_ok-ended-in-Not.ensures.asks))
+
+pub enter-returns-in-Some-clause-keeps : goal.enter-returns-in-Some-clause-keeps
+enter-returns-in-Some-clause-keeps g t c =
+    keeps_all c.requires.remembers
+
+pub enter-returns-in-Some-clause-lasts : goal.enter-returns-in-Some-clause-lasts
+enter-returns-in-Some-clause-lasts g t c =
+    let truth = (g.W.World.state c.args.world.now).truth in
+    let globals = c.args.globals.now in
+    let s = setting_of truth globals in
+    let past = past_of globals in
+    let lost = c.args.lost.now in
+    let o = c.in-Some.outcome in
+    let is = some_of (λ x. IsOfCall lost (call_of c.args.call.now) c.args.levels x.value) c.in_ok-outcome.field-0 o c.in-Some.is c.in_ok-outcome.ensures in
+    regained_lasts s past lost (call_of c.args.call.now) (call_of c.args.call.now) c.args.levels _ (entries_of c.args.memo.now) o.value is
+
+pub enter-returns-in-Some-clause-meaning : goal.enter-returns-in-Some-clause-meaning
+enter-returns-in-Some-clause-meaning g t c =
+    let truth = (g.W.World.state c.args.world.now).truth in
+    let globals = c.args.globals.now in
+    let s = setting_of truth globals in
+    let past = past_of globals in
+    let lost = c.args.lost.now in
+    let o = c.in-Some.outcome in
+    let is = some_of (λ x. IsOfCall lost (call_of c.args.call.now) c.args.levels x.value) c.in_ok-outcome.field-0 o c.in-Some.is c.in_ok-outcome.ensures in
+    regained_means s past lost (call_of c.args.call.now) c.args.levels o.value c.requires.lost is
+
+pub need-returns-in-Some-clause-keeps : goal.need-returns-in-Some-clause-keeps
+need-returns-in-Some-clause-keeps g t c =
+    keeps_all c.requires.remembers
+
+pub need-returns-in-Some-clause-settles : goal.need-returns-in-Some-clause-settles
+need-returns-in-Some-clause-settles g t c =
+    let truth = (g.W.World.state c.args.world.now).truth in
+    let globals = c.args.globals.now in
+    let s = setting_of truth globals in
+    let past = past_of globals in
+    let lost = c.args.lost.now in
+    let r = c.in-Some.referred in
+    let is = some_of (λ x. IsOfReference lost c.args.needed.now c.args.levels x.value) c.in_ok-referred.field-0 r c.in-Some.is c.in_ok-referred.ensures in
+    regained_settles s past lost c.args.needed.now c.args.levels (entries_of c.args.memo.now) r.value c.requires.lost is
 
 pub refer-evaluated-requires : goal.refer-evaluated-requires
 refer-evaluated-requires g t c =
@@ -243,86 +811,113 @@ pub refer-returns-in-Given-clause-keeps : goal.refer-returns-in-Given-clause-kee
 refer-returns-in-Given-clause-keeps g t c =
     let truth = (g.W.World.state c.args.world.now).truth in
     let globals = c.args.globals.now in
-    let name = c.args.needed.value.name in
+    let name = c.args.needed.now.name in
     let levels = c.args.levels in
     let old = entries_of c.args.memo.now in
     let new = entries_of c.look_up.new.memo in
-    let refers : Refers c.in_ok-given.field-0 globals name levels old new = rw (sym c.deref.ensures) c.in_ok-given.ensures in
-    (refers_given c.in_ok-given.field-0 c.in-Given.given globals name levels old new truth refers c.in-Given.is c.requires).0
+    let refers : Refers c.in_ok-given.field-0 globals name levels old new = c.in_ok-given.ensures in
+    (refers_given c.in_ok-given.field-0 c.in-Given.given globals name levels old new truth refers c.in-Given.is c.requires.remembers).0
 
 pub refer-returns-in-Given-clause-settles : goal.refer-returns-in-Given-clause-settles
 refer-returns-in-Given-clause-settles g t c =
     let truth = (g.W.World.state c.args.world.now).truth in
     let globals = c.args.globals.now in
-    let name = c.args.needed.value.name in
+    let name = c.args.needed.now.name in
     let levels = c.args.levels in
     let old = entries_of c.args.memo.now in
     let new = entries_of c.look_up.new.memo in
-    let refers : Refers c.in_ok-given.field-0 globals name levels old new = rw (sym c.deref.ensures) c.in_ok-given.ensures in
-    (refers_given c.in_ok-given.field-0 c.in-Given.given globals name levels old new truth refers c.in-Given.is c.requires).1 (place_of c.args.needed.value.place)
+    let refers : Refers c.in_ok-given.field-0 globals name levels old new = c.in_ok-given.ensures in
+    (refers_given c.in_ok-given.field-0 c.in-Given.given globals name levels old new truth refers c.in-Given.is c.requires.remembers).1 (place_of c.args.needed.now.place)
 
 pub refer-means-came-requires : goal.refer-means-came-requires
 refer-means-came-requires g t c =
     let truth = (g.W.World.state c.args.world.now).truth in
     let globals = c.args.globals.now in
-    let name = c.args.needed.value.name in
+    let name = c.args.needed.now.name in
     let levels = c.args.levels in
     let old = entries_of c.args.memo.now in
     let s = setting_of truth globals in
     let past = past_of globals in
-    let refers : Refers c.in_ok-given.field-0 globals name levels old (entries_of c.look_up.new.memo) = rw (sym c.deref.ensures) c.in_ok-given.ensures in
-    let anew = refers_evaluated c.in_ok-given.field-0 c.in-Evaluated.element globals name levels old (entries_of c.look_up.new.memo) truth refers c.in-Evaluated.is c.requires in
+    let refers : Refers c.in_ok-given.field-0 globals name levels old (entries_of c.look_up.new.memo) = c.in_ok-given.ensures in
+    let anew = refers_evaluated c.in_ok-given.field-0 c.in-Evaluated.element globals name levels old (entries_of c.look_up.new.memo) truth refers c.in-Evaluated.is c.requires.remembers in
     let evaluation = c.in_ok-evaluation-in-Evaluated in
-    let under = c.as_slice.ensures.value ∙ ap (λ (e : Evaluation). e.under_way.items) c.deref-in-Evaluated.ensures ∙ evaluation.ensures.under_way in
-    let ready = evaluation_ready s past name c.as_slice.result.now under (aside_of anew.1 evaluation.ensures.aside) c.requires in
-    λ κs lives. (omega arith, (lives.0, (lives.1.0, (lives.1.1, ready))))
+    let under = c.as_slice.ensures.value ∙ ap (λ (e : Evaluation). e.under_way.items) c.deref.ensures ∙ evaluation.ensures.under_way in
+    let ready = evaluation_ready s past name c.as_slice.result.now under (aside_of anew.1 evaluation.ensures.aside) c.requires.remembers in
+    λ κs lives. (omega arith, (lives.0, (lives.1.0, (lives.1.1, (ready, c.requires.sure)))))
 
 pub refer-returns-in_ok-evaluation-in-Evaluated-clause-keeps : goal.refer-returns-in_ok-evaluation-in-Evaluated-clause-keeps
 refer-returns-in_ok-evaluation-in-Evaluated-clause-keeps g t c =
     let truth = (g.W.World.state c.args.world.now).truth in
     let globals = c.args.globals.now in
-    let name = c.args.needed.value.name in
-    let place = place_of c.args.needed.value.place in
+    let name = c.args.needed.now.name in
+    let place = place_of c.args.needed.now.place in
     let levels = c.args.levels in
     let old = entries_of c.args.memo.now in
     let s = setting_of truth globals in
     let past = past_of globals in
-    let refers : Refers c.in_ok-given.field-0 globals name levels old (entries_of c.look_up.new.memo) = rw (sym c.deref.ensures) c.in_ok-given.ensures in
+    let refers : Refers c.in_ok-given.field-0 globals name levels old (entries_of c.look_up.new.memo) = c.in_ok-given.ensures in
     let node = c.in-Evaluated.element in
-    let anew = refers_evaluated c.in_ok-given.field-0 node globals name levels old (entries_of c.look_up.new.memo) truth refers c.in-Evaluated.is c.requires in
+    let anew = refers_evaluated c.in_ok-given.field-0 node globals name levels old (entries_of c.look_up.new.memo) truth refers c.in-Evaluated.is c.requires.remembers in
     let evaluation = c.in_ok-evaluation-in-Evaluated in
-    let under = c.as_slice.ensures.value ∙ ap (λ (e : Evaluation). e.under_way.items) c.deref-in-Evaluated.ensures ∙ evaluation.ensures.under_way in
-    let call = ap (λ (e : Evaluation). call_of e.call) c.deref-in-Evaluated-2.ensures ∙ evaluation.ensures.call in
+    let under = c.as_slice.ensures.value ∙ ap (λ (e : Evaluation). e.under_way.items) c.deref.ensures ∙ evaluation.ensures.under_way in
+    let call = ap (λ (e : Evaluation). call_of e.call) c.deref-in-Evaluated.ensures ∙ evaluation.ensures.call in
     let aside = map entry_of evaluation.evaluation.value.aside.items in
     let mid = entries_of c.evaluation_of.new.memo in
     let new = entries_of c.means-came.new.memo in
     let last = entries_of c.evaluated.new.memo in
     let evaluates = evaluates_as c.means-came.result c.evaluated.result levels aside new last evaluation.ensures.name evaluation.ensures.element c.evaluated.ensures in
-    let all = evaluation_all s past name c.as_slice.result.now node place levels (call_of c.deref-in-Evaluated-2.result.now.call) aside old mid new last c.means-came.result c.evaluated.result under call anew.0
-    (aside_of anew.1 evaluation.ensures.aside) c.requires c.means-came.ensures.keeps c.means-came.ensures.lasts c.means-came.ensures.meaning evaluates in
+    let all = evaluation_all s past name c.as_slice.result.now node place levels (call_of c.deref-in-Evaluated.result.now.call) aside old mid new last c.means-came.result c.evaluated.result under call anew.0
+    (aside_of anew.1 evaluation.ensures.aside) c.requires.remembers c.means-came.ensures.keeps c.means-came.ensures.lasts c.means-came.ensures.meaning evaluates in
     on_ok c.evaluated.result all (λ x h. h.keeps)
 
 pub refer-returns-in_ok-evaluation-in-Evaluated-clause-settles : goal.refer-returns-in_ok-evaluation-in-Evaluated-clause-settles
 refer-returns-in_ok-evaluation-in-Evaluated-clause-settles g t c =
     let truth = (g.W.World.state c.args.world.now).truth in
     let globals = c.args.globals.now in
-    let name = c.args.needed.value.name in
-    let place = place_of c.args.needed.value.place in
+    let name = c.args.needed.now.name in
+    let place = place_of c.args.needed.now.place in
     let levels = c.args.levels in
     let old = entries_of c.args.memo.now in
     let s = setting_of truth globals in
     let past = past_of globals in
-    let refers : Refers c.in_ok-given.field-0 globals name levels old (entries_of c.look_up.new.memo) = rw (sym c.deref.ensures) c.in_ok-given.ensures in
+    let refers : Refers c.in_ok-given.field-0 globals name levels old (entries_of c.look_up.new.memo) = c.in_ok-given.ensures in
     let node = c.in-Evaluated.element in
-    let anew = refers_evaluated c.in_ok-given.field-0 node globals name levels old (entries_of c.look_up.new.memo) truth refers c.in-Evaluated.is c.requires in
+    let anew = refers_evaluated c.in_ok-given.field-0 node globals name levels old (entries_of c.look_up.new.memo) truth refers c.in-Evaluated.is c.requires.remembers in
     let evaluation = c.in_ok-evaluation-in-Evaluated in
-    let under = c.as_slice.ensures.value ∙ ap (λ (e : Evaluation). e.under_way.items) c.deref-in-Evaluated.ensures ∙ evaluation.ensures.under_way in
-    let call = ap (λ (e : Evaluation). call_of e.call) c.deref-in-Evaluated-2.ensures ∙ evaluation.ensures.call in
+    let under = c.as_slice.ensures.value ∙ ap (λ (e : Evaluation). e.under_way.items) c.deref.ensures ∙ evaluation.ensures.under_way in
+    let call = ap (λ (e : Evaluation). call_of e.call) c.deref-in-Evaluated.ensures ∙ evaluation.ensures.call in
     let aside = map entry_of evaluation.evaluation.value.aside.items in
     let mid = entries_of c.evaluation_of.new.memo in
     let new = entries_of c.means-came.new.memo in
     let last = entries_of c.evaluated.new.memo in
     let evaluates = evaluates_as c.means-came.result c.evaluated.result levels aside new last evaluation.ensures.name evaluation.ensures.element c.evaluated.ensures in
-    let all = evaluation_all s past name c.as_slice.result.now node place levels (call_of c.deref-in-Evaluated-2.result.now.call) aside old mid new last c.means-came.result c.evaluated.result under call anew.0
-    (aside_of anew.1 evaluation.ensures.aside) c.requires c.means-came.ensures.keeps c.means-came.ensures.lasts c.means-came.ensures.meaning evaluates in
+    let all = evaluation_all s past name c.as_slice.result.now node place levels (call_of c.deref-in-Evaluated.result.now.call) aside old mid new last c.means-came.result c.evaluated.result under call anew.0
+    (aside_of anew.1 evaluation.ensures.aside) c.requires.remembers c.means-came.ensures.keeps c.means-came.ensures.lasts c.means-came.ensures.meaning evaluates in
     if_ok c.evaluated.result all (λ x h. h.settles)
+
+pub refer-returns-in_ok-evaluation-in-Evaluated-clause-sure : goal.refer-returns-in_ok-evaluation-in-Evaluated-clause-sure
+refer-returns-in_ok-evaluation-in-Evaluated-clause-sure g t c =
+    on_ok c.evaluated.result c.evaluated.ensures (λ r h. of_evaluates r.value c.means-came.result _ _ _ _ _ _ h c.means-came.ensures.sure)
+
+pub run_call-loop-standing-init : goal.run_call-loop-standing-init
+run_call-loop-standing-init g t c =
+    let truth = (g.W.World.state c.args.world.now).truth in
+    let l = level_of truth c.args.globals.now c.args.below (call_of c.args.call.now) in
+    let all = entries_of c.args.memo.now in
+    let begun = c.in_ok-standing.standing.value in
+    let p = g.E.Engine.progress begun.run in
+    let P : Option (Gift NodeRef) → Type 0 = λ x. Stands l p x [] in
+    let Q : List Stream → Type 0 = λ ss. Stands l p (gift_of begun.given) ss in
+    record {
+      stands = subst Q (sym (ap streams_of c.in_ok-standing.ensures.parts)) (subst P (sym (ap gift_of c.in_ok-standing.ensures.given)) (stands_begun l p refl c.in_ok-standing.ensures.started));
+      onward = onward_begun l all begun.spare p (gift_of begun.given) refl c.requires.remembers c.in_ok-standing.ensures.started (ap gift_of c.in_ok-standing.ensures.given);
+      sure = c.count_run.ensures truth c.requires.sure;
+      truth = refl;
+      name = refl;
+    }
+
+pub run_call-returns-in-Failed-clause-lasts : goal.run_call-returns-in-Failed-clause-lasts
+run_call-returns-in-Failed-clause-lasts g t c =
+    let l = level_of (g.W.World.state c.args.world.now).truth c.args.globals.now c.args.below (call_of c.args.call.now) in
+    let o = c.in_ok-outcome-in-Failed.outcome.value in
+    lasts_fault l.setting l.past (suc c.args.below - o.spare) (entries_of c.loop-standing.memo) l.call c.in-Failed.fault.value o c.in_ok-outcome-in-Failed.ensures

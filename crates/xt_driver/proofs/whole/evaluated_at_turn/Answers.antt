@@ -9,25 +9,26 @@ use Rattle.xt_driver.specs.View.{setting_of, past_of}
 use Rattle.xt_driver.specs.Remembered.{Remembers}
 use Rattle.xt_driver.specs.Referring.{entries_of}
 use Rattle.xt_driver.proofs.NoHoles.{meaning_whole}
-use Rattle.xt_driver.proofs.Standing.{if_ok}
+use Rattle.xt_driver.proofs.Standing.{if_ok, on_ok}
+use Rattle.xt_driver.proofs.Coming.{of_turned}
 use Rattle.xt_driver.proofs.Turning.{evaluated_turns}
 use Rattle.xt_driver.proofs.whole.evaluated_at_turn.Goals as goal
 
-pub means-came-requires : goal.means-came-requires
-means-came-requires g c =
+pub first_means-came-requires-clause-remembers : goal.first_means-came-requires-clause-remembers
+first_means-came-requires-clause-remembers g c =
     let globals = c.args.globals.now in
     let s = setting_of (g.W.World.state c.args.world.now).truth globals in
     let past = past_of globals in
     let under = c.as_slice.ensures.value ∙ c.in_ok-under_way.ensures ∙ ap (λ n. n ∷ globals.under_way.now) c.in_ok-name.ensures in
     let P : List Expanded → Type 0 = λ u. Remembers s (record { values = past.values; under = u }) (entries_of c.args.memo.now) in
-    subst P (sym under) c.requires
+    subst P (sym under) c.requires.remembers
 
 pub at_turn-requires : goal.at_turn-requires
 at_turn-requires g c =
     let s = setting_of (g.W.World.state c.args.world.now).truth c.args.globals.now in
     let past : Past NodeRef = record { values = (past_of c.args.globals.now).values; under = c.as_slice.result.now } in
     let whole = meaning_whole s c.args.levels past 0 (call_of c.global_call-call.result) in
-    if_ok c.means-came.result c.means-came.ensures.meaning (λ x h. ap (λ (o : Outcome NodeRef). holes o.content) h ∙ whole)
+    if_ok c.first_means-came.result c.first_means-came.ensures.meaning (λ x h. ap (λ (o : Outcome NodeRef). holes o.content) h ∙ whole)
 
 pub returns-clause-turns : goal.returns-clause-turns
 returns-clause-turns g c =
@@ -35,5 +36,8 @@ returns-clause-turns g c =
     let s = setting_of (g.W.World.state c.args.world.now).truth globals in
     let under = c.as_slice.ensures.value ∙ c.in_ok-under_way.ensures ∙ ap (λ n. n ∷ globals.under_way.now) c.in_ok-name.ensures in
     let call = c.global_call-call.ensures ∙ ap (global_call globals.root c.args.global.now.element) c.nowhere.ensures in
-    evaluated_turns s (past_of globals) (named_of c.args.global.now) c.as_slice.result.now c.args.levels (call_of c.global_call-call.result) (entries_of c.args.memo.now) (entries_of c.means-came.new.memo)
-    c.means-came.result c.at_turn.result under call c.means-came.ensures.keeps c.means-came.ensures.meaning c.at_turn.ensures
+    evaluated_turns s (past_of globals) (named_of c.args.global.now) c.as_slice.result.now c.args.levels (call_of c.global_call-call.result) (entries_of c.args.memo.now) (entries_of c.first_means-came.new.memo)
+    c.first_means-came.result c.at_turn.result under call c.first_means-came.ensures.keeps c.first_means-came.ensures.meaning c.at_turn.ensures
+
+pub returns-clause-sure : goal.returns-clause-sure
+returns-clause-sure g c = on_ok c.at_turn.result c.at_turn.ensures (λ t h. of_turned t c.first_means-came.result h c.first_means-came.ensures.sure)

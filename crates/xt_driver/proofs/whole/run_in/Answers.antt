@@ -9,6 +9,7 @@ use Rattle.xt_driver.specs.Referring.{entries_of}
 use Rattle.xt_driver.proofs.Standing.{if_ok}
 use Rattle.xt_driver.proofs.Turns.{root_here, turn_made, next_turn, turn_held, turn_refused, last_turn}
 use Rattle.xt_driver.proofs.Turning.{remembers_here, turns_here, remembers_next, nothing_yet}
+use Rattle.xt_driver.proofs.Coming.{sure_there}
 use Rattle.xt_driver.proofs.whole.run_in.Goals as goal
 
 pub loop-global-init : goal.loop-global-init
@@ -17,12 +18,18 @@ loop-global-init g c =
     record {
       same = ap (λ vs. run s c.args.levels s.globals (map held_of vs) c.new-told.result.items (root_call s)) c.new-values.ensures.items ∙ ap (λ t. run s c.args.levels s.globals [] t (root_call s)) c.new-told.ensures.items;
       remembers = nothing_yet s (at_turn (map held_of c.new-values.result.items)) c.nothing_remembered-memo.ensures;
+      sure = c.requires;
       truth = refl;
       name = refl;
     }
 
-pub turn-requires : goal.turn-requires
-turn-requires g c =
+pub turn-requires-clause-sure : goal.turn-requires-clause-sure
+turn-requires-clause-sure g c =
+    let inv = c.loop-global.invariant in
+    sure_there (sym inv.truth) inv.sure
+
+pub turn-requires-clause-remembers : goal.turn-requires-clause-remembers
+turn-requires-clause-remembers g c =
     let inv = c.loop-global.invariant in
     remembers_here c.args.root c.args.named.now (entries_of c.loop-global.memo) inv.truth c.as_slice.ensures.value refl inv.remembers
 
@@ -51,6 +58,7 @@ loop-global-preserved g c =
     record {
       same = held ∙ sym next ∙ inv.same;
       remembers = remembers_next s values all (named_of n) memo t.held c.in_ok-refusal.refusal turns.remembers c.in-None.is c.in_ok-refusal.ensures.held;
+      sure = sure_there inv.truth c.in_ok-turned.ensures.sure;
       truth = c.turn.ensures.truth ∙ inv.truth;
       name = c.turn.ensures.name ∙ inv.name;
     }
@@ -79,8 +87,13 @@ returns-in-Some-clause-run g c =
     let refused = turn_refused s levels (named_of n) gs values all told more call t.held c.in_ok-refusal.refusal why made c.in-Some.is c.in_ok-refusal.ensures.held in
     if_ok c.halted.result c.halted.ensures (λ w h. h ∙ refused ∙ sym next ∙ inv.same)
 
-pub means-came-requires : goal.means-came-requires
-means-came-requires g c =
+pub first_means-came-requires-clause-sure : goal.first_means-came-requires-clause-sure
+first_means-came-requires-clause-sure g c =
+    let inv = c.loop-global.invariant in
+    sure_there (sym (c.root_call.ensures.truth ∙ inv.truth)) inv.sure
+
+pub first_means-came-requires-clause-remembers : goal.first_means-came-requires-clause-remembers
+first_means-came-requires-clause-remembers g c =
     let inv = c.loop-global.invariant in
     remembers_here c.args.root c.args.named.now (entries_of c.loop-global.memo) (c.root_call.ensures.truth ∙ inv.truth) c.as_slice-2.ensures.value refl inv.remembers
 
@@ -98,5 +111,5 @@ returns-clause-run g c =
     let call = root_call s in
     let same = c.in_ok-call.ensures.call ∙ ap (λ a. rule_call nowhere None [] 1 root 1 (a (Choice root None AllRules))) inv.truth in
     let here = root_here root named levels (c.root_call.ensures.truth ∙ inv.truth) c.as_slice-2.ensures.value refl same in
-    let came = if_ok c.means-came.result c.means-came.ensures.meaning (λ x h. h ∙ here) in
-    if_ok c.finished.result c.finished.ensures (λ w f. last_turn s levels named i values told call c.means-came.result w (omega arith) came f ∙ inv.same)
+    let came = if_ok c.first_means-came.result c.first_means-came.ensures.meaning (λ x h. h ∙ here) in
+    if_ok c.finished.result c.finished.ensures (λ w f. last_turn s levels named i values told call c.first_means-came.result w (omega arith) came f ∙ inv.same)

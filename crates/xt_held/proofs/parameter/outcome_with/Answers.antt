@@ -6,5 +6,5 @@ use Rattle.xt_held.proofs.parameter.outcome_with.Goals as goal
 
 pub returns-clause-outcome : goal.returns-clause-outcome
 returns-clause-outcome c = λ modules are.
-    subst (λ (parameters : Parameters). Comes modules parameters (modules main_name) (plain_in c.args.source) (outcome_of c.in_ok-outcome.outcome))
-    c.in_ok-before.ensures.given (c.in_ok-outcome.ensures modules are)
+    subst (λ (parameters : Parameters). Comes modules parameters (modules main_name) (plain_in c.args.source) (outcome_of c.in_ok-came.came.outcome))
+    c.in_ok-before.ensures.given (c.in_ok-came.ensures.outcome modules are)

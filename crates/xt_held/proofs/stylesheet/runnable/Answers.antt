@@ -6,6 +6,5 @@ use Rattle.xt_held.proofs.stylesheet.runnable.Goals as goal
 pub returns : goal.returns
 returns c =
     let sheet = sheet_of c.args.sheet in
-    let answers = answers_as c.in-Ok.stylesheet sheet (record { rules = map space_rule_of c.new.result.items }) None
-    (record { truth = c.in-Ok.ensures.truth; globals = c.in-Ok.ensures.globals }) in
+    let answers = answers_as c.in-Ok.stylesheet sheet (record { rules = map space_rule_of c.new.result.items }) None c.in-Ok.ensures in
     (sheet, refl, answers, refl, refl)

@@ -33,6 +33,10 @@ pub returns-in-messages : goal.returns-in-messages
 returns-in-messages c =
     reads_as c.args.word.now (codes "messages") (rest_of c.args.rest) c.args.body.items c.read_alone-in-messages.result refl c.in-messages.is c.read_alone-in-messages.ensures
 
+pub returns-in-stats : goal.returns-in-stats
+returns-in-stats c =
+    reads_as c.args.word.now (codes "stats") (rest_of c.args.rest) c.args.body.items c.read_alone-in-stats.result refl c.in-stats.is c.read_alone-in-stats.ensures
+
 pub returns-in-insert : goal.returns-in-insert
 returns-in-insert c =
     reads_as c.args.word.now (codes "insert") (rest_of c.args.rest) c.args.body.items c.read_insert.result refl c.in-insert.is c.read_insert.ensures
@@ -78,6 +82,7 @@ returns-in_default c =
       not_write = c.in_default.not-write;
       not_param = c.in_default.not-param;
       not_messages = c.in_default.not-messages;
+      not_stats = c.in_default.not-stats;
       not_insert = c.in_default.not-insert;
       not_delete = c.in_default.not-delete;
       not_text = c.in_default.not-text;

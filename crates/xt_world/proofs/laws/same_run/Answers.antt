@@ -14,10 +14,10 @@ use Rattle.xt_world.proofs.Listed.{strangers_at_places, nodes_apart, strangers_a
 use Rattle.xt_world.proofs.laws.same_run.Goals as goal
 
 pub returns : goal.returns
-returns c = λ sheet parameters document numbered.
-    sym (same_run (setting_of sheet parameters (unlabelled document)) (setting_by_numbers sheet parameters document)
-    (settings (λ e. InSource e.place) same_node InModule ref_of same_ref (element_called sheet.units) sheet parameters
+returns c = λ numbers sheet parameters document naming numbered.
+    sym (same_run (setting_of sheet parameters (unlabelled document)) (setting_by_numbers numbers sheet parameters document)
+    (settings (λ e. InSource e.place) same_node InModule ref_of same_ref (element_called numbers) sheet parameters
     (entries_of (unlabelled document)) (entries_of document) (documents_alike document) (documents_copied document)
     (nodes_apart (entries_of (unlabelled document)) (places_apart (unlabelled document))) (all_told document numbered)
-    (strangers_at_places sheet.units (entries_of (unlabelled document))) (strangers_at_numbers sheet.units document)
-    (elements_told sheet.units) (in_source (record { entry = _; other = _; beside = first; named = refl; also_named = refl }))))
+    (strangers_at_places sheet.units (entries_of (unlabelled document))) (strangers_at_numbers numbers sheet.units document)
+    (elements_told numbers sheet.units naming) (in_source (record { entry = _; other = _; beside = first; named = refl; also_named = refl }))))

@@ -31,7 +31,7 @@ returns-clause-ok c =
     let is : with_one c.args.name.now (plain_of c.args.document) (modules_in held.modules.entries) ≡ modules
     = sym (λ i. with_one (name i) (plain_of (same i)) (modules_in (entries i))) in
     let are : AreCompiled modules compiled = subst (λ (ms : Modules). AreCompiled ms compiled) is c.in_ok-tried.ensures.compiled in
-    let outcome = outcome_of c.in-Ok-outcome_of.outcome in
+    let outcome = outcome_of c.in-Ok-outcome_of.came.outcome in
     let source = map-copied plain_of c.as_ref-source.result ∙ ap (option_map plain_of) c.as_ref-source.ensures.value in
     record {
       documents = λ i. with_module (name i) (plain_of (same i))
@@ -39,7 +39,8 @@ returns-clause-ok c =
       made = refl;
       from = record {
         outcome = subst (λ (s : Option Plain). Comes modules (parameters_of held.parameters) (modules main_name) s outcome) source
-            (c.in-Ok-outcome_of.ensures modules (subst (λ (o : Option Compiled). AreCompiled modules o) (sym c.as_ref-compiled.ensures.value) are));
+            (c.in-Ok-outcome_of.ensures.outcome modules (subst (λ (o : Option Compiled). AreCompiled modules o) (sym c.as_ref-compiled.ensures.value) are));
+        fits = c.in-Ok-outcome_of.ensures.fits;
         compiled = are;
         room = c.in-Ok-reserve.ensures.ok;
         others = subst (λ (es : List (String Global × Document ℕ)). AreAllBelow c.args.next.number held.source es) (sym entries)
@@ -53,18 +54,18 @@ returns-clause-kept c =
     let held = c.args.self.now in
     let entries : c.reserve.new.self.entries ≡ held.modules.entries = c.in-Ok-reserve.ensures.entries ∙ c.in_ok-tried.ensures.kept in
     kept_by held _ (λ i. record { source = option_map plain_of held.source; modules = modules_in (entries i); parameters = parameters_of held.parameters })
-    refl refl refl refl entries
+    refl refl refl refl entries refl refl
 
 pub returns-in_default-reserve-clause-kept : goal.returns-in_default-reserve-clause-kept
 returns-in_default-reserve-clause-kept c =
     let held = c.args.self.now in
     let entries : c.reserve.new.self.entries ≡ held.modules.entries = c.reserve.ensures.entries ∙ c.in_ok-tried.ensures.kept in
     kept_by held _ (λ i. record { source = option_map plain_of held.source; modules = modules_in (entries i); parameters = parameters_of held.parameters })
-    refl refl refl refl entries
+    refl refl refl refl entries refl refl
 
 pub returns-in_default-outcome_of-clause-kept : goal.returns-in_default-outcome_of-clause-kept
 returns-in_default-outcome_of-clause-kept c =
     let held = c.args.self.now in
     let entries : c.compiled_with.new.modules.entries ≡ held.modules.entries = c.in_ok-tried.ensures.kept in
     kept_by held _ (λ i. record { source = option_map plain_of held.source; modules = modules_in (entries i); parameters = parameters_of held.parameters })
-    refl refl refl refl entries
+    refl refl refl refl entries refl refl

@@ -21,11 +21,11 @@ returns-clause-ok c =
     let values = with_value c.args.name.now c.args.value.now (parameters_of held.parameters) in
     let source = map-copied plain_of c.as_ref-source.result ∙ ap (option_map plain_of) c.as_ref-source.ensures.value in
     let compiled = subst (λ (compiled : Option Compiled). AreCompiled modules compiled) (sym c.as_ref-compiled.ensures.value) c.requires.compiled in
-    ready_so held c.outcome_with.new.parameters c.args.name.now c.args.value.now tried.name tried.value tried.outcome
+    ready_so held c.outcome_with.new.parameters c.args.name.now c.args.value.now tried.name tried.value tried.came
     c.in_ok-tried.ensures.kept c.in_ok-tried.ensures.name c.in_ok-tried.ensures.value c.requires.compiled c.requires.below
-    (subst (λ (s : Option Plain). Comes modules values (modules main_name) s (outcome_of tried.outcome)) source
+    (subst (λ (s : Option Plain). Comes modules values (modules main_name) s (outcome_of tried.came.outcome)) source
     (c.in_ok-tried.ensures.outcome modules compiled))
-    c.in_ok-tried.ensures.room
+    c.in_ok-tried.ensures.fits c.in_ok-tried.ensures.room
 
 pub returns-clause-kept : goal.returns-clause-kept
 returns-clause-kept c = kept_so c.args.self.now c.outcome_with.new.parameters c.in_ok-tried.ensures.kept

@@ -12,8 +12,9 @@ returns c =
       documents = refl;
       made = refl;
       from = record {
-        outcome = c.in-Ok.ensures modules
+        outcome = c.in-Ok.ensures.outcome modules
             (subst (λ (compiled : Option Compiled). AreCompiled modules compiled) (sym c.as_ref-compiled.ensures.value) c.requires.current.compiled);
+        fits = c.in-Ok.ensures.fits;
         compiled = c.requires.current.compiled;
         room = tt;
         others = all_raised (made_of c.args.self.now) c.args.next.number c.args.self.now c.requires.grows c.requires.current.below;

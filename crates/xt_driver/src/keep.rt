@@ -1,0 +1,93 @@
+// What is kept of calls for later ones.
+ghost use Rattle.std.specs.Prelude.{◌≡◌, ◌<◌, ◌^◌, IfOk, IfSome, IsOk, OnOk};
+ghost use Rattle.spec_meaning.specs.Question.{Question, Answer};
+ghost use Rattle.spec_run.specs.Trail.{IsTrue};
+ghost use Rattle.spec_node.specs.Naming.{same_ref};
+ghost use Rattle.spec_node.specs.declared.node_ref.NodeRef.{NodeRef};
+ghost use Rattle.xt_engine.specs.View.{call_of};
+ghost use Rattle.xt_engine.specs.Advances.{ran_of};
+ghost use Rattle.xt_record.specs.Kept.{kept_with};
+ghost use Rattle.xt_record.specs.View.{kept_in, AsksHold};
+ghost use Rattle.xt_record.specs.Sure.{IsSure};
+ghost use Rattle.xt_driver.specs.Made.{IsMade, MadeHolds};
+
+use crate::drive::Served;
+use crate::lost::Lost;
+use crate::outcome::{Ended, Outcome};
+use std::alloc::Global;
+use std::rc::Rc;
+use xt_engine::{Call, Ran};
+use xt_record::{Found, Record, Reuse};
+use xt_text::Memory;
+
+/// Keeps what the engine made of a call, if it came to its end. Its outcome is given back.
+pub fn keep_ended(
+    alloc: Global,
+    reuse: &mut Reuse<'_>,
+    call: &Call,
+    ended: Ended,
+) -> Result<Box<Outcome>, Memory>
+    requires { IsMade (call_of call.now) ended.ran }
+    ensures outcome { IfOk result (λ o. o ≡ ended.outcome) }
+    ensures sure { OnOk result ((ask : Question NodeRef → Answer NodeRef) → IsSure ask reuse.old → MadeHolds ask ended.ran → IsSure ask reuse.new) }
+{
+    let Ended { outcome, ran } = ended;
+    match ran {
+        None => Ok(outcome),
+        Some(ran) => {
+            keep_run(alloc, reuse, call, ran)?;
+            Ok(outcome)
+        }
+    }
+}
+
+// Keeps what the engine made of a call that came to its end.
+fn keep_run(alloc: Global, reuse: &mut Reuse<'_>, call: &Call, ran: Box<Ran>) -> Result<(), Memory>
+    requires { IsTrue same_ref (kept_with (call_of call.now) (ran_of ran.value)) }
+    ensures { OnOk result ((ask : Question NodeRef → Answer NodeRef) → IsSure ask reuse.old → AsksHold ask (ran_of ran.value).trace → IsSure ask reuse.new) }
+{
+    let call = call.copy(alloc)?;
+    let ran = Box::into_inner(ran);
+    let kept = Record::new(call, ran);
+    let shared = Rc::new(alloc, kept)?;
+    reuse.keep(alloc, shared)
+}
+
+/// Keeps the record that served a call, if this run does not yet. Nothing where the next is to be tried.
+pub fn tried(
+    alloc: Global,
+    reuse: &mut Reuse<'_>,
+    found: Found,
+    served: Result<Served, Memory>,
+) -> Result<Option<Served>, Memory>
+    ensures sure { OnOk result ((ask : Question NodeRef → Answer NodeRef) → IsSure ask reuse.old → AsksHold ask (kept_in found.record.value).trace → IsSure ask reuse.new) }
+    ensures came { OnOk result (IsOk served) }
+    ensures served { IfOk result (λ o. IfSome o (λ s. served ≡ Ok s)) }
+{
+    match served? {
+        Served::As(outcome) => {
+            keep_found(alloc, reuse, found)?;
+            Ok(Some(Served::As(outcome)))
+        }
+        Served::Not(Lost::Nothing) => Ok(None),
+        Served::Not(lost) => Ok(Some(Served::Not(lost))),
+    }
+}
+
+/// From where to look for the next record.
+pub fn next_turn(found: &Found) -> u64
+    ensures same { result ≡ found.now.next }
+    ensures fits { result < 2 ^ 64 }
+{
+    found.next
+}
+
+// Keeps it, if this run does not yet.
+fn keep_found(alloc: Global, reuse: &mut Reuse<'_>, found: Found) -> Result<(), Memory>
+    ensures { OnOk result ((ask : Question NodeRef → Answer NodeRef) → IsSure ask reuse.old → AsksHold ask (kept_in found.record.value).trace → IsSure ask reuse.new) }
+{
+    if found.is_kept {
+        return Ok(());
+    }
+    reuse.keep(alloc, found.record)
+}

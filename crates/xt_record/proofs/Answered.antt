@@ -1,0 +1,37 @@
+-- What is asked, one question after the other.
+use Rattle.std.proofs.Common.{◌≡◌, ℕ, zero, suc, ◌<◌, List, [], ◌∷◌, map, take, length, get_or, subst, arith}
+use Rattle.spec_meaning.specs.Question.{Question, Answer}
+use Rattle.spec_run.specs.Going.{Event, Asked, Saw, Entered, Held}
+use Rattle.spec_node.specs.declared.node_ref.NodeRef.{NodeRef}
+use Rattle.xt_engine.specs.View.{event_of}
+use Rattle.xt_engine.specs.declared.event.Event.{Event as CodeEvent}
+use Rattle.xt_record.specs.View.{AsksHold}
+
+module _ (ask : Question NodeRef → Answer NodeRef) where
+  first_answered : (e : Event NodeRef) (es : List (Event NodeRef)) → AsksHold ask (e ∷ es) → AsksHold ask (e ∷ [])
+  first_answered (Asked q a) es h = (h.0, tt)
+  first_answered (Saw w d l x) es h = tt
+  first_answered (Entered c d) es h = tt
+  first_answered (Held j xs) es h = tt
+
+  others_answered : (e : Event NodeRef) (es : List (Event NodeRef)) → AsksHold ask (e ∷ es) → AsksHold ask es
+  others_answered (Asked q a) es h = h.1
+  others_answered (Saw w d l x) es h = h
+  others_answered (Entered c d) es h = h
+  others_answered (Held j xs) es h = h
+
+  both_answered : (e : Event NodeRef) (es : List (Event NodeRef)) → AsksHold ask (e ∷ []) → AsksHold ask es → AsksHold ask (e ∷ es)
+  both_answered (Asked q a) es k h = (k.0, h)
+  both_answered (Saw w d l x) es k h = h
+  both_answered (Entered c d) es k h = h
+  both_answered (Held j xs) es k h = h
+
+  pub answered_more : (es : List CodeEvent) (i : ℕ) (e : CodeEvent) → i < length es → e ≡ get_or es i e → AsksHold ask (event_of e ∷ [])
+      → AsksHold ask (map event_of (take i es)) → AsksHold ask (map event_of (take (suc i) es))
+  answered_more [] i e lt at k h = absurd (omega arith)
+  answered_more (x ∷ es) zero e lt at k h =
+      let P : CodeEvent → Type 0 = λ y. AsksHold ask (event_of y ∷ []) in subst P at k
+  answered_more (x ∷ es) (suc i) e lt at k h =
+      let before = map event_of (take i es) in
+      both_answered (event_of x) (map event_of (take (suc i) es)) (first_answered (event_of x) before h)
+      (answered_more es i e (omega arith) at k (others_answered (event_of x) before h))

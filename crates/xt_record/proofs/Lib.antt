@@ -1,0 +1,6 @@
+pub mod Lasting
+pub mod Sets
+pub mod Ok
+pub mod Parameters
+pub mod Answered
+pub mod Judging

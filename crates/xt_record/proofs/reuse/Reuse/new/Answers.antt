@@ -1,0 +1,16 @@
+use Rattle.std.proofs.Common.{List, sym, subst}
+use Rattle.std.specs.declared.rc.Rc.{Rc}
+use Rattle.std.specs.declared.alloc.Global.{Global}
+use Rattle.xt_record.specs.Sure.{AllHold, AllJudged}
+use Rattle.xt_record.specs.declared.record.Record.{Record}
+use Rattle.xt_record.specs.declared.reuse.Verdict.{Verdict}
+use Rattle.xt_record.proofs.Judging.{unasked}
+use Rattle.xt_record.proofs.reuse.Reuse.new.Goals as goal
+
+pub returns : goal.returns
+returns c = λ ask.
+    let rs = c.args.last.now.records.items in
+    record {
+      kept = subst (λ (kept : List (Rc Record Global)). AllHold ask kept) (sym c.new.ensures) tt;
+      judged = subst (λ (vs : List Verdict). AllJudged ask vs rs) (sym (c.in_ok-vec.ensures.items_if_clones_equal (λ y e. e))) (unasked ask c.count.result rs);
+    }

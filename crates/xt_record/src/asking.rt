@@ -1,0 +1,69 @@
+// Whether what was asked has its answers.
+ghost use Rattle.std.specs.Prelude.{◌≡◌, ◌∷◌, [], true, IfOk, map};
+ghost use Rattle.xt_questions.specs.View.{answer_of, question_of};
+ghost use Rattle.xt_engine.specs.View.{event_of};
+ghost use Rattle.xt_record.specs.View.{AsksHold};
+
+use crate::Steps;
+use std::alloc::Global;
+use xt_engine::Event;
+use xt_questions::{Answer, Question, World};
+use xt_text::Memory;
+
+/// Where it says so, each question has its answer: they are asked up to the first that has another, and counted.
+pub(crate) fn asks_hold<W: World>(
+    alloc: Global,
+    events: &[Event],
+    world: &mut W,
+    steps: &mut Steps,
+) -> Result<bool, Memory>
+    ensures holds { IfOk result (λ b. b ≡ true → AsksHold (W.state world.old).truth (map event_of events.now)) }
+    ensures truth { (W.state world.new).truth ≡ (W.state world.old).truth }
+    ensures name { W.name world.new ≡ W.name world.old }
+{
+    for event in events {
+        if !asks_so(alloc, event, world, steps)? {
+            return Ok(false);
+        }
+    }
+    Ok(true)
+}
+
+// Where it says so, the question has its answer, if it is one.
+fn asks_so<W: World>(
+    alloc: Global,
+    event: &Event,
+    world: &mut W,
+    steps: &mut Steps,
+) -> Result<bool, Memory>
+    ensures holds { IfOk result (λ b. b ≡ true → AsksHold (W.state world.old).truth (event_of event.now ∷ [])) }
+    ensures truth { (W.state world.new).truth ≡ (W.state world.old).truth }
+    ensures name { W.name world.new ≡ W.name world.old }
+{
+    match event {
+        Event::Asked(question, answer) => {
+            steps.asked = steps.asked.saturating_add(1);
+            is_answer(alloc, question, answer, world)
+        }
+        Event::Saw(_, _, _, _) => Ok(true),
+        Event::Entered(_, _) => Ok(true),
+        Event::Held(_, _) => Ok(true),
+    }
+}
+
+// Where it says so, the question has this answer.
+fn is_answer<W: World>(
+    alloc: Global,
+    question: &Question,
+    answer: &Answer,
+    world: &mut W,
+) -> Result<bool, Memory>
+    ensures holds { IfOk result (λ b. b ≡ true → (W.state world.old).truth (question_of question.now) ≡ answer_of answer.now) }
+    ensures truth { (W.state world.new).truth ≡ (W.state world.old).truth }
+    ensures name { W.name world.new ≡ W.name world.old }
+{
+    let now = world.ask(question)?;
+    let same = now.same(alloc, answer);
+    drop(now);
+    same
+}

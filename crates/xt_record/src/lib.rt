@@ -1,0 +1,29 @@
+//! Records: what is kept of each instantiation that came to its end, and which of what was kept may serve a call.
+//!
+//! A record never goes stale, since all on which it depends is among what it did (`specs/View.antt`); only what it read
+//! may no longer hold. `Reuse` has what the last finished run kept, and what this run keeps: it finds what may serve a
+//! call, and asks each question of the last run at most once.
+//!
+//! ```text
+//! let mut reuse = Reuse::new(alloc, &last)?;
+//! let found = reuse.find(alloc, &mut world, &call, below, 0)?;     // a record whose questions have their answers
+//! reuse.keep(alloc, record)?;                                      // for calls after this one, and for the next run
+//! let (kept, steps) = reuse.ended();
+//! ```
+#![tactic(auto)]
+
+mod asking;
+mod calls;
+mod keeping;
+mod matching;
+mod pool;
+mod record;
+mod reuse;
+mod same;
+
+pub use calls::same_call;
+pub use keeping::a_record_lasts;
+pub use pool::Pool;
+pub use record::Record;
+pub use reuse::{Found, Reuse, Steps};
+pub use same::{same_rule_if, same_streams, same_value};

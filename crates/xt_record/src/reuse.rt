@@ -1,0 +1,288 @@
+// What a run may reuse.
+ghost use Rattle.std.specs.Prelude.{◌≡◌, ◌<◌, true, length, get_or, IfOk, IfSome, OnOk};
+ghost use Rattle.spec_meaning.specs.Question.{Question, Answer};
+ghost use Rattle.spec_node.specs.declared.node_ref.NodeRef.{NodeRef};
+ghost use Rattle.xt_engine.specs.View.{call_of};
+ghost use Rattle.xt_record.specs.View.{AsksHold, MayServe, kept_in};
+ghost use Rattle.xt_record.specs.Sure.{IsSure};
+ghost use Rattle.xt_record.specs.declared.reuse.Verdict.TheVariants as Verdict;
+
+use crate::asking::asks_hold;
+use crate::{Pool, Record};
+use std::alloc::Global;
+use std::rc::Rc;
+use xt_engine::Call;
+use xt_questions::World;
+use xt_text::Memory;
+
+/// What a run cost, as far as it is counted.
+#[derive(Clone, Copy, Debug, PartialEq, Eq)]
+pub struct Steps {
+    /// The instantiations that were run.
+    pub ran: u64,
+    /// The questions of records that were asked again.
+    pub asked: u64,
+}
+
+// Where one that was found says to go on: after those that this run kept, the latest first, from here on those of the last.
+const LAST: u64 = 1 << 62;
+
+/// What is known of the questions of a record.
+#[derive(Clone, Copy, Debug, PartialEq, Eq)]
+pub(crate) enum Verdict {
+    /// They were not asked yet.
+    Unasked,
+    /// Each has the answer that it had.
+    Holds,
+    /// One has another answer.
+    Fails,
+}
+
+/// A record that may serve a call.
+#[derive(Drop)]
+pub struct Found {
+    pub record: Rc<Record>,
+    /// From where to look for the next.
+    pub next: u64,
+    /// Whether this run keeps it already.
+    pub is_kept: bool,
+}
+
+/// What a run may reuse: the records of the last finished run, and those that it keeps itself. It finds what may serve
+/// a call, and counts what it does.
+#[derive(Drop)]
+pub struct Reuse<'a> {
+    last: &'a Pool,
+    // One for each record of the last run.
+    verdicts: Vec<Verdict>,
+    kept: Pool,
+    steps: Steps,
+}
+
+impl<'a> Reuse<'a> {
+    /// Nothing is kept yet and nothing counted, and no question of the last run was asked.
+    pub fn new(alloc: Global, last: &'a Pool) -> Result<Reuse<'a>, Memory>
+        ensures { IfOk result (λ reuse. (ask : Question NodeRef → Answer NodeRef) → IsSure ask reuse) }
+    {
+        Ok(Reuse {
+            last,
+            verdicts: vec![in alloc; Verdict::Unasked; last.count()]?,
+            kept: Pool::new(alloc),
+            steps: Steps { ran: 0, asked: 0 },
+        })
+    }
+
+    /// A record that may serve the call, with so many levels below the call's own: among those that this run kept, the
+    /// latest first, and then among those of the last. From 0 on, or from where one that was found says; from there on
+    /// nothing is found twice. Where the questions of a record were not asked in this run, they are asked up to the
+    /// first that has another answer, and counted.
+    pub fn find<W: World>(
+        &mut self,
+        alloc: Global,
+        world: &mut W,
+        call: &Call,
+        below: u64,
+        from: u64,
+    ) -> Result<Option<Found>, Memory>
+        requires sure { IsSure (W.state world.now).truth self.now }
+        ensures sure { OnOk result (IsSure (W.state world.old).truth self.new) }
+        ensures serves { IfOk result (λ o. IfSome o (λ f. MayServe (W.state world.old).truth (call_of call.now) below (kept_in f.record.value))) }
+        ensures next { IfOk result (λ o. IfSome o (λ f. from < f.next)) }
+        ensures truth { (W.state world.new).truth ≡ (W.state world.old).truth }
+        ensures name { W.name world.new ≡ W.name world.old }
+    {
+        if let Some(found) = self.find_kept(alloc, call, below, from)? {
+            return Ok(Some(found));
+        }
+        self.find_last(alloc, world, call, below, from)
+    }
+
+    // One that this run kept.
+    fn find_kept(
+        &self,
+        alloc: Global,
+        call: &Call,
+        below: u64,
+        from: u64,
+    ) -> Result<Option<Found>, Memory>
+        ensures serves { (ask : Question NodeRef → Answer NodeRef) → IsSure ask self.now → IfOk result (λ o. IfSome o (λ f. MayServe ask (call_of call.now) below (kept_in f.record.value))) }
+        ensures next { IfOk result (λ o. IfSome o (λ f. from < f.next)) }
+    {
+        let turns = self.kept.turns_of(call);
+        let left = turns.len().min(LAST.saturating_sub(from) as usize);
+        for later in 0..left {
+            let place = left - 1 - later;
+            let next = LAST - place as u64;
+            if let Some(found) = self.of_kept(alloc, turns[place], call, below, next)? {
+                return Ok(Some(found));
+            }
+        }
+        Ok(None)
+    }
+
+    // The one at this turn of those that this run kept, where it may serve the call.
+    fn of_kept(
+        &self,
+        alloc: Global,
+        turn: usize,
+        call: &Call,
+        below: u64,
+        next: u64,
+    ) -> Result<Option<Found>, Memory>
+        ensures serves { (ask : Question NodeRef → Answer NodeRef) → IsSure ask self.now → IfOk result (λ o. IfSome o (λ f. MayServe ask (call_of call.now) below (kept_in f.record.value))) }
+        ensures next { IfOk result (λ o. IfSome o (λ f. f.next ≡ next)) }
+    {
+        let suiting = self.kept.suiting(alloc, turn, call, below)?;
+        match suiting {
+            None => Ok(None),
+            Some(kept) => Ok(Some(Found {
+                record: kept,
+                next,
+                is_kept: true,
+            })),
+        }
+    }
+
+    // One of the last run whose questions have their answers.
+    fn find_last<W: World>(
+        &mut self,
+        alloc: Global,
+        world: &mut W,
+        call: &Call,
+        below: u64,
+        from: u64,
+    ) -> Result<Option<Found>, Memory>
+        requires sure { IsSure (W.state world.now).truth self.now }
+        ensures sure { OnOk result (IsSure (W.state world.old).truth self.new) }
+        ensures serves { IfOk result (λ o. IfSome o (λ f. MayServe (W.state world.old).truth (call_of call.now) below (kept_in f.record.value))) }
+        ensures next { IfOk result (λ o. IfSome o (λ f. from < f.next)) }
+        ensures truth { (W.state world.new).truth ≡ (W.state world.old).truth }
+        ensures name { W.name world.new ≡ W.name world.old }
+    {
+        let turns = self.last.turns_of(call);
+        for place in from.saturating_sub(LAST) as usize..turns.len() {
+            if let Some(record) = self.of_last(alloc, world, turns[place], call, below)? {
+                return Ok(Some(Found {
+                    record,
+                    next: LAST + place as u64 + 1,
+                    is_kept: false,
+                }));
+            }
+        }
+        Ok(None)
+    }
+
+    // The record of the last run at this turn, where it may serve the call.
+    fn of_last<W: World>(
+        &mut self,
+        alloc: Global,
+        world: &mut W,
+        turn: usize,
+        call: &Call,
+        below: u64,
+    ) -> Result<Option<Rc<Record>>, Memory>
+        requires sure { IsSure (W.state world.now).truth self.now }
+        ensures sure { OnOk result (IsSure (W.state world.old).truth self.new) }
+        ensures serves { IfOk result (λ o. IfSome o (λ r. MayServe (W.state world.old).truth (call_of call.now) below (kept_in r.value))) }
+        ensures last { self.new.last ≡ self.old.last }
+        ensures truth { (W.state world.new).truth ≡ (W.state world.old).truth }
+        ensures name { W.name world.new ≡ W.name world.old }
+    {
+        let Some(record) = self.last.suiting(alloc, turn, call, below)? else {
+            return Ok(None);
+        };
+        if !self.holds(alloc, world, turn, &record)? {
+            return Ok(None);
+        }
+        Ok(Some(record))
+    }
+
+    // Where it says so, the questions of this record of the last run have their answers. They are asked where they were
+    // not yet.
+    fn holds<W: World>(
+        &mut self,
+        alloc: Global,
+        world: &mut W,
+        turn: usize,
+        kept: &Rc<Record>,
+    ) -> Result<bool, Memory>
+        requires sure { IsSure (W.state world.now).truth self.now }
+        requires within { turn < length self.now.last.now.records.items }
+        requires at { kept.now.value ≡ (get_or self.now.last.now.records.items turn kept.now).value }
+        ensures sure { OnOk result (IsSure (W.state world.old).truth self.new) }
+        ensures holds { IfOk result (λ b. b ≡ true → AsksHold (W.state world.old).truth (kept_in kept.now.value).trace) }
+        ensures last { self.new.last ≡ self.old.last }
+        ensures truth { (W.state world.new).truth ≡ (W.state world.old).truth }
+        ensures name { W.name world.new ≡ W.name world.old }
+    {
+        if turn >= self.verdicts.len() {
+            return Ok(false);
+        }
+        let verdict = self.verdicts[turn];
+        match verdict {
+            Verdict::Holds => Ok(true),
+            Verdict::Fails => Ok(false),
+            Verdict::Unasked => self.judge(alloc, world, turn, kept),
+        }
+    }
+
+    // Asks the questions of this record of the last run, and keeps what comes of it.
+    fn judge<W: World>(
+        &mut self,
+        alloc: Global,
+        world: &mut W,
+        turn: usize,
+        kept: &Rc<Record>,
+    ) -> Result<bool, Memory>
+        requires sure { IsSure (W.state world.now).truth self.now }
+        requires within { turn < length self.now.last.now.records.items }
+        requires at { kept.now.value ≡ (get_or self.now.last.now.records.items turn kept.now).value }
+        requires judged { turn < length self.now.verdicts.items }
+        ensures sure { OnOk result (IsSure (W.state world.old).truth self.new) }
+        ensures holds { IfOk result (λ b. b ≡ true → AsksHold (W.state world.old).truth (kept_in kept.now.value).trace) }
+        ensures last { self.new.last ≡ self.old.last }
+        ensures truth { (W.state world.new).truth ≡ (W.state world.old).truth }
+        ensures name { W.name world.new ≡ W.name world.old }
+    {
+        let events = kept.ran.events.as_slice();
+        let holds = asks_hold(alloc, events, world, &mut self.steps)?;
+        self.verdicts[turn] = verdict_of(holds);
+        Ok(holds)
+    }
+
+    /// Keeps a record whose questions have their answers, for calls after this one and for the next run.
+    pub fn keep(&mut self, alloc: Global, kept: Rc<Record>) -> Result<(), Memory>
+        ensures { OnOk result ((ask : Question NodeRef → Answer NodeRef) → IsSure ask self.old → AsksHold ask (kept_in kept.value).trace → IsSure ask self.new) }
+    {
+        self.kept.add(alloc, kept)
+    }
+
+    /// Counts an instantiation that is run.
+    pub fn count_run(&mut self)
+        ensures { (ask : Question NodeRef → Answer NodeRef) → IsSure ask self.old → IsSure ask self.new }
+    {
+        self.steps.ran = self.steps.ran.saturating_add(1);
+    }
+
+    /// What the run kept, and what it cost.
+    pub fn ended(self) -> (Pool, Steps) {
+        let Reuse {
+            last,
+            verdicts,
+            kept,
+            steps,
+        } = self;
+        drop(verdicts);
+        (kept, steps)
+    }
+}
+
+fn verdict_of(holds: bool) -> Verdict
+    ensures { result ≡ Verdict.Holds → holds ≡ true }
+{
+    if holds {
+        Verdict::Holds
+    } else {
+        Verdict::Fails
+    }
+}
