@@ -215,7 +215,7 @@ class Fuzzing:
     # ---- What is asked
 
     def requests(self, documents):
-        asked = [b'dump ' + document for document in documents] + [b'show', b'write', b'messages']
+        asked = [b'dump ' + document for document in documents] + [b'show', b'write', b'messages', b'stats']
         return [Command(line, []) for line in asked]
 
     def with_requests(self, commands):

@@ -26,7 +26,7 @@ FORMS = {word: re.compile(b' '.join([word, *parts]) + rest, re.S) for word, part
     (b'insert', [WORD, PATH], b''), (b'delete', [WORD, PATH], b''), (b'text', [WORD, PATH], REST),
     (b'attr', [WORD, PATH, WORD], REST), (b'unattr', [WORD, PATH, WORD], b''), (b'rename', [WORD, PATH, WORD], b''),
     (b'move', [WORD, PATH, PATH], b''), (b'param', [WORD], REST), (b'show', [], b''), (b'write', [], b''),
-    (b'messages', [], b''), (b'dump', [WORD], b''), (b'quit', [], b'(?!)')]}
+    (b'messages', [], b''), (b'stats', [], b''), (b'dump', [WORD], b''), (b'quit', [], b'(?!)')]}
 
 # The numbers by which each command may be refused, but for 1, which any may be, and 2 to 4, which its line decides.
 OF_A_BODY = {8, 9, 10, 11, 12, 14}
@@ -34,8 +34,8 @@ NUMBERS = {
     b'source': OF_A_BODY, b'module': OF_A_BODY, b'drop': {5}, b'insert': {5, 6, 7} | OF_A_BODY, b'delete': {5, 6, 7, 9},
     b'text': {5, 6, 7, 8}, b'attr': {5, 6, 7, 8, 10, 14}, b'unattr': {5, 6, 7, 10, 14}, b'rename': {5, 6, 7, 10},
     b'move': {5, 6, 7, 9, 10, 11, 12, 14, 15}, b'param': {8, 10}, b'dump': {5}, b'show': set(), b'write': set(),
-    b'messages': set()}
-ASKS = {b'show', b'write', b'messages', b'dump'}
+    b'messages': set(), b'stats': set()}
+ASKS = {b'show', b'write', b'messages', b'stats', b'dump'}
 WITH_BODY = (b'source', b'module', b'insert')
 
 REFUSAL = rb'(?:S(?:0[1-9]|1[0-9]|2[0-6])|D(?:0[1-4]|0[6-9]|1[01])) (?:-|[^ \n]+?(?:/[1-9][0-9]{0,17})+)'
@@ -43,6 +43,7 @@ NO = re.compile(rb'no ([1-9][0-9]?)\n')
 OK = re.compile(rb'ok (?:done|refused ' + REFUSAL + rb')\n')
 REFUSED = re.compile(rb'refused ' + REFUSAL + rb'\n')
 TEXT = re.compile(rb'text (0|[1-9][0-9]*)\n')
+COUNTS = re.compile(rb'ran (0|[1-9][0-9]*) asked (0|[1-9][0-9]*)\n')
 
 # A character that XML does not have, and what stands unescaped or as no escape in a line that was written.
 NO_XML = re.compile('[^\t\n\r\x20-\uD7FF\uE000-\uFFFD\U00010000-\U0010FFFF]')
@@ -151,7 +152,7 @@ def cut(written):
             break
         if text:
             end = line_end + int(text[1]) + 1
-        elif written.startswith((b'ok ', b'no ', b'refused '), at):
+        elif written.startswith((b'ok ', b'no ', b'refused ', b'ran '), at):
             end = line_end
         else:
             end = line_end if written[at:line_end] == b'.\n' else written.find(b'\n.\n', at) + 3
@@ -253,6 +254,8 @@ def form_fault(command, reply):
         return None if OK.fullmatch(reply) else f'the reply {reply[:80]!r} is none to a change'
     if command.word in (b'show', b'write') and REFUSED.fullmatch(reply):
         return None
+    if command.word == b'stats':
+        return None if COUNTS.fullmatch(reply) else f'the reply {reply[:80]!r} tells no counts'
     if command.word == b'write' and TEXT.match(reply):
         return None if reply.endswith(b'\n') and is_utf8(reply) else 'the text is no UTF-8, or no line feed ends it'
     return shown_fault(command, reply) if reply == b'.\n' or reply.endswith(b'\n.\n') else f'no form: {reply[:80]!r}'
@@ -306,7 +309,7 @@ class Seen:
     def change(self, command, reply):
         """Takes in an accepted change."""
         self.outcome = None if reply == b'ok done\n' else reply.removeprefix(b'ok ')
-        for asked in (b'show', b'write', b'messages', b'dump ' + (command.document or b'')):
+        for asked in (b'show', b'write', b'messages', b'stats', b'dump ' + (command.document or b'')):
             self.answers.pop(asked, None)
         if command.word == b'param':
             self.parameters.append(command)
