@@ -3,6 +3,7 @@ one; and of the cases that tools/failing-cases makes. What needs a C compiler, o
 skipped where there is none."""
 import shutil
 import subprocess
+import sys
 import tempfile
 import unittest
 from contextlib import redirect_stdout
@@ -126,9 +127,15 @@ WRITTEN = b'ok done\n)a\n.\nok done\n)b\n.\nok done\n)b\n.\n'
 
 failing_cases, fail_io, refuse_memory = tool('failing-cases'), tool('fail-io'), tool('refuse-memory')
 
-has_compiler = unittest.skipUnless(shutil.which('cc'), 'no C compiler `cc`')
-has_program = unittest.skipUnless(shutil.which('cc') and PROGRAM.is_file() and is_current(),
-                                  'the proved program is not built and current, or there is no `cc`')
+NO_COMPILER = None if shutil.which('cc') else 'there is no C compiler `cc`'
+NO_PROGRAM = NO_COMPILER or (None if PROGRAM.is_file() and is_current() else 'the proved program is not built and current')
+
+
+def setUpModule():
+    """Says what is skipped, since `-q` does not."""
+    for skipped, why in ('the tests on a small program in C', NO_COMPILER), ('those on the proved program', NO_PROGRAM):
+        if why:
+            print(f'test_hostile: {skipped} are skipped: {why}', file=sys.stderr)
 
 
 class Definitions(unittest.TestCase):
@@ -183,33 +190,38 @@ class StandIn(Folder):
         return path
 
 
-@has_compiler
+@unittest.skipIf(NO_COMPILER, NO_COMPILER)
 class FailIo(StandIn):
-    def counts(self, fault=0):
-        bench = fail_io.Bench(self.program(fault), compiled('failing.c', self.folder), self.folder, Script(SESSION, WRITTEN))
+    def bench(self, fault=0):
+        return fail_io.Bench(self.program(fault), compiled('failing.c', self.folder), self.folder, Script(SESSION, WRITTEN))
+
+    def counts(self, bench, *turns):
         with redirect_stdout(StringIO()):
-            for most in (0, 5):
-                bench.failing_reads(most)
-                bench.failing_writes(most)
-            bench.failing_at_commands()
+            for turn, *most in turns:
+                turn(*most)
         return bench.tried, bench.wrong
 
     def test_one_that_is_right(self):
-        reads = [2, -(-len(SESSION) // 5) + 1]
-        writes = [6, sum(-(-len(reply) // 5) for reply in Script(SESSION, WRITTEN).replies)]
-        self.assertEqual(self.counts(), (sum(reads) + 4 + sum(writes) + 2 + 6, 0))
+        bench = self.bench()
+        reads = 2 + -(-len(SESSION) // 9) + 1
+        writes = 6 + sum(-(-len(reply) // 5) for reply in bench.script.replies)
+        turns = [(bench.failing_reads, 0), (bench.failing_reads, 9), (bench.failing_writes, 0), (bench.failing_writes, 5)]
+        self.assertEqual(self.counts(bench, *turns, (bench.failing_at_commands,)), (reads + 4 + writes + 2 + 6, 0))
 
     def test_one_that_reads_before_it_writes(self):
-        self.assertGreater(self.counts(1)[1], 0)
+        bench = self.bench(1)
+        self.assertGreater(self.counts(bench, (bench.failing_at_commands,))[1], 0)
 
     def test_one_that_goes_on_behind_a_failed_write(self):
-        self.assertGreater(self.counts(2)[1], 0)
+        bench = self.bench(2)
+        self.assertEqual(self.counts(bench, (bench.failing_writes, 0)), (7, 6))
 
     def test_one_that_takes_a_failed_read_for_the_end(self):
-        self.assertGreater(self.counts(7)[1], 0)
+        bench = self.bench(7)
+        self.assertEqual(self.counts(bench, (bench.failing_reads, 0)), (4, 2))
 
 
-@has_compiler
+@unittest.skipIf(NO_COMPILER, NO_COMPILER)
 class RefuseMemory(StandIn):
     def counts(self, fault=0):
         script = refuse_memory.Script(self.program(fault), compiled('refusing.c', self.folder), self.folder, SESSION)
@@ -238,7 +250,7 @@ class RefuseMemory(StandIn):
         self.assertEqual(list(refuse_memory.numbers(7, 5)), [1, 2, 3, 4, 5, 6, 7, 8])
 
 
-@has_program
+@unittest.skipIf(NO_PROGRAM, NO_PROGRAM)
 class Program(unittest.TestCase):
     """The proved program, in whole pieces alone, which takes a second."""
 
