@@ -29,7 +29,7 @@ def bytes_of(line):
 
 
 def stored_sessions():
-    """The sessions of the examples and of the cases, as bytes, but those over a tenth of a MiB."""
+    """The sessions of the examples and of the cases, each once, as bytes, but those over a tenth of a MiB."""
     stored = [path.read_bytes() for path in sorted((TOP / 'examples').glob('**/*.session'))]
     inside = False
     for line in (TOP / 'crates' / 'session_cases' / 'stdin').read_text(encoding='utf-8').split('\n'):
@@ -38,7 +38,7 @@ def stored_sessions():
         inside = line.startswith('==') or inside and not line.startswith('#')
         if inside and not line.startswith('=='):
             stored[-1] += bytes_of(line)
-    return [data for data in stored if 0 < len(data) < MEBIBYTE // 10]
+    return [data for data in dict.fromkeys(stored) if 0 < len(data) < MEBIBYTE // 10]
 
 
 def paths_in(body):
