@@ -226,7 +226,7 @@ class RefuseMemory(StandIn):
     def counts(self, fault=0):
         script = refuse_memory.Script(self.program(fault), compiled('refusing.c', self.folder), self.folder, SESSION)
         with redirect_stdout(StringIO()):
-            return refuse_memory.tried('a session', script, levels=0)
+            return refuse_memory.tried('a session', script, calls=0)
 
     def test_one_that_is_right(self):
         # One request at the start, and one for each line of a body.
