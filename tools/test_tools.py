@@ -17,7 +17,9 @@ from importlib.util import module_from_spec, spec_from_loader
 from io import StringIO
 from pathlib import Path
 from unittest import mock
+from xml.etree import ElementTree
 
+from lib import records
 from lib.crates import TOP, below, copy_repository, dependencies, name_of
 from lib.picture import crates_picture, drawn_crates, heights, reduced
 from lib.program import NOT_BUILT
@@ -104,6 +106,14 @@ class Pictures(unittest.TestCase):
         for name in drawn_crates():
             self.assertEqual(picture.count(f'>{name}</text>'), 1)
         self.assertLess(len(picture), 60_000)
+
+    def test_each_record_is_run_or_kept(self):
+        for edit in records.EDITS:
+            self.assertLessEqual(edit.anew, {records.ROOT, *edit.items})
+        anew = sum(len(edit.anew) for edit in records.EDITS)
+        ElementTree.fromstring(records.records_picture())
+        # One box more tells what the colour means.
+        self.assertEqual(records.records_picture().count('<rect class="anew"'), anew + 1)
 
 
 class IsCurrent(Folder):

@@ -2,6 +2,7 @@
 page shows then."""
 import http.client
 import json
+import re
 import subprocess
 from contextlib import contextmanager
 from urllib.parse import urlsplit
@@ -12,7 +13,12 @@ from lib.crates import TOP
 EXAMPLES = TOP / 'examples'
 IS_LOADED = "document.readyState === 'complete' && document.querySelector('#log li') !== null"
 RESULT = "document.getElementById('markup').textContent"
-REPLY = "document.querySelector('#log li').children[1].textContent"
+REPLY = "document.querySelector('#log .reply').textContent"
+COST = "[...document.querySelector('#log li').querySelectorAll('.took, .counts')].map(cell => cell.textContent).join(' ')"
+FRAME = "document.getElementById('look').contentDocument"
+
+# Markup that would run a script, if a page took it for its own. `taken` is what tells.
+HOSTILE = '<img src="x" onerror="top.taken = true"/><script>top.taken = true</script>'
 
 # Whether the trees of the page are those of the documents that the session holds.
 IS_AS_HELD = """ask('open').then(answer => {
@@ -127,6 +133,9 @@ def edit_differences(walk):
     """Edits of the source by keys, and by clicks."""
     walk.replace('source', '/1/4/2/1', 0, '12')
     yield from walk.result_differences('a text', 'ok done', '<ul><li id="b1">Sky</li><li id="b2">Sea</li></ul>')
+    cost = walk.browser.value(COST)
+    if not re.fullmatch(r'\d+\.\d ms ran \d+ asked \d+', cost):
+        yield f'examples/browser does not tell what an edit has cost, but {cost!r}'
     walk.browser.value(f"select({node('source', '/1/4')})")
     walk.press('b')
     walk.type('<book id="b3"><title>Sand</title><price>7</price></book>')
@@ -158,6 +167,28 @@ def refusal_differences(walk):
     walk.press('Escape')
 
 
+def text_differences(walk):
+    """A text that is markup by itself stays a text, on the page and in the result."""
+    walk.replace('source', '/1/2/1/1', 0, HOSTILE)
+    yield from walk.differences('a text of markup', images=('document.images.length', 0), text=(
+        "document.querySelector('#markup .inner .inner').textContent", '<li id="b1">&lt;img src="x" onerror="top.taken = '
+        'true"/&gt;&lt;script&gt;top.taken = true&lt;/script&gt;!</li>'))
+    yield from walk.differences('a text of markup', script=('window.taken', None))
+
+
+def frame_differences(walk):
+    """A result of HTML is shown as it looks, and no script runs in it."""
+    heading = f"{FRAME}?.querySelector('h1')?.innerText"
+    walk.browser.wait_for(f'{heading} !== undefined')
+    walk.replace('source', '/1/6', 2, 'Earth')
+    walk.browser.wait_for(f"{heading} === 'Earth'")
+    walk.browser.value(f"select({node('main', '/2/16/2/4/2')})")
+    walk.press('b')
+    walk.type(HOSTILE)
+    walk.browser.wait_for(f"{FRAME}?.querySelector('script') && {FRAME}.readyState === 'complete'")
+    yield from walk.differences('a script in the result', script=('window.taken', None))
+
+
 def page_differences(program):
     """What the page does otherwise than it should in this browser."""
     with Browser(program) as browser:
@@ -165,13 +196,11 @@ def page_differences(program):
             walk = Walk(browser, address)
             yield from edit_differences(walk)
             yield from refusal_differences(walk)
+            yield from text_differences(walk)
             yield from walk.differences('all edits', tree=(IS_AS_HELD, True))
         with previewed('build/site.xsl', 'build/site.xml', 'page=soil') as address:
             walk = Walk(browser, address)
-            heading = "document.getElementById('look').contentDocument.querySelector('h1')?.innerText"
-            browser.wait_for(f'{heading} !== undefined')
-            walk.replace('source', '/1/6', 2, 'Earth')
-            browser.wait_for(f"{heading} === 'Earth'")
+            yield from frame_differences(walk)
             walk.replace('text.xsl', '/2/2', 1, 'p[')
             yield from walk.note_differences('a fault in a module', 'text.xsl', '/2/2', 'S11')
 
