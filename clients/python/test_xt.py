@@ -508,7 +508,10 @@ class Sessions(Folder):
     def test_counts(self):
         with xt.Session() as session:
             self.assertEqual(session.stats(), (0, 0))
-        self.assertGreater(self.session().stats().ran, 0)
+        session = self.session()
+        self.assertGreater(session.stats().ran, 0)
+        with self.assertRaises(ValueError):
+            session.outcome(session.ask('stats'))
 
     def test_a_stylesheet_of_files(self):
         session = self.session()

@@ -865,6 +865,8 @@ class Session:
         """What the reply to a change comes to: None, or the Refused; NotTaken is raised."""
         if reply.line.startswith('no '):
             raise not_taken(reply)
+        if not reply.line.startswith('ok '):
+            raise ValueError(f'this is no reply to a change: {reply.line!r}')
         self.refusal = None if reply.line == 'ok done' else self._refused(*reply.line.split(' ')[2:])
         return self.refusal
 
