@@ -14,7 +14,7 @@ EXAMPLES = TOP / 'examples'
 IS_LOADED = "document.readyState === 'complete' && document.querySelector('#log li') !== null"
 RESULT = "document.getElementById('markup').textContent"
 REPLY = "document.querySelector('#log .reply').textContent"
-COST = "[...document.querySelector('#log li').querySelectorAll('.took, .counts')].map(cell => cell.textContent).join(' ')"
+COST = "document.querySelector('#log .took').textContent + ' ' + document.querySelector('#log .counts').textContent"
 FRAME = "document.getElementById('look').contentDocument"
 
 # Markup that would run a script, if a page took it for its own. `taken` is what tells.
@@ -170,10 +170,10 @@ def refusal_differences(walk):
 def text_differences(walk):
     """A text that is markup by itself stays a text, on the page and in the result."""
     walk.replace('source', '/1/2/1/1', 0, HOSTILE)
-    yield from walk.differences('a text of markup', images=('document.images.length', 0), text=(
-        "document.querySelector('#markup .inner .inner').textContent", '<li id="b1">&lt;img src="x" onerror="top.taken = '
-        'true"/&gt;&lt;script&gt;top.taken = true&lt;/script&gt;!</li>'))
-    yield from walk.differences('a text of markup', script=('window.taken', None))
+    written = HOSTILE.replace('<', '&lt;').replace('>', '&gt;')
+    item = "document.querySelector('#markup .inner .inner').textContent"
+    yield from walk.differences('a text of markup', images=('document.images.length', 0), script=('window.taken', None),
+                                result=(item, f'<li id="b1">{written}!</li>'))
 
 
 def frame_differences(walk):

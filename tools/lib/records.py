@@ -58,11 +58,17 @@ class Edit(NamedTuple):
 
 EDITS = [
     Edit('text source /1/2/1 date', None, ['1', '2', '3'], {'2'},
-         ['Item 2 has another text, which nothing', 'but its own template read: that is run', 'again, and the list around it is kept.']),
+         ['Item 2 has another text, which nothing',
+          'but its own template read: that is run',
+          'again, and the list around it is kept.']),
     Edit('insert source /1/1', ['(item', '-lime', ')item'], ['new', '1', '2', '3'], {ROOT, 'new'},
-         ['The list has an item more. The template', 'at the root read the list: it is run', 'again, and three of its items are kept.']),
+         ['The list has an item more. The template',
+          'at the root read the list: it is run',
+          'again, and three of its items are kept.']),
     Edit('attr main /1/2/1/1 select name()', None, ['1', '2', '3'], {'1', '2', '3'},
-         ['The template of each item has changed.', 'That at the root is as it was, and so', 'are the rules that it chose.']),
+         ['The template of each item has changed.',
+          'That at the root is as it was, and so',
+          'are the rules that it chose.']),
 ]
 
 # The records of the run: what each is of, what it read, and what it wrote.
