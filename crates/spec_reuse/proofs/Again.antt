@@ -341,7 +341,7 @@ reads_hold : {N : Type 0} (ask : Question N → Answer N) (supply : Wanted → �
 reads_hold ask supply nested streams [] h = tt
 reads_hold ask supply nested streams (Asked question answer ∷ es) h = (h.0, reads_hold ask supply nested streams es h.1)
 reads_hold ask supply nested streams (Saw wanted depth place x ∷ es) h = (h.0, reads_hold ask supply nested streams es h.1)
-reads_hold ask supply nested streams (Entered call depth ∷ es) h = reads_hold ask supply nested (streams ++ (nested depth call).content ∷ []) es h.1
+reads_hold ask supply nested streams (Entered call depth ∷ es) h = λ on. reads_hold ask supply nested (streams ++ (nested depth call).content ∷ []) es h.1
 reads_hold ask supply nested streams (Held first contents ∷ es) h = (h.0, reads_hold ask supply nested streams es h.1)
 
 went : {N : Type 0} (s : Setting N) (i : Instantiation N) → GoesOn (own_of s i).ending

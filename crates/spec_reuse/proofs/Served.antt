@@ -61,17 +61,17 @@ served_goes {N = N} {g = g} {h = h} {e = e} ask supply nested room ss (enters {c
     let more = closed_holes g.outer g.top (Hole Ended) in
     let longer = length-append g.streams (s ∷ []) in
     let there : cut (length ss) (closed h) ≡ closed (opened c d g) = ap (λ m. cut m (closed h)) l ∙ cut_there next g h es e c d s t even in
-    go (nested d c).ending there (served_goes ask supply nested room (ss ++ new ∷ []) t n (omega (arith, more, longer, even)) k r)
+    go (nested d c).ending there (λ on. served_goes ask supply nested room (ss ++ new ∷ []) t n (omega (arith, more, longer, even)) (k on) r)
   where
     go : (x : Ending N) → cut (length ss) (closed h) ≡ closed (opened c d g)
-        → whole (own ask supply nested room next (given (nested d c).content (opened c d (over ss g))))
-        ≡ comes_along (closed h) e nested (ss ++ (nested d c).content ∷ []) es
+        → (GoesOn x → whole (own ask supply nested room next (given (nested d c).content (opened c d (over ss g))))
+        ≡ comes_along (closed h) e nested (ss ++ (nested d c).content ∷ []) es)
         → whole (unless_halted (own ask supply nested room next (given (nested d c).content (opened c d (over ss g))))
         (given (nested d c).content (opened c d (over ss g))) x)
         ≡ unless_refused (comes_along (closed h) e nested (ss ++ (nested d c).content ∷ []) es)
         (filled (cut (length ss) (closed h)) (ss ++ (nested d c).content ∷ [])) x
-    go Finished f m = m
-    go (Gave v) f m = m
+    go Finished f m = m tt
+    go (Gave v) f m = m tt
     go (Halted why) f m = ap (λ x. record { content = filled x (ss ++ (nested d c).content ∷ []); ending = Halted why }) (sym f)
 
 pub served_means : {N : Type 0} (s : Setting N) (i : Instantiation N) (k : Kept N) → Serves s i k → meaning_of s i ≡ comes_to s i k
@@ -120,16 +120,16 @@ holds_too {N = N} {g = g} ask supply nested room ss (enters {call = c} {depth = 
     let new = (nested d c).content in
     let n : length (ss ++ new ∷ []) ≡ length (g.streams ++ s ∷ []) =
     length-append ss (new ∷ []) ∙ ap (λ m. m + 1) l ∙ sym (length-append g.streams (s ∷ [])) in
-    go (nested d c).ending (λ later. holds_too ask supply nested room (ss ++ new ∷ []) t n k r later) end
+    go (nested d c).ending (λ on later. holds_too ask supply nested room (ss ++ new ∷ []) t n (k on) r later) end
   where
     go : (x : Ending N)
-        → (GoesOn (own ask supply nested room next (given (nested d c).content (opened c d (over ss g)))).ending
+        → (GoesOn x → GoesOn (own ask supply nested room next (given (nested d c).content (opened c d (over ss g)))).ending
         → Hold ask supply nested (ss ++ (nested d c).content ∷ []) es)
         → GoesOn (unless_halted (own ask supply nested room next (given (nested d c).content (opened c d (over ss g))))
         (given (nested d c).content (opened c d (over ss g))) x).ending
         → GoesOn x × Hold ask supply nested (ss ++ (nested d c).content ∷ []) es
-    go Finished f m = (tt, f m)
-    go (Gave v) f m = (tt, f m)
+    go Finished f m = (tt, f tt m)
+    go (Gave v) f m = (tt, f tt m)
     go (Halted why) f m = absurd m
 
 pub served_record : {N : Type 0} (s : Setting N) (i : Instantiation N) (k : Kept N) → Serves s i k → GoesOn (own_of s i).ending → IsRecordOf s i k

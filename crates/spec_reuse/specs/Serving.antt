@@ -1,5 +1,6 @@
 -- Which records serve an instantiation: those of its unit, its node and its declared parameters, for whose height there are levels, and whose
--- own reads all hold. What they enter is looked at only where a variable or a parameter holds it.
+-- own reads all hold, up to the first of what they enter that is refused. What they enter is looked at only for that, and where a variable or a
+-- parameter holds it.
 use Rattle.std.specs.Prelude.{◌≡◌, ℕ, ◌≤◌, List, [], ◌∷◌, ◌++◌, length, drop}
 use Rattle.spec_document.specs.Name.{Expanded}
 use Rattle.spec_stylesheet.specs.Place.{Place}
@@ -12,6 +13,7 @@ use Rattle.spec_meaning.specs.Context.{Bound, binding_of}
 use Rattle.spec_run.specs.Plan.{Call}
 use Rattle.spec_run.specs.Direct.{Supplied, Ending, Finished, Gave, Halted, Outcome}
 use Rattle.spec_run.specs.Going.{Event, Asked, Saw, Entered, Held}
+use Rattle.spec_run.specs.Hold.{GoesOn}
 use Rattle.spec_run.specs.Cut.{cut}
 use Rattle.spec_run.specs.Trail.{Kept, IsTrue}
 use Rattle.spec_run.specs.Meaning.{Setting}
@@ -58,15 +60,16 @@ pub record Fits {N : Type 0} (s : Setting N) (i : Instantiation N) (k : Kept N) 
 
 -- ---- Where all reads hold
 
--- each question has that answer, the run gives what it gave, and the streams that were held are as they were, where what is entered has these
--- streams after those before it
+-- Each question has that answer, the run gives what it gave, and the streams that were held are as they were, where what is entered has these
+-- streams after those before it. Nothing is asked of what stands behind an instantiation that is refused, since it is not read
 abbrev pub ReadsHold : {N : Type 0} → (Question N → Answer N) → (Wanted → ℕ → Place → Supplied N) → (ℕ → Call N → Outcome N) → List Stream
     → List (Event N) → Type 0
 ReadsHold ask supply nested streams [] = Unit {0}
 ReadsHold ask supply nested streams (Asked question answer ∷ es) = (ask question ≡ answer) × ReadsHold ask supply nested streams es
 ReadsHold ask supply nested streams (Saw wanted depth place supplied ∷ es) =
     (supply wanted depth place ≡ supplied) × ReadsHold ask supply nested streams es
-ReadsHold ask supply nested streams (Entered call depth ∷ es) = ReadsHold ask supply nested (streams ++ (nested depth call).content ∷ []) es
+ReadsHold ask supply nested streams (Entered call depth ∷ es) =
+    GoesOn (nested depth call).ending → ReadsHold ask supply nested (streams ++ (nested depth call).content ∷ []) es
 ReadsHold ask supply nested streams (Held first contents ∷ es) = (drop first streams ≡ contents) × ReadsHold ask supply nested streams es
 
 pub record Serves {N : Type 0} (s : Setting N) (i : Instantiation N) (k : Kept N) : Type 0 where

@@ -1,5 +1,5 @@
 -- The turns along a record.
-use Rattle.std.proofs.Common.{◌≡◌, ℕ, suc, ◌+◌, ◌-◌, ◌<◌, ◌≤◌, List, [], ◌∷◌, ◌++◌, length, map, drop, get_or, Option, Some, None, Result, Ok, Err, refl, sym, ap, subst, ◌∙◌, arith}
+use Rattle.std.proofs.Common.{◌≡◌, ℕ, suc, ◌+◌, ◌-◌, ◌<◌, ◌≤◌, List, [], ◌∷◌, ◌++◌, length, map, drop, get_or, Result, Ok, Err, refl, sym, ap, subst, ◌∙◌, arith}
 use Rattle.std.specs.Prelude.{false, IfOk, OnOk, Box}
 use Rattle.std.specs.declared.alloc.Global.{Global as Allocator}
 use Rattle.std.proofs.lemmas.List.{at_drop_more, at_drop_all}
@@ -8,7 +8,7 @@ use Rattle.spec_meaning.specs.Stream.{Stream, holes}
 use Rattle.spec_meaning.specs.Question.{Question, Answer}
 use Rattle.spec_meaning.specs.Program.{Position, Size, Rule, Global}
 use Rattle.spec_run.specs.Plan.{Call}
-use Rattle.spec_run.specs.Direct.{Supplied, Ending, Finished, Gave, Halted}
+use Rattle.spec_run.specs.Direct.{Supplied, Ending, Finished, Gave, Halted, Outcome}
 use Rattle.spec_run.specs.Going.{Event, Asked, Saw, Entered, Held}
 use Rattle.spec_run.specs.Hold.{GoesOn}
 use Rattle.spec_run.specs.Trail.{Kept, IsTrue}
@@ -27,6 +27,8 @@ use Rattle.xt_engine.specs.declared.turn.Entered.TheVariants as given
 use Rattle.xt_text.specs.declared.memory.Memory.{Memory}
 use Rattle.xt_driver.specs.declared.drive.Served.{Served}
 use Rattle.xt_driver.specs.declared.drive.Served.TheVariants as served
+use Rattle.xt_driver.specs.declared.follow.Gone.{Gone}
+use Rattle.xt_driver.specs.declared.follow.Gone.TheVariants as gone
 use Rattle.xt_driver.specs.declared.follow.Next.{Next}
 use Rattle.xt_driver.specs.declared.follow.Next.TheVariants as next
 use Rattle.xt_driver.specs.declared.follow.Way.{Way}
@@ -38,11 +40,11 @@ use Rattle.xt_driver.specs.declared.outcome.Outcome.{Outcome as Came}
 use Rattle.xt_driver.specs.View.{outcome_of, Gives}
 use Rattle.xt_driver.specs.Remembered.{Entry, Keeps, Lasts, GivesAlways}
 use Rattle.xt_driver.specs.Referring.{HoldsAs, Settles}
-use Rattle.xt_driver.specs.Along.{halts, IsNext, IsTaken, TakesSo, Takes, IsSeenAs, IsTakenAs, TakesReferenceSo, TakesReference}
+use Rattle.xt_driver.specs.Along.{halts, IsNext, IsTaken, TakesSo, Takes, IsSeenAs, IsTakenAs, IsLostAs, TakesReferenceSo, TakesReference}
 use Rattle.xt_driver.specs.Lost.{IsLost, IsServed}
 use Rattle.xt_driver.proofs.Remembering.{keeps_on}
-use Rattle.xt_driver.specs.Followed.{IsFollowed, IsGone}
-use Rattle.xt_driver.proofs.Serving.{HoldsHere, followed_held, followed_entered, followed_referred, filled_with, followed_means, followed_lasts}
+use Rattle.xt_driver.specs.Followed.{IsFollowed, cut_with, EndsWith, IsGone}
+use Rattle.xt_driver.proofs.Serving.{HoldsHere, followed_held, followed_entered, no_end, followed_refused, followed_referred, filled_with, followed_means, followed_lasts}
 
 abbrev Ask : Type 0
 Ask = Question NodeRef → Answer NodeRef
@@ -95,17 +97,17 @@ along_held s i first all spare k ss e es x h n is =
 
 pub along_entered : (s : Ask → Setting NodeRef) {a b : Ask} (i : Instantiation NodeRef) (first all new : List (Entry NodeRef)) (k : Kept NodeRef)
     (old way : Way) (e : Event NodeRef) (es : List (Event NodeRef)) (x : Next)
-    (inner : Box CodeCall Allocator) (left : ℕ) (came : Result (Box Came Allocator) Memory) (ended : Option Lost)
+    (inner : Box CodeCall Allocator) (left : ℕ) (came : Result (Box Came Allocator) Memory) (ended : Gone)
     → a ≡ b → IsFollowed (s b) i first all old.spare k (streams_of old.parts.items) (e ∷ es) → IsNext x i.call i.below (streams_of old.parts.items) e
     → x ≡ next.Enter inner left
     → OnOk came (Keeps (s a) i.past all new) → IfOk came (λ o. Lasts (s a) i.past (left - o.value.spare) new (call_of inner.value) (outcome_of o.value))
-    → Takes ended came inner.value left old way → ended ≡ None → IsFollowed (s b) i first new way.spare k (streams_of way.parts.items) es
+    → Takes ended came old way → ended ≡ gone.On → IsFollowed (s b) i first new way.spare k (streams_of way.parts.items) es
 along_entered s i first all new k old way e es x inner left (Err m) ended same h n is keeps lasts takes empty = absurd takes
 along_entered s {b = b} i first all new k old way e es x inner left (Ok o) ended same h n is keeps lasts takes empty =
     let P : Next → Type 0 = λ y. IsNext y i.call i.below (streams_of old.parts.items) e in
     let K : Ask → Type 0 = λ y. Keeps (s y) i.past all new in
     let L : Ask → Type 0 = λ y. Lasts (s y) i.past (left - o.value.spare) new (call_of inner.value) (outcome_of o.value) in
-    let T : Option Lost → Type 0 = λ y. TakesSo y o.value inner.value left old way in
+    let T : Gone → Type 0 = λ y. TakesSo y o.value old way in
     let F : List Stream → Type 0 = λ ss. IsFollowed (s b) i first new way.spare k ss es in
     let taken : IsTaken o.value old way = subst T empty takes in
     subst F (sym taken.streams) (by_event e h (subst P is n) (subst K same keeps) (subst L same lasts) taken)
@@ -125,37 +127,45 @@ along_entered s {b = b} i first all new k old way e es x inner left (Ok o) ended
         f kept n.0 n.1 lasting (goes_on (outcome_of o.value).ending taken.on) taken.spare taken.inner
 
 -- it is refused
-pub lost_entered : (s : Ask → Setting NodeRef) {a b : Ask} (past : Past NodeRef) (old way : Way) (inner : Box CodeCall Allocator) (left : ℕ)
-    (came : Result (Box Came Allocator) Memory) (some : Option Lost) (l : Lost)
-    → a ≡ b → IfOk came (λ o. outcome_of o.value ≡ meaning (s a) left past 0 (call_of inner.value)) → Takes some came inner.value left old way → some ≡ Some l
-    → IsLost (s b) past l
-lost_entered s past old way inner left (Err m) some l same means takes is = absurd takes
-lost_entered s {a = a} {b = b} past old way inner left (Ok o) some l same means takes is =
-    let T : Option Lost → Type 0 = λ y. TakesSo y o.value inner.value left old way in
-    by_lost l (subst T is takes)
+along_stopped : (s : Setting NodeRef) (i : Instantiation NodeRef) (first all : List (Entry NodeRef)) (k : Kept NodeRef) (old way : Way) (e : Event NodeRef)
+    (es : List (Event NodeRef)) (x : Next) (inner : Box CodeCall Allocator) (left : ℕ) (came : Result (Box Came Allocator) Memory) (last : Box Came Allocator)
+    → IsFollowed s i first all old.spare k (streams_of old.parts.items) (e ∷ es) → IsNext x i.call i.below (streams_of old.parts.items) e
+    → x ≡ next.Enter inner left → IfOk came (λ o. outcome_of o.value ≡ meaning s left i.past 0 (call_of inner.value))
+    → Takes (gone.Refused last) came old way → EndsWith s i k (streams_of way.parts.items) (outcome_of last.value).ending
+along_stopped s i first all k old way e es x inner left (Err m) last h n is means takes = absurd takes
+along_stopped s i first all k old way e es x inner left (Ok o) last h n is means takes =
+    let P : Next → Type 0 = λ y. IsNext y i.call i.below (streams_of old.parts.items) e in
+    let E : Came → Type 0 = λ y. EndsWith s i k (streams_of way.parts.items) (outcome_of y).ending in
+    let F : List Stream → Type 0 = λ ss. EndsWith s i k ss (outcome_of o.value).ending in
+    subst E (sym takes.0) (subst F (sym takes.1.streams) (by_event e h (subst P is n)))
   where
-    by_lost : (y : Lost) → TakesSo (Some y) o.value inner.value left old way → IsLost (s b) past y
-    by_lost lost.Nothing h = absurd h
-    by_lost (lost.Reference y) h = absurd h
-    by_lost (lost.Call y) h =
-        ap outcome_of h.2 ∙ means ∙ ap (λ t. meaning (s t) left past 0 (call_of inner.value)) same
-        ∙ ap (λ n. meaning (s b) n past 0 (call_of inner.value)) (sym h.1) ∙ ap (λ c. meaning (s b) y.value.levels past 0 (call_of c)) (sym h.0)
+    by_event : (y : Event NodeRef) → IsFollowed s i first all old.spare k (streams_of old.parts.items) (y ∷ es)
+        → IsNext (next.Enter inner left) i.call i.below (streams_of old.parts.items) y
+        → EndsWith s i k (streams_of old.parts.items ++ (outcome_of o.value).content ∷ []) (outcome_of o.value).ending
+    by_event (Asked q v) f m = absurd m
+    by_event (Saw Position d p v) f m = absurd m
+    by_event (Saw Size d p v) f m = absurd m
+    by_event (Saw Rule d p v) f m = absurd m
+    by_event (Saw (Global name) d p v) f m = absurd m
+    by_event (Held j xs) f m = absurd m
+    by_event (Entered c d) f m =
+        followed_refused s i first all old.spare k (streams_of old.parts.items) c (call_of inner.value) d left (outcome_of o.value) es f m.0 m.1 means takes.1.stops
 
 -- ---- Globals
 
 pub along_referred : (s : Ask → Setting NodeRef) {a b : Ask} (i : Instantiation NodeRef) (first all new : List (Entry NodeRef)) (k : Kept NodeRef)
     (old way : Way) (e : Event NodeRef) (es : List (Event NodeRef)) (x : Next)
-    (needed : Box Needed Allocator) (left : ℕ) (came : Result (Box Referred Allocator) Memory) (ended : Option Lost)
+    (needed : Box Needed Allocator) (left : ℕ) (came : Result (Box Referred Allocator) Memory) (ended : Gone)
     → a ≡ b → IsFollowed (s b) i first all old.spare k (streams_of old.parts.items) (e ∷ es) → IsNext x i.call i.below (streams_of old.parts.items) e
     → x ≡ next.Refer needed left
     → OnOk came (Keeps (s a) i.past all new) → IfOk came (λ r. Settles (s a) i.past new needed.value.name left (place_of needed.value.place) r.value)
-    → TakesReference ended came e needed.value left old way → ended ≡ None → IsFollowed (s b) i first new way.spare k (streams_of way.parts.items) es
+    → TakesReference ended came e needed.value left old way → ended ≡ gone.On → IsFollowed (s b) i first new way.spare k (streams_of way.parts.items) es
 along_referred s i first all new k old way e es x needed left (Err m) ended same h n is keeps settles takes empty = absurd takes
 along_referred s {b = b} i first all new k old way e es x needed left (Ok r) ended same h n is keeps settles takes empty =
     let P : Next → Type 0 = λ y. IsNext y i.call i.below (streams_of old.parts.items) e in
     let K : Ask → Type 0 = λ y. Keeps (s y) i.past all new in
     let S : Ask → Type 0 = λ y. Settles (s y) i.past new needed.value.name left (place_of needed.value.place) r.value in
-    let T : Option Lost → Type 0 = λ y. TakesReferenceSo y r.value e needed.value left old way in
+    let T : Gone → Type 0 = λ y. TakesReferenceSo y r.value e needed.value left old way in
     let taken : IsTakenAs e r.value old way = subst T empty takes in
     let F : List Stream → Type 0 = λ ss. IsFollowed (s b) i first new way.spare k ss es in
     subst F (ap (λ ps. streams_of ps.items) (sym taken.parts)) (by_event e r.value.entered h (subst P is n) (subst K same keeps) (subst S same settles).holds taken.seen taken.spare taken.inner)
@@ -181,40 +191,36 @@ along_referred s {b = b} i first all new k old way e es x needed left (Ok r) end
         (subst E (sym seen) f) kept n.2 (subst G n.0 holds) low inner
 
 -- it is refused, or has another value
-pub lost_referred : (s : Ask → Setting NodeRef) {a b : Ask} (past : Past NodeRef) (all : List (Entry NodeRef)) (old way : Way) (e : Event NodeRef)
-    (needed : Box Needed Allocator) (left : ℕ) (came : Result (Box Referred Allocator) Memory) (some : Option Lost) (l : Lost)
-    → a ≡ b → IfOk came (λ r. Settles (s a) past all needed.value.name left (place_of needed.value.place) r.value)
-    → TakesReference some came e needed.value left old way → some ≡ Some l → IsLost (s b) past l
-lost_referred s past all old way e needed left (Err m) some l same settles takes is = absurd takes
-lost_referred s {b = b} past all old way e needed left (Ok r) some l same settles takes is =
-    let T : Option Lost → Type 0 = λ y. TakesReferenceSo y r.value e needed.value left old way in
-    let S : Ask → Type 0 = λ y. Settles (s y) past all needed.value.name left (place_of needed.value.place) r.value in
-    by_lost l (subst T is takes) (subst S same settles).gives
+lost_referred : (s : Setting NodeRef) (past : Past NodeRef) (all : List (Entry NodeRef)) (old way : Way) (e : Event NodeRef)
+    (needed : Box Needed Allocator) (left : ℕ) (came : Result (Box Referred Allocator) Memory) (l : Lost)
+    → IfOk came (λ r. Settles s past all needed.value.name left (place_of needed.value.place) r.value)
+    → TakesReference (gone.Not l) came e needed.value left old way → IsLost s past l
+lost_referred s past all old way e needed left (Err m) l settles takes = absurd takes
+lost_referred s past all old way e needed left (Ok r) l settles takes = by_lost l takes settles.gives
   where
-    by_lost : (y : Lost) → TakesReferenceSo (Some y) r.value e needed.value left old way
-        → Gives r.value.entered (place_of needed.value.place) (referred (s b) (meaning (s b) left) past needed.value.name 0 (place_of needed.value.place))
-        → IsLost (s b) past y
+    by_lost : (y : Lost) → IsLostAs y r.value needed.value left
+        → Gives r.value.entered (place_of needed.value.place) (referred s (meaning s left) past needed.value.name 0 (place_of needed.value.place))
+        → IsLost s past y
     by_lost lost.Nothing h gives = tt
-    by_lost (lost.Call y) h gives = absurd h
     by_lost (lost.Reference y) h gives =
-        let N : Needed → Type 0 = λ m. Gives r.value.entered (place_of m.place) (referred (s b) (meaning (s b) left) past m.name 0 (place_of m.place)) in
-        let L : ℕ → Type 0 = λ n. Gives r.value.entered (place_of y.value.needed.value.place) (referred (s b) (meaning (s b) n) past y.value.needed.value.name 0 (place_of y.value.needed.value.place)) in
-        let R : Referred → Type 0 = λ q. Gives q.entered (place_of y.value.needed.value.place) (referred (s b) (meaning (s b) y.value.levels) past y.value.needed.value.name 0 (place_of y.value.needed.value.place)) in
+        let N : Needed → Type 0 = λ m. Gives r.value.entered (place_of m.place) (referred s (meaning s left) past m.name 0 (place_of m.place)) in
+        let L : ℕ → Type 0 = λ n. Gives r.value.entered (place_of y.value.needed.value.place) (referred s (meaning s n) past y.value.needed.value.name 0 (place_of y.value.needed.value.place)) in
+        let R : Referred → Type 0 = λ q. Gives q.entered (place_of y.value.needed.value.place) (referred s (meaning s y.value.levels) past y.value.needed.value.name 0 (place_of y.value.needed.value.place)) in
         subst R (sym h.2) (subst L (sym h.1) (subst N (sym h.0) gives))
 
 -- ---- One event further
 
 pub gone_holds : (s : Setting NodeRef) (i : Instantiation NodeRef) (all : List (Entry NodeRef)) (way : Way) (e : Event NodeRef) (x : Next)
-    → IsNext x i.call i.below (streams_of way.parts.items) e → x ≡ next.Holds → IsGone None s i all all way way e
+    → IsNext x i.call i.below (streams_of way.parts.items) e → x ≡ next.Holds → IsGone gone.On s i all all way way e
 gone_holds s i all way e x n is first k es h = along_held s i first all way.spare k (streams_of way.parts.items) e es x h n is
 
 pub gone_entered : (s : Setting NodeRef) (i : Instantiation NodeRef) (all new : List (Entry NodeRef)) (old way : Way) (e : Event NodeRef) (x : Next)
-    (inner : Box CodeCall Allocator) (call : CodeCall) (left : ℕ) (came : Result (Box Came Allocator) Memory) (l : Option Lost)
+    (inner : Box CodeCall Allocator) (call : CodeCall) (left : ℕ) (came : Result (Box Came Allocator) Memory) (ended : Gone)
     → call ≡ inner.value → IsNext x i.call i.below (streams_of old.parts.items) e → x ≡ next.Enter inner left
     → OnOk came (Keeps s i.past all new) → IfOk came (λ o. Lasts s i.past (left - o.value.spare) new (call_of call) (outcome_of o.value))
     → IfOk came (λ o. outcome_of o.value ≡ meaning s left i.past 0 (call_of call))
-    → Takes l came inner.value left old way → IsGone l s i all new old way e
-gone_entered s i all new old way e x inner call left came l same n is keeps lasts means takes = by_lost l takes
+    → Takes ended came old way → IsGone ended s i all new old way e
+gone_entered s i all new old way e x inner call left came ended same n is keeps lasts means takes = by_gone ended takes
   where
     L : CodeCall → Type 0
     L c = IfOk came (λ o. Lasts s i.past (left - o.value.spare) new (call_of c) (outcome_of o.value))
@@ -222,23 +228,34 @@ gone_entered s i all new old way e x inner call left came l same n is keeps last
     M : CodeCall → Type 0
     M c = IfOk came (λ o. outcome_of o.value ≡ meaning s left i.past 0 (call_of c))
 
-    by_lost : (y : Option Lost) → Takes y came inner.value left old way → IsGone y s i all new old way e
-    by_lost None t = λ first k es h. along_entered (λ a. record { ask = a; same = s.same; root = s.root; globals = s.globals }) i first all new k old way e es x inner left came None refl h n is keeps (subst L same lasts) t refl
-    by_lost (Some y) t = lost_entered (λ a. record { ask = a; same = s.same; root = s.root; globals = s.globals }) i.past old way inner left came (Some y) y refl (subst M same means) t refl
+    not_lost : (r : Result (Box Came Allocator) Memory) (l : Lost) → Takes (gone.Not l) r old way → IsLost s i.past l
+    not_lost (Ok o) l t = absurd t
+    not_lost (Err m) l t = absurd t
+
+    by_gone : (y : Gone) → Takes y came old way → IsGone y s i all new old way e
+    by_gone gone.On t = λ first k es h. along_entered (λ a. record { ask = a; same = s.same; root = s.root; globals = s.globals }) i first all new k old way e es x inner left came gone.On refl h n is keeps (subst L same lasts) t refl
+    by_gone (gone.Not l) t = not_lost came l t
+    by_gone (gone.Refused last) t = λ first k es h. along_stopped s i first all k old way e es x inner left came last h n is (subst M same means) t
 
 pub gone_referred : (s : Setting NodeRef) (i : Instantiation NodeRef) (all new : List (Entry NodeRef)) (old way : Way) (e : Event NodeRef) (x : Next)
-    (needed : Box Needed Allocator) (reference : Needed) (left : ℕ) (came : Result (Box Referred Allocator) Memory) (l : Option Lost)
+    (needed : Box Needed Allocator) (reference : Needed) (left : ℕ) (came : Result (Box Referred Allocator) Memory) (ended : Gone)
     → reference ≡ needed.value → IsNext x i.call i.below (streams_of old.parts.items) e → x ≡ next.Refer needed left
     → OnOk came (Keeps s i.past all new) → IfOk came (λ r. Settles s i.past new reference.name left (place_of reference.place) r.value)
-    → TakesReference l came e needed.value left old way → IsGone l s i all new old way e
-gone_referred s i all new old way e x needed reference left came l same n is keeps settles takes = by_lost l takes
+    → TakesReference ended came e needed.value left old way → IsGone ended s i all new old way e
+gone_referred s i all new old way e x needed reference left came ended same n is keeps settles takes = by_gone ended takes
   where
     S : Needed → Type 0
     S m = IfOk came (λ r. Settles s i.past new m.name left (place_of m.place) r.value)
 
-    by_lost : (y : Option Lost) → TakesReference y came e needed.value left old way → IsGone y s i all new old way e
-    by_lost None t = λ first k es h. along_referred (λ a. record { ask = a; same = s.same; root = s.root; globals = s.globals }) i first all new k old way e es x needed left came None refl h n is keeps (subst S same settles) t refl
-    by_lost (Some y) t = lost_referred (λ a. record { ask = a; same = s.same; root = s.root; globals = s.globals }) i.past new old way e needed left came (Some y) y refl (subst S same settles) t refl
+    not_refused : (r : Result (Box Referred Allocator) Memory) (last : Box Came Allocator) → TakesReference (gone.Refused last) r e needed.value left old way
+        → IsGone (gone.Refused last) s i all new old way e
+    not_refused (Ok o) last t = absurd t
+    not_refused (Err m) last t = absurd t
+
+    by_gone : (y : Gone) → TakesReference y came e needed.value left old way → IsGone y s i all new old way e
+    by_gone gone.On t = λ first k es h. along_referred (λ a. record { ask = a; same = s.same; root = s.root; globals = s.globals }) i first all new k old way e es x needed left came gone.On refl h n is keeps (subst S same settles) t refl
+    by_gone (gone.Not l) t = lost_referred s i.past new old way e needed left came l (subst S same settles) t
+    by_gone (gone.Refused last) t = not_refused came last t
 
 -- no more levels are left than there were
 pub left_entered : (x : Next) (inner : Box CodeCall Allocator) (left : ℕ) (c : Call NodeRef) (below : ℕ) (ss : List Stream) (e : Event NodeRef)
@@ -270,20 +287,30 @@ left_referred x needed left c below ss e n is = let P : Next → Type 0 = λ y. 
 -- ---- In a world with the same truth
 
 pub gone_on : (s : Ask → Setting NodeRef) {a b : Ask} (i : Instantiation NodeRef) (first all new : List (Entry NodeRef)) (old way : Way) (e : Event NodeRef)
-    (k : Kept NodeRef) (es : List (Event NodeRef)) (l : Option Lost)
-    → a ≡ b → IsGone l (s a) i all new old way e → l ≡ None → IsFollowed (s b) i first all old.spare k (streams_of old.parts.items) (e ∷ es)
+    (k : Kept NodeRef) (es : List (Event NodeRef)) (x : Gone)
+    → a ≡ b → IsGone x (s a) i all new old way e → x ≡ gone.On → IsFollowed (s b) i first all old.spare k (streams_of old.parts.items) (e ∷ es)
     → IsFollowed (s b) i first new way.spare k (streams_of way.parts.items) es
-gone_on s {b = b} i first all new old way e k es l same g is h =
-    let P : Ask → Type 0 = λ x. IsGone l (s x) i all new old way e in
-    let Q : Option Lost → Type 0 = λ y. IsGone y (s b) i all new old way e in
+gone_on s {b = b} i first all new old way e k es x same g is h =
+    let P : Ask → Type 0 = λ y. IsGone x (s y) i all new old way e in
+    let Q : Gone → Type 0 = λ y. IsGone y (s b) i all new old way e in
+    (subst Q is (subst P same g)) first k es h
+
+pub gone_refused : (s : Ask → Setting NodeRef) {a b : Ask} (i : Instantiation NodeRef) (first all new : List (Entry NodeRef)) (old way : Way)
+    (e : Event NodeRef) (k : Kept NodeRef) (es : List (Event NodeRef)) (x : Gone) (last : Box Came Allocator)
+    → a ≡ b → IsGone x (s a) i all new old way e → x ≡ gone.Refused last
+    → IsFollowed (s b) i first all old.spare k (streams_of old.parts.items) (e ∷ es)
+    → EndsWith (s b) i k (streams_of way.parts.items) (outcome_of last.value).ending
+gone_refused s {b = b} i first all new old way e k es x last same g is h =
+    let P : Ask → Type 0 = λ y. IsGone x (s y) i all new old way e in
+    let Q : Gone → Type 0 = λ y. IsGone y (s b) i all new old way e in
     (subst Q is (subst P same g)) first k es h
 
 pub lost_on : (s : Ask → Setting NodeRef) {a b : Ask} (i : Instantiation NodeRef) (all new : List (Entry NodeRef)) (old way : Way) (e : Event NodeRef)
-    (l : Option Lost) (y : Lost)
-    → a ≡ b → IsGone l (s a) i all new old way e → l ≡ Some y → IsLost (s b) i.past y
-lost_on s {b = b} i all new old way e l y same g is =
-    let P : Ask → Type 0 = λ x. IsGone l (s x) i all new old way e in
-    let Q : Option Lost → Type 0 = λ z. IsGone z (s b) i all new old way e in
+    (x : Gone) (l : Lost)
+    → a ≡ b → IsGone x (s a) i all new old way e → x ≡ gone.Not l → IsLost (s b) i.past l
+lost_on s {b = b} i all new old way e x l same g is =
+    let P : Ask → Type 0 = λ y. IsGone x (s y) i all new old way e in
+    let Q : Gone → Type 0 = λ y. IsGone y (s b) i all new old way e in
     subst Q is (subst P same g)
 
 pub lost_there : (s : Ask → Setting NodeRef) {a b : Ask} (past : Past NodeRef) (l : Lost) → a ≡ b → IsLost (s b) past l → IsLost (s a) past l
@@ -329,3 +356,12 @@ along_ended s i first all spare k ss es o h none lasting of high low least is =
     let F : List (Event NodeRef) → Type 0 = λ ys. IsFollowed s i first all spare k ss ys in
     let f = subst F none h in
     (is ∙ sym (followed_means s i first all spare k ss f lasting of high), followed_lasts s i first all spare o.value.spare k ss (outcome_of o.value) f lasting of high low least is)
+
+-- with what was entered last
+pub along_short : (s : Setting NodeRef) (i : Instantiation NodeRef) (all : List (Entry NodeRef)) (k : Kept NodeRef) (ss : List Stream) (e : Ending NodeRef)
+    (o : Box Came Allocator)
+    → EndsWith s i k ss e → IsTrue s.same k → IsOf i.call k → k.height ≤ i.below → outcome_of o.value ≡ cut_with k ss e
+    → IsServed (served.As o) s i.past (suc i.below) all i.call
+along_short s i all k ss e o h lasting of high is =
+    let G : Outcome NodeRef → Type 0 = λ x. GoesOn x.ending in
+    (is ∙ sym (h.means lasting of high), record { so = λ on. absurd (no_end e h.stops (subst G is on)) })

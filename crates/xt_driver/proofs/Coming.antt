@@ -7,19 +7,19 @@ use Rattle.spec_meaning.specs.Stream.{Stream}
 use Rattle.spec_meaning.specs.Question.{Question, Answer}
 use Rattle.spec_run.specs.Going.{Event}
 use Rattle.spec_node.specs.declared.node_ref.NodeRef.{NodeRef}
-use Rattle.xt_engine.specs.declared.call.Call.{Call}
 use Rattle.xt_engine.specs.declared.turn.Entered.{Entered}
 use Rattle.xt_text.specs.declared.memory.Memory.{Memory}
 use Rattle.xt_record.specs.declared.reuse.Reuse.{Reuse}
 use Rattle.xt_record.specs.Sure.{IsSure}
 use Rattle.xt_driver.specs.declared.drive.Served.{Served}
+use Rattle.xt_driver.specs.declared.follow.Gone.{Gone}
 use Rattle.xt_driver.specs.declared.follow.Way.{Way}
 use Rattle.xt_driver.specs.declared.level.Needed.{Needed}
-use Rattle.xt_driver.specs.declared.lost.Lost.{Lost}
 use Rattle.xt_driver.specs.declared.memo.Referred.{Referred}
 use Rattle.xt_driver.specs.declared.memo.Turned.{Turned}
 use Rattle.xt_driver.specs.declared.outcome.Outcome.{Outcome}
-use Rattle.xt_driver.specs.View.{IsStreamed, IsTaken}
+use Rattle.xt_driver.specs.declared.whole.Whole.{Whole}
+use Rattle.xt_driver.specs.View.{IsFinished, IsStreamed, IsTaken}
 use Rattle.xt_driver.specs.Remembered.{Entry}
 use Rattle.xt_driver.specs.Referring.{Evaluates}
 use Rattle.xt_driver.specs.Turning.{TurnsAs}
@@ -39,19 +39,22 @@ pub of_streamed : {Q : Type 0} (e : Option Entered) (before after : List Stream)
 of_streamed e before after (Ok o) h q = q
 of_streamed e before after (Err m) h q = absurd h
 
+pub of_finished : {Q : Type 0} (w : Whole) (told : List (List ℕ)) (came : Result (Box Outcome Allocator) Memory) → IsFinished w told came → OnOk came Q → Q
+of_finished w told (Ok o) h q = q
+of_finished w told (Err m) h q = absurd h
+
 pub of_taken : {Q : Type 0} (e : Option Entered) (came : Result (Box Referred Allocator) Memory) → IsTaken e came → OnOk came Q → Q
 of_taken e (Ok r) h q = q
 of_taken e (Err m) h q = absurd h
 
-pub of_takes : {Q : Type 0} (l : Option Lost) (c : Call) (n : ℕ) (old new : Way) (came : Result (Box Outcome Allocator) Memory) → Takes l came c n old new
-    → OnOk came Q → Q
-of_takes l c n old new (Ok o) h q = q
-of_takes l c n old new (Err m) h q = absurd h
+pub of_takes : {Q : Type 0} (x : Gone) (old new : Way) (came : Result (Box Outcome Allocator) Memory) → Takes x came old new → OnOk came Q → Q
+of_takes x old new (Ok o) h q = q
+of_takes x old new (Err m) h q = absurd h
 
-pub of_reference : {Q : Type 0} (l : Option Lost) (e : Event NodeRef) (d : Needed) (n : ℕ) (old new : Way) (came : Result (Box Referred Allocator) Memory)
-    → TakesReference l came e d n old new → OnOk came Q → Q
-of_reference l e d n old new (Ok r) h q = q
-of_reference l e d n old new (Err m) h q = absurd h
+pub of_reference : {Q : Type 0} (x : Gone) (e : Event NodeRef) (d : Needed) (n : ℕ) (old new : Way) (came : Result (Box Referred Allocator) Memory)
+    → TakesReference x came e d n old new → OnOk came Q → Q
+of_reference x e d n old new (Ok r) h q = q
+of_reference x e d n old new (Err m) h q = absurd h
 
 -- ---- Of a call that was served
 

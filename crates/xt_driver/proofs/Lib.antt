@@ -12,6 +12,7 @@ pub mod Onward
 pub mod Later
 pub mod Turning
 pub mod Serving
+pub mod Cutting
 pub mod Along
 pub mod Regaining
 pub mod Keeping

@@ -3,43 +3,20 @@ use Rattle.std.proofs.Common.{◌≡◌, ℕ, ◌-◌, List, Option, Some, sym, 
 use Rattle.std.specs.Prelude.{IfSome}
 use Rattle.spec_document.specs.Name.{Expanded}
 use Rattle.spec_stylesheet.specs.Place.{Place}
-use Rattle.spec_run.specs.Plan.{Call}
-use Rattle.spec_run.specs.Direct.{Supplied, Failed, Ending, Finished, Gave, Halted}
-use Rattle.spec_run.specs.Hold.{GoesOn}
+use Rattle.spec_run.specs.Direct.{Supplied, Failed}
 use Rattle.spec_run.specs.Meaning.{Setting, Past, referred, meaning}
 use Rattle.spec_node.specs.declared.node_ref.NodeRef.{NodeRef}
 use Rattle.xt_syntax.specs.PartView.{place_of}
-use Rattle.xt_engine.specs.View.{call_of}
 use Rattle.xt_engine.specs.declared.turn.Entered.{Entered}
 use Rattle.xt_engine.specs.declared.turn.Entered.TheVariants as entered
 use Rattle.xt_driver.specs.declared.level.Needed.{Needed}
 use Rattle.xt_driver.specs.declared.lost.Lost.{Lost}
 use Rattle.xt_driver.specs.declared.lost.Lost.TheVariants as lost
 use Rattle.xt_driver.specs.declared.memo.Referred.{Referred}
-use Rattle.xt_driver.specs.declared.outcome.Outcome.{Outcome}
-use Rattle.xt_driver.specs.View.{outcome_of, GivesSo}
-use Rattle.xt_driver.specs.Remembered.{Entry, Lasts}
+use Rattle.xt_driver.specs.View.{GivesSo}
+use Rattle.xt_driver.specs.Remembered.{Entry}
 use Rattle.xt_driver.specs.Referring.{HoldsAs, Settles}
-use Rattle.xt_driver.specs.Lost.{IsLost, Halts, IsOfCall, IsGivenAgain, IsOfReference}
-
-no_going : (e : Ending NodeRef) → Halts e → GoesOn e → ⊥
-no_going Finished h on = h
-no_going (Gave v) h on = h
-no_going (Halted why) h on = on
-
-pub regained_means : (s : Setting NodeRef) (past : Past NodeRef) (l : Lost) (c : Call NodeRef) (levels : ℕ) (o : Outcome) → IsLost s past l
-    → IsOfCall l c levels o → outcome_of o ≡ meaning s levels past 0 c
-regained_means s past lost.Nothing c levels o h is = absurd is
-regained_means s past (lost.Reference l) c levels o h is = absurd is
-regained_means s past (lost.Call l) c levels o h is =
-    is.again.same ∙ h ∙ ap (λ n. meaning s n past 0 (call_of l.value.call.value)) is.levels_are ∙ ap (meaning s levels past 0) is.call
-
--- it is refused, so nothing is said of other places
-pub regained_lasts : (s : Setting NodeRef) (past : Past NodeRef) (l : Lost) (c k : Call NodeRef) (levels least : ℕ) (all : List (Entry NodeRef)) (o : Outcome)
-    → IsOfCall l c levels o → Lasts s past least all k (outcome_of o)
-regained_lasts s past lost.Nothing c k levels least all o is = absurd is
-regained_lasts s past (lost.Reference l) c k levels least all o is = absurd is
-regained_lasts s past (lost.Call l) c k levels least all o is = record { so = λ on. absurd (no_going (outcome_of o).ending is.again.halts on) }
+use Rattle.xt_driver.specs.Lost.{IsLost, IsGivenAgain, IsOfReference}
 
 given_again : (before again : Entered) (place : Place) (x : Supplied NodeRef) → GivesSo before place x → IsGivenAgain before again → GivesSo again place x
 given_again (entered.Refused why t) (entered.Refused because u) place x h is = h ∙ ap (λ w. Failed w) (sym is)
@@ -63,7 +40,6 @@ holds_again s past all entered.UnderWay (entered.Value v) name levels is = absur
 pub regained_settles : (s : Setting NodeRef) (past : Past NodeRef) (l : Lost) (needed : Needed) (levels : ℕ) (all : List (Entry NodeRef)) (r : Referred)
     → IsLost s past l → IsOfReference l needed levels r → Settles s past all needed.name levels (place_of needed.place) r
 regained_settles s past lost.Nothing needed levels all r h is = absurd is
-regained_settles s past (lost.Call l) needed levels all r h is = absurd is
 regained_settles s past (lost.Reference l) needed levels all r h is =
     let old = l.value.needed.value in
     let same : referred s (meaning s l.value.levels) past old.name 0 (place_of old.place) ≡ referred s (meaning s levels) past needed.name 0 (place_of needed.place)

@@ -1,6 +1,6 @@
 -- Going along a record: how far its reads hold, here and wherever what is remembered holds.
 use Rattle.std.proofs.Common.{◌≡◌, ℕ, zero, suc, ◌+◌, ◌-◌, ◌≤◌, List, [], ◌∷◌, ◌++◌, length, drop, refl, sym, ap, subst, ◌∙◌, arith, length-append}
-use Rattle.std.specs.Prelude.{unwrap_or}
+use Rattle.std.specs.Prelude.{true, unwrap_or}
 use Rattle.spec_document.specs.Name.{Expanded}
 use Rattle.spec_stylesheet.specs.Place.{Place}
 use Rattle.spec_meaning.specs.Stream.{Stream, Ended, Hole, filled, holes}
@@ -23,7 +23,8 @@ use Rattle.spec_reuse.specs.Serving.{IsOf, ReadsHold, Serves, unless_refused, co
 use Rattle.spec_reuse.proofs.Served.{served_means}
 use Rattle.xt_driver.specs.Remembered.{Entry, Suits, Remembers, Keeps, Lasts, GivesAlways}
 use Rattle.xt_record.specs.View.{AsksHold}
-use Rattle.xt_driver.specs.Followed.{entered_in, IsAlong, at_place, IsFollowed}
+use Rattle.xt_driver.specs.Along.{halts}
+use Rattle.xt_driver.specs.Followed.{entered_in, IsAlong, at_place, IsFollowed, cut_with, EndsWith}
 use Rattle.xt_driver.proofs.Less.{referred_at}
 use Rattle.xt_driver.proofs.Remembering.{keeps_all, keeps_on, suits_here, suits_more}
 
@@ -78,7 +79,7 @@ along_entered : {s : Setting NodeRef} {i : Instantiation NodeRef} {k : Kept Node
     → meant_below s i d c ≡ o → GoesOn o.ending → IsAlong s i k ss (Entered c d ∷ es) → IsAlong s i k (ss ++ o.content ∷ []) es
 along_entered {s = s} {i = i} {k = k} {ss = ss} {es = es} o e on h =
     let R : Outcome NodeRef → Type 0 = λ x. ReadsHold s.ask (given_to s i) (meant_below s i) (ss ++ x.content ∷ []) es in
-    record { reads = λ r. h.reads (subst R (sym e) r); comes = h.comes ∙ ap after e ∙ goes_on o.ending on }
+    record { reads = λ r. h.reads (λ goes. subst R (sym e) r); comes = h.comes ∙ ap after e ∙ goes_on o.ending on }
   where
     after : Outcome NodeRef → Outcome NodeRef
     after x = unless_refused (comes_along k.content k.ending (meant_below s i) (ss ++ x.content ∷ []) es) (filled (cut (length ss) k.content) (ss ++ x.content ∷ [])) x.ending
@@ -148,6 +149,46 @@ followed_entered s i first all new spare fewer less k ss c inner d left o es h k
       asks = h.asks;
       even = omega (arith, even, longer);
     }
+
+-- it is refused
+
+pub no_end : (e : Ending NodeRef) → halts e ≡ true → GoesOn e → ⊥
+no_end Finished h on = cc
+no_end (Gave v) h on = cc
+no_end (Halted why) h on = on
+
+with_it : (o : Outcome NodeRef) (t : Stream) (e : Ending NodeRef) → halts e ≡ true → unless_refused o t e ≡ record { content = t; ending = e }
+with_it o t Finished h = absurd (cc)
+with_it o t (Gave v) h = absurd (cc)
+with_it o t (Halted why) h = refl
+
+pub followed_refused : (s : Setting NodeRef) (i : Instantiation NodeRef) (first all : List (Entry NodeRef)) (spare : ℕ) (k : Kept NodeRef)
+    (ss : List Stream) (c inner : Call NodeRef) (d left : ℕ) (o : Outcome NodeRef) (es : List (Event NodeRef))
+    → IsFollowed s i first all spare k ss (Entered c d ∷ es) → inner ≡ settled i.call c → left ≡ i.below - d
+    → o ≡ meaning s left i.past 0 inner → halts o.ending ≡ true → EndsWith s i k (ss ++ o.content ∷ []) o.ending
+followed_refused s i first all spare k ss c inner d left o es h same room is stops =
+    let even = h.even in
+    let longer = length-append ss (o.content ∷ []) in
+    record { some = omega (arith, longer); fit = omega (arith, even, longer); stops = stops; means = means }
+  where
+    after : Outcome NodeRef → Outcome NodeRef
+    after x = unless_refused (comes_along k.content k.ending (meant_below s i) (ss ++ x.content ∷ []) es) (filled (cut (length ss) k.content) (ss ++ x.content ∷ [])) x.ending
+
+    means : IsTrue s.same k → IsOf i.call k → k.height ≤ i.below → meaning s (suc i.below) i.past 0 i.call ≡ cut_with k (ss ++ o.content ∷ []) o.ending
+    means lasting of high =
+        let x = at_place i i.below i.past in
+        let a = h.along i.below i.past (omega arith) (suits_here h.keeps.remembers.fits) in
+        let came : meant_below s x d c ≡ o
+        = ap (meaning s i.below i.past d) (sym same) ∙ meaning_at s i.below i.past d inner ∙ ap (λ n. meaning s n i.past 0 inner) (sym room) ∙ sym is in
+        let G : Outcome NodeRef → Type 0 = λ y. GoesOn y.ending in
+        let serves : Serves s x k = record {
+          fits = record { lasting = lasting; of_call = of; levels = high };
+          reads = a.reads (λ on. absurd (no_end o.ending stops (subst G came on)));
+        } in
+        let longer = length-append ss (o.content ∷ []) in
+        let last : length ss ≡ length (ss ++ o.content ∷ []) - 1 = omega (arith, longer) in
+        served_means s x k serves ∙ a.comes ∙ ap after came ∙ with_it _ _ o.ending stops
+        ∙ ap (λ n. record { content = filled (cut n k.content) (ss ++ o.content ∷ []); ending = o.ending }) last
 
 -- the global has the value that was seen
 pub followed_referred : (s : Setting NodeRef) (i : Instantiation NodeRef) (first all new : List (Entry NodeRef)) (spare fewer less : ℕ) (k : Kept NodeRef)

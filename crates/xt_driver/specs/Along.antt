@@ -1,5 +1,5 @@
 -- One turn along a record.
-use Rattle.std.specs.Prelude.{◌≡◌, ℕ, ◌-◌, ◌≤◌, List, [], ◌∷◌, ◌++◌, Bool, true, false, Option, Some, None, Result, Ok, Err, Box, drop, unwrap_or}
+use Rattle.std.specs.Prelude.{◌≡◌, ℕ, ◌-◌, ◌≤◌, List, [], ◌∷◌, ◌++◌, Bool, true, false, Result, Ok, Err, Box, drop, unwrap_or}
 use Rattle.std.specs.declared.alloc.Global.{Global as Allocator}
 use Rattle.spec_document.specs.Name.{Expanded}
 use Rattle.spec_stylesheet.specs.Place.{Place}
@@ -14,10 +14,11 @@ use Rattle.xt_syntax.specs.PartView.{place_of}
 use Rattle.xt_tree.specs.ValueView.{value_of}
 use Rattle.xt_tree.specs.StreamView.{streams_of}
 use Rattle.xt_engine.specs.View.{call_of}
-use Rattle.xt_engine.specs.declared.call.Call.{Call as CodeCall}
 use Rattle.xt_engine.specs.declared.turn.Entered.{Entered as Given}
 use Rattle.xt_engine.specs.declared.turn.Entered.TheVariants as given
 use Rattle.xt_text.specs.declared.memory.Memory.{Memory}
+use Rattle.xt_driver.specs.declared.follow.Gone.{Gone}
+use Rattle.xt_driver.specs.declared.follow.Gone.TheVariants as gone
 use Rattle.xt_driver.specs.declared.follow.Next.{Next}
 use Rattle.xt_driver.specs.declared.follow.Next.TheVariants as next
 use Rattle.xt_driver.specs.declared.follow.Way.{Way}
@@ -79,16 +80,20 @@ pub record IsTaken (o : Outcome) (old new : Way) : Type 0 where
   pub spare : new.spare ≤ old.spare
   pub inner : new.spare ≤ o.spare
 
--- of the call that was entered; or it is lost
-abbrev pub TakesSo : Option Lost → Outcome → CodeCall → ℕ → Way → Way → Type 0
-TakesSo None o call levels old new = IsTaken o old new
-TakesSo (Some lost.Nothing) o call levels old new = ⊥
-TakesSo (Some (lost.Call l)) o call levels old new = (l.value.call.value ≡ call) × (l.value.levels ≡ levels) × (l.value.outcome.value ≡ o)
-TakesSo (Some (lost.Reference l)) o call levels old new = ⊥
+-- it is refused, and its stream is the last
+pub record IsStopped (o : Outcome) (old new : Way) : Type 0 where
+  pub stops : halts (outcome_of o).ending ≡ true
+  pub streams : streams_of new.parts.items ≡ streams_of old.parts.items ++ (outcome_of o).content ∷ []
 
-abbrev pub Takes : Option Lost → Result (Box Outcome Allocator) Memory → CodeCall → ℕ → Way → Way → Type 0
-Takes l (Ok o) call levels old new = TakesSo l o.value call levels old new
-Takes l (Err memory) call levels old new = ⊥
+-- of the call that was entered
+abbrev pub TakesSo : Gone → Outcome → Way → Way → Type 0
+TakesSo gone.On o old new = IsTaken o old new
+TakesSo (gone.Not l) o old new = ⊥
+TakesSo (gone.Refused x) o old new = (x.value ≡ o) × IsStopped o old new
+
+abbrev pub Takes : Gone → Result (Box Outcome Allocator) Memory → Way → Way → Type 0
+Takes x (Ok o) old new = TakesSo x o.value old new
+Takes x (Err memory) old new = ⊥
 
 -- the global had this value
 abbrev pub IsSeenAs : Event NodeRef → Given → Type 0
@@ -101,14 +106,16 @@ pub record IsTakenAs (event : Event NodeRef) (r : Referred) (old new : Way) : Ty
   pub spare : new.spare ≤ old.spare
   pub inner : new.spare ≤ r.spare
 
--- of the global that was needed; or it is lost, or another value than what was seen
-abbrev pub TakesReferenceSo : Option Lost → Referred → Event NodeRef → Needed → ℕ → Way → Way → Type 0
-TakesReferenceSo None r event needed levels old new = IsTakenAs event r old new
-TakesReferenceSo (Some lost.Nothing) r event needed levels old new = Unit {0}
-TakesReferenceSo (Some (lost.Call l)) r event needed levels old new = ⊥
-TakesReferenceSo (Some (lost.Reference l)) r event needed levels old new =
-    (l.value.needed.value ≡ needed) × (l.value.levels ≡ levels) × (l.value.referred.value ≡ r)
+abbrev pub IsLostAs : Lost → Referred → Needed → ℕ → Type 0
+IsLostAs lost.Nothing r needed levels = Unit {0}
+IsLostAs (lost.Reference l) r needed levels = (l.value.needed.value ≡ needed) × (l.value.levels ≡ levels) × (l.value.referred.value ≡ r)
 
-abbrev pub TakesReference : Option Lost → Result (Box Referred Allocator) Memory → Event NodeRef → Needed → ℕ → Way → Way → Type 0
-TakesReference l (Ok r) event needed levels old new = TakesReferenceSo l r.value event needed levels old new
-TakesReference l (Err memory) event needed levels old new = ⊥
+-- of the global that was needed; or it is lost, or another value than what was seen
+abbrev pub TakesReferenceSo : Gone → Referred → Event NodeRef → Needed → ℕ → Way → Way → Type 0
+TakesReferenceSo gone.On r event needed levels old new = IsTakenAs event r old new
+TakesReferenceSo (gone.Not l) r event needed levels old new = IsLostAs l r needed levels
+TakesReferenceSo (gone.Refused x) r event needed levels old new = ⊥
+
+abbrev pub TakesReference : Gone → Result (Box Referred Allocator) Memory → Event NodeRef → Needed → ℕ → Way → Way → Type 0
+TakesReference x (Ok r) event needed levels old new = TakesReferenceSo x r.value event needed levels old new
+TakesReference x (Err memory) event needed levels old new = ⊥

@@ -1,22 +1,19 @@
--- What was refused on the way along a record, and what is said of a call that was served or not.
+-- What was refused on the way along a record that does not serve, and what is said of a call that was served or not.
 use Rattle.std.specs.Prelude.{◌≡◌, ℕ, ◌-◌, List}
 use Rattle.spec_run.specs.Plan.{Call}
-use Rattle.spec_run.specs.Direct.{Ending, Finished, Gave, Halted}
 use Rattle.spec_run.specs.Meaning.{Setting, Past, referred, meaning}
 use Rattle.spec_node.specs.declared.node_ref.NodeRef.{NodeRef}
 use Rattle.xt_syntax.specs.PartView.{place_of}
-use Rattle.xt_engine.specs.View.{call_of, refused_of}
+use Rattle.xt_engine.specs.View.{refused_of}
 use Rattle.xt_engine.specs.declared.turn.Entered.{Entered}
 use Rattle.xt_engine.specs.declared.turn.Entered.TheVariants as entered
 use Rattle.xt_driver.specs.declared.drive.Served.{Served}
 use Rattle.xt_driver.specs.declared.drive.Served.TheVariants as served
 use Rattle.xt_driver.specs.declared.level.Needed.{Needed}
-use Rattle.xt_driver.specs.declared.lost.LostCall.{LostCall}
 use Rattle.xt_driver.specs.declared.lost.LostReference.{LostReference}
 use Rattle.xt_driver.specs.declared.lost.Lost.{Lost}
 use Rattle.xt_driver.specs.declared.lost.Lost.TheVariants as lost
 use Rattle.xt_driver.specs.declared.memo.Referred.{Referred}
-use Rattle.xt_driver.specs.declared.outcome.Outcome.{Outcome}
 use Rattle.xt_driver.specs.View.{outcome_of, Gives}
 use Rattle.xt_driver.specs.Remembered.{Entry, Lasts}
 
@@ -25,31 +22,10 @@ use Rattle.xt_driver.specs.Remembered.{Entry, Lasts}
 -- it came to what it means
 abbrev pub IsLost : Setting NodeRef → Past NodeRef → Lost → Type 0
 IsLost s past lost.Nothing = Unit {0}
-IsLost s past (lost.Call l) = outcome_of l.value.outcome.value ≡ meaning s l.value.levels past 0 (call_of l.value.call.value)
 IsLost s past (lost.Reference l) =
     Gives l.value.referred.value.entered (place_of l.value.needed.value.place) (referred s (meaning s l.value.levels) past l.value.needed.value.name 0 (place_of l.value.needed.value.place))
 
 -- ---- What comes of it again
-
-abbrev pub Halts : Ending NodeRef → Type 0
-Halts Finished = ⊥
-Halts (Gave value) = ⊥
-Halts (Halted why) = Unit {0}
-
-pub record IsRefusedAgain (before again : Outcome) : Type 0 where
-  pub same : outcome_of again ≡ outcome_of before
-  pub halts : Halts (outcome_of again).ending
-
--- of this call, with so many levels left
-pub record IsAgain (l : LostCall) (c : Call NodeRef) (levels : ℕ) (o : Outcome) : Type 0 where
-  pub call : call_of l.call.value ≡ c
-  pub levels_are : l.levels ≡ levels
-  pub again : IsRefusedAgain l.outcome.value o
-
-abbrev pub IsOfCall : Lost → Call NodeRef → ℕ → Outcome → Type 0
-IsOfCall lost.Nothing c levels o = ⊥
-IsOfCall (lost.Call l) c levels o = IsAgain l.value c levels o
-IsOfCall (lost.Reference l) c levels o = ⊥
 
 -- the same refusal
 abbrev pub IsGivenAgain : (before again : Entered) → Type 0
@@ -65,7 +41,6 @@ pub record IsNeededAgain (l : LostReference) (needed : Needed) (levels : ℕ) (r
 
 abbrev pub IsOfReference : Lost → Needed → ℕ → Referred → Type 0
 IsOfReference lost.Nothing needed levels r = ⊥
-IsOfReference (lost.Call l) needed levels r = ⊥
 IsOfReference (lost.Reference l) needed levels r = IsNeededAgain l.value needed levels r
 
 -- ---- Whether a call is served

@@ -14,13 +14,13 @@ ghost use Rattle.xt_driver.specs.Lost.{IsLost, IsServed};
 ghost use Rattle.xt_driver.specs.Followed.{instance_of, IsGone};
 ghost use Rattle.xt_driver.specs.Made.{IsMade, MadeHolds};
 
-use crate::follow::{Next, Way, next_done, set_out, take_entered, take_reference};
+use crate::follow::{Gone, Next, Way, next_done, set_out, take_entered, take_reference};
 use crate::globals::{Globals, Reference, evaluation_of, look_up};
 use crate::keep::{keep_ended, next_turn, tried};
 use crate::level::{Needed, Step, advance, begin, take_global, take_stream};
-use crate::lost::{Lost, regained_call, regained_reference};
+use crate::lost::{Lost, regained_reference};
 use crate::memo::{Memo, Referred};
-use crate::outcome::{Ended, Outcome, done, evaluated, refused, too_deep};
+use crate::outcome::{Ended, Outcome, cut_short, done, evaluated, refused, too_deep};
 use std::alloc::Global;
 use xt_engine::{Call, Engine, Event};
 use xt_questions::World;
@@ -155,8 +155,8 @@ fn serve<E: Engine, W: World>(
     }
 }
 
-// Goes along a record that may serve the call. It does not where what it saw or held differs; and where what it
-// entered or a global is refused, the call is refused too, which is left to the engine.
+// Goes along a record that may serve the call. It does not where what it saw or held differs, or where a global is
+// refused. Where what it entered is refused, the call is refused too, with what the record wrote up to there.
 #[cycle(drive)]
 fn follow<E: Engine, W: World>(
     alloc: Global,
@@ -185,15 +185,19 @@ fn follow<E: Engine, W: World>(
         match go_on(
             alloc, engine, world, globals, memo, reuse, event, call, below, &mut way,
         )? {
-            None => {}
-            Some(lost) => return Ok(Served::Not(lost)),
+            Gone::On => {}
+            Gone::Not(lost) => return Ok(Served::Not(lost)),
+            Gone::Refused(last) => {
+                let short = cut_short(alloc, &kept.ran, way.parts.as_slice(), last)?;
+                return Ok(Served::As(short));
+            }
         }
     }
     let outcome = done(alloc, &kept.ran, way.parts.as_slice(), below, way.spare)?;
     Ok(Served::As(outcome))
 }
 
-// Goes one event further along a record. Where it does not go on, what was lost.
+// Goes one event further along a record.
 #[cycle(drive)]
 fn go_on<E: Engine, W: World>(
     alloc: Global,
@@ -206,21 +210,21 @@ fn go_on<E: Engine, W: World>(
     call: &Call,
     below: u64,
     way: &mut Way,
-) -> Result<Option<Lost>, Memory>
+) -> Result<Gone, Memory>
     requires remembers { Remembers (setting_of (W.state world.now).truth globals.now) (past_of globals.now) (entries_of memo.now) }
     requires sure { IsSure (W.state world.now).truth reuse.now }
     ensures keeps { OnOk result (Keeps (setting_of (W.state world.old).truth globals.now) (past_of globals.now) (entries_of memo.old) (entries_of memo.new)) }
-    ensures goes { IfOk result (λ lost. IsGone lost (setting_of (W.state world.old).truth globals.now) (instance_of (call_of call.now) below (past_of globals.now)) (entries_of memo.old) (entries_of memo.new) way.old way.new (event_of event.now)) }
+    ensures goes { IfOk result (λ gone. IsGone gone (setting_of (W.state world.old).truth globals.now) (instance_of (call_of call.now) below (past_of globals.now)) (entries_of memo.old) (entries_of memo.new) way.old way.new (event_of event.now)) }
     ensures sure { OnOk result (IsSure (W.state world.old).truth reuse.new) }
     ensures truth { (W.state world.new).truth ≡ (W.state world.old).truth }
     ensures name { W.name world.new ≡ W.name world.old }
 {
     match next_done(alloc, event, call, below, way.parts.as_slice())? {
-        Next::Holds => Ok(None),
-        Next::Differs => Ok(Some(Lost::Nothing)),
+        Next::Holds => Ok(Gone::On),
+        Next::Differs => Ok(Gone::Not(Lost::Nothing)),
         Next::Enter(inner, left) => {
             let came = means(alloc, engine, world, globals, memo, reuse, &inner, left);
-            take_entered(alloc, way, came, inner, left)
+            take_entered(way, came, inner)
         }
         Next::Refer(needed, left) => {
             let came = refer(alloc, engine, world, globals, memo, reuse, &needed, left);
@@ -229,8 +233,8 @@ fn go_on<E: Engine, W: World>(
     }
 }
 
-// Runs the call by the engine, with so many levels below its own. What was lost is not run again. What the engine made
-// is kept by the caller: here it would take room on each level.
+// Runs the call by the engine, with so many levels below its own. A global that was lost is not evaluated again. What the
+// engine made is kept by the caller: here it would take room on each level.
 #[cycle(drive)]
 fn run_call<E: Engine, W: World>(
     alloc: Global,
@@ -260,9 +264,7 @@ fn run_call<E: Engine, W: World>(
     loop {
         match advance(alloc, engine, world, &mut standing, call, below)? {
             Step::Enter(inner, left) => {
-                let came = enter(
-                    alloc, engine, world, globals, memo, reuse, lost, &inner, left,
-                );
+                let came = means(alloc, engine, world, globals, memo, reuse, &inner, left);
                 take_stream(&mut standing, came, inner)?;
             }
             Step::Refer(needed, left) => {
@@ -289,35 +291,6 @@ fn run_call<E: Engine, W: World>(
                 return Ok(Ended { outcome, ran: None });
             }
         }
-    }
-}
-
-// What a call means that the engine enters, where there are so many levels left.
-#[cycle(drive)]
-fn enter<E: Engine, W: World>(
-    alloc: Global,
-    engine: &mut E,
-    world: &mut W,
-    globals: &Globals,
-    memo: &mut Memo,
-    reuse: &mut Reuse<'_>,
-    lost: &Lost,
-    call: &Call,
-    levels: u64,
-) -> Result<Box<Outcome>, Memory>
-    requires remembers { Remembers (setting_of (W.state world.now).truth globals.now) (past_of globals.now) (entries_of memo.now) }
-    requires sure { IsSure (W.state world.now).truth reuse.now }
-    requires lost { IsLost (setting_of (W.state world.now).truth globals.now) (past_of globals.now) lost.now }
-    ensures keeps { OnOk result (Keeps (setting_of (W.state world.old).truth globals.now) (past_of globals.now) (entries_of memo.old) (entries_of memo.new)) }
-    ensures lasts { IfOk result (λ o. Lasts (setting_of (W.state world.old).truth globals.now) (past_of globals.now) (levels - o.value.spare) (entries_of memo.new) (call_of call.now) (outcome_of o.value)) }
-    ensures meaning { IfOk result (λ o. outcome_of o.value ≡ meaning (setting_of (W.state world.old).truth globals.now) levels (past_of globals.now) 0 (call_of call.now)) }
-    ensures sure { OnOk result (IsSure (W.state world.old).truth reuse.new) }
-    ensures truth { (W.state world.new).truth ≡ (W.state world.old).truth }
-    ensures name { W.name world.new ≡ W.name world.old }
-{
-    match regained_call(alloc, lost, call, levels)? {
-        Some(outcome) => Ok(outcome),
-        None => means(alloc, engine, world, globals, memo, reuse, call, levels),
     }
 }
 

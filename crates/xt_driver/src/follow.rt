@@ -13,7 +13,7 @@ ghost use Rattle.xt_driver.specs.Along.{halts, HoldsIf, IsEntered, IsNext, IsRef
 
 use crate::calls::settle;
 use crate::level::Needed;
-use crate::lost::{Lost, LostCall, LostReference};
+use crate::lost::{Lost, LostReference};
 use crate::memo::Referred;
 use crate::outcome::{Ending, Outcome, content_of, fewer};
 use std::alloc::Global;
@@ -46,6 +46,17 @@ pub enum Next {
     Enter(Box<Call>, u64),
     /// This global was needed, for which so many levels are left.
     Refer(Box<Needed>, u64),
+}
+
+/// How it goes on along a record.
+#[derive(Drop)]
+pub enum Gone {
+    /// To what was done next.
+    On,
+    /// It does not: the record does not serve, and this was lost.
+    Not(Lost),
+    /// It does not: what was entered is refused so, and the call with it.
+    Refused(Box<Outcome>),
 }
 
 /// Sets out along a record, with so many levels below the call's own.
@@ -222,36 +233,23 @@ fn is_refused(ending: &Ending) -> bool
     }
 }
 
-/// Takes what came of the call that was entered with so many levels. Where it is refused, the way ends.
+/// Takes what came of the call that was entered, which is done with. Where it is refused, the way ends with its stream.
 pub fn take_entered(
-    alloc: Global,
     way: &mut Way,
     came: Result<Box<Outcome>, Memory>,
     call: Box<Call>,
-    levels: u64,
-) -> Result<Option<Lost>, Memory>
-    ensures { IfOk result (λ lost. Takes lost came call.value levels way.old way.new) }
+) -> Result<Gone, Memory>
+    ensures { IfOk result (λ gone. Takes gone came way.old way.new) }
 {
-    let Ok(outcome) = came else {
-        drop(call);
-        return Err(Memory);
-    };
-    if is_refused(&outcome.ending) {
-        let lost = Box::new(
-            alloc,
-            LostCall {
-                call,
-                levels,
-                outcome,
-            },
-        )?;
-        return Ok(Some(Lost::Call(lost)));
-    }
     drop(call);
+    let outcome = came?;
     let part = content_of(&outcome)?;
     way.parts.push(part)?;
+    if is_refused(&outcome.ending) {
+        return Ok(Gone::Refused(outcome));
+    }
     way.spare = fewer(way.spare, outcome.spare);
-    Ok(None)
+    Ok(Gone::On)
 }
 
 // Whether a reference is refused that is given this.
@@ -285,8 +283,8 @@ pub fn take_reference(
     event: &Event,
     needed: Box<Needed>,
     levels: u64,
-) -> Result<Option<Lost>, Memory>
-    ensures { IfOk result (λ lost. TakesReference lost came (event_of event.now) needed.value levels way.old way.new) }
+) -> Result<Gone, Memory>
+    ensures { IfOk result (λ gone. TakesReference gone came (event_of event.now) needed.value levels way.old way.new) }
 {
     let Ok(referred) = came else {
         drop(needed);
@@ -301,12 +299,12 @@ pub fn take_reference(
                 referred,
             },
         )?;
-        return Ok(Some(Lost::Reference(lost)));
+        return Ok(Gone::Not(Lost::Reference(lost)));
     }
     drop(needed);
     if !is_as_seen(alloc, event, &referred.entered)? {
-        return Ok(Some(Lost::Nothing));
+        return Ok(Gone::Not(Lost::Nothing));
     }
     way.spare = fewer(way.spare, referred.spare);
-    Ok(None)
+    Ok(Gone::On)
 }

@@ -4,7 +4,7 @@
 //! (`specs/Meaning.antt`), whatever was kept, and for whatever engine does what the plans of its calls say.
 //!
 //! ```text
-//! let mut reuse = Reuse::new(alloc, &last)?;
+//! let mut reuse = Reuse::new(alloc, &last, marks)?;
 //! let whole = run(alloc, &mut engine, &mut world, root, &globals, &mut reuse)?;
 //! whole.content       // the stream of the root
 //! whole.refusal       // why there is none
@@ -12,6 +12,7 @@
 #![tactic(auto)]
 
 mod calls;
+mod cut;
 mod drive;
 mod follow;
 mod globals;

@@ -1,25 +1,13 @@
-// What was refused on the way along a record. An engine that then runs the call comes to the same, and takes what came
-// of it in place of running it again: else each level would double what is run.
+// A global that was refused on the way along a record, which then does not serve. The engine that runs the call needs it
+// too, and is given what came of it in place of evaluating it again: else each level would double what is evaluated.
 ghost use Rattle.std.specs.Prelude.{IfOk, IfSome};
-ghost use Rattle.xt_engine.specs.View.{call_of};
-ghost use Rattle.xt_driver.specs.Lost.{IsOfCall, IsOfReference, IsAgain, IsNeededAgain, IsRefusedAgain, IsGivenAgain};
+ghost use Rattle.xt_driver.specs.Lost.{IsOfReference, IsNeededAgain, IsGivenAgain};
 
 use crate::level::Needed;
 use crate::memo::Referred;
-use crate::outcome::{Ending, Outcome};
 use std::alloc::Global;
-use xt_engine::{Call, Entered};
-use xt_record::same_call;
+use xt_engine::Entered;
 use xt_text::Memory;
-
-/// A call that was refused.
-#[derive(Drop)]
-pub struct LostCall {
-    pub call: Box<Call>,
-    /// How many levels were left for it.
-    pub levels: u64,
-    pub outcome: Box<Outcome>,
-}
 
 /// A reference to a global that was refused.
 #[derive(Drop)]
@@ -34,62 +22,7 @@ pub struct LostReference {
 #[derive(Drop)]
 pub enum Lost {
     Nothing,
-    Call(Box<LostCall>),
     Reference(Box<LostReference>),
-}
-
-/// What came of the call with so many levels, where it is what was refused.
-pub fn regained_call(
-    alloc: Global,
-    lost: &Lost,
-    call: &Call,
-    levels: u64,
-) -> Result<Option<Box<Outcome>>, Memory>
-    ensures { IfOk result (λ o. IfSome o (λ x. IsOfCall lost.now (call_of call.now) levels x.value)) }
-{
-    match lost {
-        Lost::Call(lost) => call_again(alloc, lost, call, levels),
-        Lost::Nothing => Ok(None),
-        Lost::Reference(_) => Ok(None),
-    }
-}
-
-// The same of one that was refused.
-fn call_again(
-    alloc: Global,
-    lost: &LostCall,
-    call: &Call,
-    levels: u64,
-) -> Result<Option<Box<Outcome>>, Memory>
-    ensures { IfOk result (λ o. IfSome o (λ x. IsAgain lost.now (call_of call.now) levels x.value)) }
-{
-    if lost.levels != levels {
-        return Ok(None);
-    }
-    if !same_call(alloc, &lost.call, call)? {
-        return Ok(None);
-    }
-    refused_again(alloc, &lost.outcome)
-}
-
-// The same outcome, where it is refused.
-fn refused_again(alloc: Global, outcome: &Outcome) -> Result<Option<Box<Outcome>>, Memory>
-    ensures { IfOk result (λ o. IfSome o (λ x. IsRefusedAgain outcome.now x.value)) }
-{
-    match &outcome.ending {
-        Ending::Halted(why) => {
-            let content = outcome.content.clone()?;
-            let ending = Ending::Halted(why.copy(alloc)?);
-            let again = Outcome {
-                content,
-                ending,
-                spare: 0,
-            };
-            Ok(Some(Box::new(alloc, again)?))
-        }
-        Ending::Finished => Ok(None),
-        Ending::Gave(_) => Ok(None),
-    }
 }
 
 /// What came of the reference with so many levels, where it is what was refused.
@@ -104,7 +37,6 @@ pub fn regained_reference(
     match lost {
         Lost::Reference(lost) => reference_again(alloc, lost, needed, levels),
         Lost::Nothing => Ok(None),
-        Lost::Call(_) => Ok(None),
     }
 }
 

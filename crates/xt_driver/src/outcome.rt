@@ -1,7 +1,8 @@
 // What comes of calls.
-ghost use Rattle.std.specs.Prelude.{◌≡◌, ◌≤◌, ◌-◌, ◌++◌, IfOk, OnOk, Some, length, map};
+ghost use Rattle.std.specs.Prelude.{◌≡◌, ◌<◌, ◌≤◌, ◌-◌, ◌++◌, IfOk, OnOk, Some, length, map};
 ghost use Rattle.spec_stylesheet.specs.Place as places;
 ghost use Rattle.spec_meaning.specs.Stream as stream;
+ghost use Rattle.spec_run.specs.Cut.{cut};
 ghost use Rattle.spec_run.specs.Meaning.{held_by, refused_deep};
 ghost use Rattle.xt_syntax.specs.PartView.{place_of};
 ghost use Rattle.xt_tree.specs.StreamView.{stream_of, streams_of};
@@ -9,6 +10,7 @@ ghost use Rattle.xt_engine.specs.Advances.{ending_of as ending_with};
 ghost use Rattle.xt_driver.specs.View.{ending_of, outcome_of, supplied_of, Gives, IsRefused, IsStreamed};
 ghost use Rattle.xt_driver.specs.Referring.{entry_of, entries_of, remembered_as, Evaluates};
 
+use crate::cut::cut;
 use crate::globals::Evaluation;
 use crate::memo::{Memo, Referred, put_back, remember};
 use spec_expression::DynCode;
@@ -110,6 +112,28 @@ pub fn done(
     let ending = end_with(alloc, &ran.value)?;
     let spare = fewer(spare, below.saturating_sub(ran.height));
     on_heap(alloc, content, ending, spare)
+}
+
+/// What comes of a call that would have come to this, where the last that it entered was refused, with all that was
+/// written up to there. These are the streams of what it entered.
+pub fn cut_short(
+    alloc: Global,
+    ran: &Ran,
+    parts: &[Rc<Items>],
+    last: Box<Outcome>,
+) -> Result<Box<Outcome>, Memory>
+    requires some { 0 < length parts.now }
+    requires fit { length parts.now ≤ stream.holes (stream_of ran.now.stream.value) }
+    ensures { IfOk result (λ o. outcome_of o.value ≡ record { content = stream.filled (cut (length parts.now - 1) (stream_of ran.now.stream.value)) (streams_of parts.now); ending = (outcome_of last.value).ending }) }
+{
+    let before = cut(alloc, &ran.stream, parts.len() - 1)?;
+    let content = before.fill(alloc, parts)?;
+    let Outcome {
+        content: _,
+        ending,
+        spare: _,
+    } = Box::into_inner(last);
+    on_heap(alloc, content, ending, 0)
 }
 
 // How a run ends that is done, with the value of a global that has a select.

@@ -237,6 +237,7 @@ fn run_in<E: Engine, W: World>(
 ) -> Result<Whole, Memory>
     requires { IsSure (W.state world.now).truth reuse.now }
     ensures run { IfOk result (λ w. let s = setting_in (W.state world.old).truth root named.now in whole_of w ≡ meant.run s levels s.globals [] [] (meant.root_call s)) }
+    ensures sure { OnOk result (IsSure (W.state world.old).truth reuse.new) }
     ensures truth { (W.state world.new).truth ≡ (W.state world.old).truth }
     ensures name { W.name world.new ≡ W.name world.old }
 {
@@ -290,6 +291,7 @@ pub fn run<E: Engine, W: World>(
 ) -> Result<Whole, Memory>
     requires { IsSure (W.state world.now).truth reuse.now }
     ensures run { IfOk result (λ w. whole_of w ≡ run_of (setting_in (W.state world.old).truth root globals.now)) }
+    ensures sure { OnOk result (IsSure (W.state world.old).truth reuse.new) }
     ensures truth { (W.state world.new).truth ≡ (W.state world.old).truth }
     ensures name { W.name world.new ≡ W.name world.old }
 {

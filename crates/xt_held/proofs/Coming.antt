@@ -1,6 +1,6 @@
 -- What modules and a source come to, by what is held of the modules.
 use Rattle.std.proofs.Common.{◌≡◌, ℕ, List, [], map, Option, None, Some, Result, Ok, Err, refl, sym, ap, subst, ◌∙◌}
-use Rattle.std.specs.Prelude.{IfOk}
+use Rattle.std.specs.Prelude.{IfOk, IfSome, OnOk}
 use Rattle.std.specs.Option.{is_some}
 use Rattle.std.proofs.lemmas.Result.{IfOk-weaker}
 use Rattle.spec_document.specs.Name.{Expanded}
@@ -38,6 +38,10 @@ use Rattle.xt_import.specs.View.{plain_of}
 use Rattle.xt_world.specs.Numbered.{IsNaming, ref_to, setting_by_numbers, truth_by_numbers}
 use Rattle.xt_world.specs.View.{truth_in}
 use Rattle.xt_world.specs.declared.stylesheet.Stylesheet as world
+use Rattle.xt_record.specs.Sure.{AreAnswered, IsSure}
+use Rattle.xt_record.specs.declared.pool.Pool.{Pool}
+use Rattle.xt_record.specs.declared.reuse.Reuse.{Reuse}
+use Rattle.xt_held.specs.RunView.{Ask}
 use Rattle.xt_held.specs.OutcomeView.{Fits, IsFreeFor, is_done, no_steps, outcome_of, plain_in}
 use Rattle.xt_held.specs.StylesheetView.{AnswersAs, AreCompiled, AreCompiledBy, Holds, IsCompiledFrom, IsThere}
 use Rattle.xt_held.specs.declared.outcome.Came.{Came}
@@ -178,6 +182,28 @@ pub over_so : (r : Result Whole Memory) (t : Result Over Memory) (meant : means.
     → IfOk t (λ over. whole_of over.whole ≡ meant)
 over_so r t meant told h =
     IfOk-weaker t _ _ (λ over is. subst (λ (x : Result Whole Memory). IfOk x (λ w. whole_of w ≡ meant)) is h) told
+
+-- where it was sure of all that the run kept, the questions of that have their answers
+pub kept_so : (r : Result Whole Memory) (t : Result Over Memory) (reuse : Reuse) (ask : Ask) → IfOk t (λ over. r ≡ Ok over.whole)
+    → IfOk t (λ over. (ask : Ask) → IsSure ask reuse → AreAnswered ask over.kept) → OnOk r (IsSure ask reuse) → IfOk t (λ over. AreAnswered ask over.kept)
+kept_so r t reuse ask told kept sure = by t told kept
+  where
+    by : (t : Result Over Memory) → IfOk t (λ over. r ≡ Ok over.whole) → IfOk t (λ over. (ask : Ask) → IsSure ask reuse → AreAnswered ask over.kept)
+        → IfOk t (λ over. AreAnswered ask over.kept)
+    by (Ok over) is kept = kept ask (subst (λ (x : Result Whole Memory). OnOk x (IsSure ask reuse)) is sure)
+    by (Err memory) is kept = tt
+
+-- what a run of what is seen kept is what the run kept
+pub ended_so : (r : Result Came Memory) (pool : Pool) (P : Pool → Type 0) → IfOk r (λ came. IfSome came.kept (λ kept. kept ≡ pool)) → P pool
+    → IfOk r (λ came. IfSome came.kept P)
+ended_so r pool P told h = IfOk-weaker r _ _ (λ came is. by came.kept is) told
+  where
+    by : (kept : Option Pool) → IfSome kept (λ other. other ≡ pool) → IfSome kept P
+    by None is = tt
+    by (Some other) is = subst P (sym is) h
+
+pub none_kept : (r : Result Came Memory) (P : Pool → Type 0) → IfOk r (λ came. came.kept ≡ None) → IfOk r (λ came. IfSome came.kept P)
+none_kept r P told = IfOk-weaker r _ _ (λ came is. subst (λ (kept : Option Pool). IfSome kept P) (sym is) tt) told
 
 -- ---- Where nothing is run
 

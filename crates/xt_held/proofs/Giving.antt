@@ -1,5 +1,7 @@
 -- What is held where a value of a parameter was tried, and what is ready then.
-use Rattle.std.proofs.Common.{◌≡◌, ℕ, List, string_bytes, refl, sym, subst}
+use Rattle.std.proofs.Common.{◌≡◌, ℕ, true, List, string_bytes, refl, sym, subst}
+use Rattle.std.specs.Prelude.{IfSome}
+use Rattle.std.specs.Option.{unwrap_or}
 use Rattle.std.specs.Str.{chars}
 use Rattle.std.specs.declared.alloc.Global.{Global}
 use Rattle.std.specs.declared.string.String.{String}
@@ -8,12 +10,14 @@ use Rattle.spec_run.specs.Documents.{Documents, main_name, with_parameter}
 use Rattle.spec_run.specs.Outcome.{Comes, IsOutcome}
 use Rattle.xt_world.specs.ParameterView.{HasRoomForOne, parameters_of, with_value}
 use Rattle.xt_world.specs.declared.parameters.Parameters.{Parameters}
-use Rattle.xt_held.specs.OutcomeView.{Fits, outcome_of}
+use Rattle.xt_held.specs.OutcomeView.{Fits, is_done, outcome_of}
+use Rattle.xt_held.specs.RunView.{KeptHolds, LastHolds}
 use Rattle.xt_held.specs.StylesheetView.{AreCompiled}
 use Rattle.xt_held.specs.View.{HasBelow, IsKept, IsReady, documents_of, made_of, outcome_in}
 use Rattle.xt_held.specs.declared.held.Held.{Held}
 use Rattle.xt_held.specs.declared.outcome.Came.{Came}
 use Rattle.xt_held.specs.declared.ready.Change.TheVariants as changes
+use Rattle.xt_held.proofs.Marked.{adopted_last}
 
 abbrev with_those : Held → Parameters → Held
 with_those held parameters = record held { parameters = parameters }
@@ -35,6 +39,7 @@ kept_so held parameters same = record {
     below = h.below;
     outcome = subst (λ (documents : Documents). IsOutcome documents (outcome_in held)) (sym (same_documents held parameters same)) h.outcome;
     compiled = h.compiled;
+    last = subst (λ (given : spec.Parameters). LastHolds (outcome_in held) held.compiled given held.source held.last) (sym same) h.last;
   };
 }
 
@@ -43,10 +48,10 @@ pub ready_so : (held : Held) (parameters : Parameters) (name value : List ℕ) (
     → AreCompiled (documents_of held).modules held.compiled → HasBelow (made_of held) held
     → Comes (documents_of held).modules (with_value name value (parameters_of held.parameters)) ((documents_of held).modules main_name)
     (documents_of held).source (outcome_of came.outcome)
-    → Fits came → HasRoomForOne parameters
+    → Fits came → IfSome came.kept (KeptHolds held.compiled (with_value name value (parameters_of held.parameters)) held.source) → HasRoomForOne parameters
     → IsReady (with_parameter name value) (made_of held) (with_those held parameters)
     (record { change = changes.Parameter key kept; next = held.next; came = came })
-ready_so held parameters name value key kept came same named valued compiled below comes fits room =
+ready_so held parameters name value key kept came same named valued compiled below comes fits holds room =
     let documents = documents_of held in
     let given : with_value name value (parameters_of held.parameters) ≡ with_value (chars (string_bytes key)) kept (parameters_of parameters)
     = sym (λ i. with_value (named i) (valued i) (same i)) in
@@ -61,5 +66,7 @@ ready_so held parameters name value key kept came same named valued compiled bel
         room = room;
         others = below;
         below = tt;
+        last = subst (λ (values : spec.Parameters). is_done (outcome_of came.outcome) ≡ true → KeptHolds held.compiled values held.source (unwrap_or came.kept held.last)) given
+            (adopted_last came held.last (KeptHolds held.compiled (with_value name value (parameters_of held.parameters)) held.source) fits holds);
       };
     }

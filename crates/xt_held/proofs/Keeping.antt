@@ -9,12 +9,15 @@ use Rattle.std.specs.declared.alloc.Global.{Global}
 use Rattle.std.specs.declared.string.String.{String}
 use Rattle.indexmap.specs.IndexMap.{insert_entry}
 use Rattle.spec_document.specs.Forest.{Document}
-use Rattle.spec_run.specs.Documents.{Documents}
+use Rattle.spec_run.specs.Documents.{Documents, Parameters}
 use Rattle.spec_run.specs.Outcome as spec
 use Rattle.spec_run.specs.Outcome.{IsOutcome}
 use Rattle.xt_edit.specs.View.{AreBelow}
 use Rattle.xt_import.specs.View.{is_name, plain_of}
+use Rattle.xt_record.specs.declared.pool.Pool.{Pool}
+use Rattle.xt_world.specs.ParameterView.{parameters_of}
 use Rattle.xt_world.proofs.Keys.{lookup-insert}
+use Rattle.xt_held.specs.RunView.{LastHolds}
 use Rattle.xt_held.specs.StylesheetView.{AreCompiled}
 use Rattle.xt_held.specs.View.{AreAllBelow, HasBelow, document_named, documents_of, last_in, made_of, numbered_document, outcome_in, steps_in, IsCurrent, IsKept}
 use Rattle.xt_held.specs.declared.held.Held.{Held}
@@ -25,15 +28,29 @@ use Rattle.xt_held.proofs.Below.{raised}
 use Rattle.xt_held.proofs.Keys.{map-copied}
 use denote.Ref.{Bor}
 
-pub current_by : (held : Held) (documents : Documents) (outcome : spec.Outcome) (compiled : Option Compiled) → documents_of held ≡ documents → outcome_in held ≡ outcome
-    → held.compiled ≡ compiled → IsOutcome documents outcome → AreCompiled documents.modules compiled → HasBelow (made_of held) held → IsCurrent held
-current_by held documents outcome compiled d o k is are below =
+same_last : (outcome now : spec.Outcome) (compiled kept : Option Compiled) (parameters given : Parameters) (source document : Option (Document ℕ)) (last pool : Pool)
+    → outcome ≡ now → compiled ≡ kept → parameters ≡ given → source ≡ document → last ≡ pool → LastHolds now kept given document pool
+    → LastHolds outcome compiled parameters source last
+same_last outcome now compiled kept parameters given source document last pool o k p s l h =
+    subst (λ (x : spec.Outcome). LastHolds x compiled parameters source last) (sym o)
+    (subst (λ (x : Option Compiled). LastHolds now x parameters source last) (sym k)
+    (subst (λ (x : Parameters). LastHolds now kept x source last) (sym p)
+    (subst (λ (x : Option (Document ℕ)). LastHolds now kept given x last) (sym s)
+    (subst (λ (x : Pool). LastHolds now kept given document x) (sym l) h))))
+
+pub current_by : (held : Held) (documents : Documents) (outcome : spec.Outcome) (compiled : Option Compiled) (source : Option (Document ℕ)) (last : Pool)
+    → documents_of held ≡ documents → outcome_in held ≡ outcome → held.compiled ≡ compiled → held.source ≡ source → last_in held ≡ last
+    → IsOutcome documents outcome → AreCompiled documents.modules compiled → HasBelow (made_of held) held
+    → LastHolds outcome compiled documents.parameters source last → IsCurrent held
+current_by held documents outcome compiled source last d o k s l is are below holds =
     let Is : Documents → spec.Outcome → Type 0 = λ ds x. IsOutcome ds x in
     let Are : Documents → Option Compiled → Type 0 = λ ds x. AreCompiled ds.modules x in
     record {
       outcome = subst (λ (ds : Documents). Is ds (outcome_in held)) (sym d) (subst (λ (x : spec.Outcome). Is documents x) (sym o) is);
       compiled = subst (λ (ds : Documents). Are ds held.compiled) (sym d) (subst (λ (x : Option Compiled). Are documents x) (sym k) are);
       below = below;
+      last = same_last (outcome_in held) outcome held.compiled compiled (parameters_of held.parameters) documents.parameters held.source source (last_in held) last
+          o k (ap (λ (ds : Documents). ds.parameters) d) s l holds;
     }
 
 -- where only modules were tried, which are as before
@@ -45,8 +62,8 @@ kept_by old new d n o k s m t l = record {
   outcome = o;
   steps = t;
   last = l;
-  current = λ now. current_by new (documents_of old) (outcome_in old) old.compiled d o k now.outcome now.compiled
-      (same_below (made_of old) (made_of new) old.source new.source old.modules.entries new.modules.entries n s m now.below);
+  current = λ now. current_by new (documents_of old) (outcome_in old) old.compiled old.source (last_in old) d o k s l now.outcome now.compiled
+      (same_below (made_of old) (made_of new) old.source new.source old.modules.entries new.modules.entries n s m now.below) now.last;
 }
   where
     same_below : (a b : ℕ) (s t : Option (Document ℕ)) (es fs : List (String Global × Document ℕ)) → b ≡ a → t ≡ s → fs ≡ es → AreAllBelow a s es → AreAllBelow b t fs

@@ -6,3 +6,5 @@ pub mod Giving
 pub mod Keeping
 pub mod Dropping
 pub mod Dropped
+pub mod Sparing
+pub mod Marked

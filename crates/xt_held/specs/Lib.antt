@@ -1,5 +1,6 @@
 pub mod Unread
 pub mod StylesheetView
 pub mod OutcomeView
+pub mod RunView
 pub mod Tried
 pub mod View

@@ -24,6 +24,7 @@ use Rattle.xt_record.specs.declared.pool.Pool.{Pool}
 use Rattle.xt_record.specs.declared.reuse.Steps.{Steps}
 use Rattle.xt_world.specs.ParameterView.{HasRoomForOne, parameters_of}
 use Rattle.xt_held.specs.OutcomeView.{Fits, outcome_of}
+use Rattle.xt_held.specs.RunView.{AnswersAsSome, LastHolds}
 use Rattle.xt_held.specs.StylesheetView.{AreCompiled, IsThere}
 use Rattle.xt_held.specs.declared.held.Held.{Held}
 use Rattle.xt_held.specs.declared.name.DocName.{DocName}
@@ -63,11 +64,18 @@ pub record AreAllBelow (first : ℕ) (document : Option (Document ℕ)) (entries
 abbrev pub HasBelow : ℕ → Held → Type 0
 HasBelow first held = AreAllBelow first held.source held.modules.entries
 
--- the outcome that is told is that of the documents that are held, the modules are what is held of that, and the next number is that of no node
+-- the outcome that is told is that of the documents that are held, the modules are what is held of that, and the next number is that of no node. Where
+-- there is a result, the questions of what its run kept have their answers in a run of what is held
 pub record IsCurrent (held : Held) : Type 0 where
   pub outcome : IsOutcome (documents_of held) (outcome_in held)
   pub compiled : AreCompiled (documents_of held).modules held.compiled
   pub below : HasBelow (made_of held) held
+  pub last : LastHolds (outcome_in held) held.compiled (parameters_of held.parameters) held.source held.last
+
+-- what is known of what the last run kept while a change is made ready
+pub record IsKnown (held : Held) : Type 0 where
+  pub answers : AnswersAsSome held.compiled
+  pub last : LastHolds (outcome_in held) held.compiled (parameters_of held.parameters) held.source held.last
 
 -- nothing of what is told has changed
 pub record IsKept (old new : Held) : Type 0 where
@@ -112,6 +120,13 @@ next_compiled (changes.Module name document compiled) held = compiled
 next_compiled (changes.Dropped name compiled) held = compiled
 next_compiled (changes.Parameter name value) held = held.compiled
 
+-- and of the source, with the numbers of its nodes
+abbrev pub next_source : Change → Held → Option (Document ℕ)
+next_source (changes.Source document) held = Some document
+next_source (changes.Module name document compiled) held = held.source
+next_source (changes.Dropped name compiled) held = held.source
+next_source (changes.Parameter name value) held = held.source
+
 -- what is held once it is adopted
 abbrev pub next_documents : Ready → Held → Documents
 next_documents ready held = changed_by ready.change (documents_of held)
@@ -148,7 +163,8 @@ IsBelow first (changes.Dropped name compiled) = Unit {0}
 IsBelow first (changes.Parameter name value) = Unit {0}
 
 -- it was made from what is held: its outcome is that of the documents that will be held, what was kept and counted goes with that, the modules are
--- what will be held of that, and the next number will be that of no node
+-- what will be held of that, the next number will be that of no node, and where there is a result, the questions of what its run kept will have their
+-- answers
 pub record IsMadeFrom (held : Held) (ready : Ready) : Type 0 where
   pub outcome : IsOutcome (next_documents ready held) (next_outcome ready)
   pub fits : Fits ready.came
@@ -156,6 +172,8 @@ pub record IsMadeFrom (held : Held) (ready : Ready) : Type 0 where
   pub room : HasRoom ready.change held
   pub others : HasBelow (next_made ready) held
   pub below : IsBelow (next_made ready) ready.change
+  pub last : LastHolds (next_outcome ready) (next_compiled ready.change held) (next_documents ready held).parameters (next_source ready.change held)
+      (next_last ready held)
 
 -- it changes the documents that are held so, after which so many nodes were made
 pub record IsReady (change : Documents → Documents) (nodes : ℕ) (held : Held) (ready : Ready) : Type 0 where

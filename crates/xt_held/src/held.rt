@@ -1,5 +1,5 @@
 // What a session holds.
-ghost use Rattle.std.specs.Prelude.{◌≡◌, ◌+◌, ◌<◌, ◌≤◌, ℕ, IfOk, string_bytes};
+ghost use Rattle.std.specs.Prelude.{◌≡◌, ◌+◌, ◌<◌, ◌≤◌, ℕ, List, IfOk, IfSome, Some, string_bytes};
 ghost use Rattle.std.specs.HashMap.{spare};
 ghost use Rattle.std.specs.Map.{lookup};
 ghost use Rattle.std.specs.Option.{option_copied};
@@ -9,14 +9,19 @@ ghost use Rattle.spec_document.specs.Forest.{size};
 ghost use Rattle.spec_document.specs.Scope.{root_scope};
 ghost use Rattle.spec_edit.specs.Edit.{edited_or_missing};
 ghost use Rattle.spec_move.specs.Move.{moved_document};
-ghost use Rattle.spec_run.specs.Documents.{no_documents, with_module, with_parameter, with_source, without_module};
+ghost use Rattle.spec_run.specs.Documents.{main_name, no_documents, with_module, with_parameter, with_source, without_module};
 ghost use Rattle.xt_build.specs.View.{Builds, document_in};
 ghost use Rattle.xt_edit.specs.View.{AreBelow, EditsPlain, edit_of};
+ghost use Rattle.spec_structure.specs.Modules.{Modules};
+ghost use Rattle.spec_run.specs.Outcome.{Comes};
+ghost use Rattle.xt_world.specs.ParameterView.{HasRoomForOne, parameters_of, with_value};
+ghost use Rattle.xt_held.specs.RunView.{AnswersAsSome, IsMadeBy, KeptHolds, KeptSpared};
+ghost use Rattle.xt_held.specs.StylesheetView.{AreCompiled};
 ghost use Rattle.xt_import.specs.View.{is_name, plain_of};
-ghost use Rattle.xt_world.specs.ParameterView.{HasRoomForOne};
-ghost use Rattle.xt_held.specs.OutcomeView.{no_steps, outcome_of, plain_in};
-ghost use Rattle.xt_held.specs.View.{HasBelow, HasRoom, IsBelow, IsCurrent, IsKept, IsMadeFrom, IsReady, Prepares, PreparesDrop, PreparesEdit, PreparesMove, PreparesParameter, changed_by, document_named, documents_of, edit_fault_of, last_in, made_of, next_compiled, next_documents, next_last, next_made, next_outcome, next_steps, numbered_document, outcome_in, steps_in, with_came, with_document};
+ghost use Rattle.xt_held.specs.OutcomeView.{Fits, no_steps, outcome_of, plain_in};
+ghost use Rattle.xt_held.specs.View.{HasBelow, HasRoom, IsBelow, IsCurrent, IsKept, IsKnown, IsMadeFrom, IsReady, Prepares, PreparesDrop, PreparesEdit, PreparesMove, PreparesParameter, changed_by, document_named, documents_of, edit_fault_of, last_in, made_of, next_compiled, next_documents, next_last, next_made, next_outcome, next_source, next_steps, numbered_document, outcome_in, steps_in, with_came, with_document};
 
+use crate::marking::{edit_marks, module_marks, parameter_marks};
 use crate::name::DocName;
 use crate::outcome::{Came, Outcome, at_no_element, no_steps, outcome_of};
 use crate::parameter::{TriedParameter, outcome_with, parameter_fault};
@@ -35,6 +40,7 @@ use xt_io::Line;
 use xt_names::Scope;
 use xt_record::{Pool, Steps};
 use xt_text::{Memory, Path, Text};
+use xt_touch::Marks;
 use xt_tree::{Doc, NodeId};
 use xt_world::Parameters;
 
@@ -80,7 +86,7 @@ impl Held {
         ensures { Prepares with_source self.now (document_of root_scope (made_of self.now) body.now) result }
     {
         match self.built(alloc, body) {
-            Ok(Built { document, next }) => Ok(self.source_ready(alloc, document, next)?),
+            Ok(Built { document, next }) => Ok(self.source_ready(alloc, None, document, next)?),
             Err(fault) => Err(edit_fault(fault)),
         }
     }
@@ -139,7 +145,7 @@ impl Held {
             }),
             None => {
                 let Edited { document, next } = self.edited(alloc, name, edit)?;
-                Ok(self.document_ready(alloc, name, document, next)?)
+                Ok(self.document_ready(alloc, name, Some(edit), document, next)?)
             }
         }
     }
@@ -160,7 +166,7 @@ impl Held {
         ensures kept { IsKept self.old self.new }
     {
         let Edited { document, next } = self.relocated(alloc, name, path, other)?;
-        Ok(self.document_ready(alloc, name, document, next)?)
+        Ok(self.document_ready(alloc, name, None, document, next)?)
     }
 
     /// Makes ready that the parameter of this name is given this value (XSLT 1.0, section 11.4): 8 where the value has
@@ -267,6 +273,7 @@ impl Held {
     fn edited(&self, alloc: Global, name: DocName<'_>, edit: &Edit) -> Result<Edited, EditFault>
         requires { IsCurrent self.now }
         ensures answer { EditsPlain (made_of self.now) result (edited_or_missing (made_of self.now) (edit_of edit.now) (document_named name.entry (documents_of self.now))) }
+        ensures edit { IfOk result (λ edited. IsMadeBy (Some edit.now) (numbered_document name.entry self.now) edited.document) }
         ensures below { IfOk result (λ edited. AreBelow edited.next.number edited.document) }
     {
         match self.found(name) {
@@ -299,36 +306,44 @@ impl Held {
         }
     }
 
-    // Makes ready that this document is that of this name, after which the next node has this number.
+    // Makes ready that this document is that of this name, after which the next node has this number. Where it was made by
+    // an edit of the present one, that tells what need not be asked again.
     fn document_ready(
         &mut self,
         alloc: Global,
         name: DocName<'_>,
+        edit: Option<&Edit>,
         document: Doc,
         next: NodeId,
     ) -> Result<Ready, Memory>
         requires current { IsCurrent self.old }
+        requires edit { IsMadeBy (option_copied edit) (numbered_document name self.old) document }
         requires grows { made_of self.old ≤ next.number }
         requires below { AreBelow next.number document }
         ensures ok { IfOk result (λ ready. IsReady (with_document name.entry (plain_of document)) next.number self.new ready) }
         ensures kept { IsKept self.old self.new }
     {
         match name {
-            DocName::Source => self.source_ready(alloc, document, next),
+            DocName::Source => self.source_ready(alloc, edit, document, next),
             DocName::Module(name) => self.module_ready(alloc, name, document, next),
         }
     }
 
     // The modules are what they are.
-    fn source_ready(&self, alloc: Global, document: Doc, next: NodeId) -> Result<Ready, Memory>
+    fn source_ready(
+        &self,
+        alloc: Global,
+        edit: Option<&Edit>,
+        document: Doc,
+        next: NodeId,
+    ) -> Result<Ready, Memory>
         requires current { IsCurrent self.now }
+        requires edit { IsMadeBy (option_copied edit) self.now.source document }
         requires grows { made_of self.now ≤ next.number }
         requires below { AreBelow next.number document }
         ensures { IfOk result (λ ready. IsReady (with_source (plain_of document)) next.number self.now ready) }
     {
-        let compiled = self.compiled.as_ref();
-        let last = &self.last;
-        let Ok(came) = outcome_of(alloc, compiled, &self.parameters, Some(&document), last) else {
+        let Ok(came) = self.outcome_with_source(alloc, edit, &document) else {
             drop(document);
             return Err(Memory);
         };
@@ -337,6 +352,59 @@ impl Held {
             next,
             came,
         })
+    }
+
+    // The outcome with this source, which the edit, where there is one, makes of the present one.
+    fn outcome_with_source(
+        &self,
+        alloc: Global,
+        edit: Option<&Edit>,
+        document: &Doc,
+    ) -> Result<Came, Memory>
+        requires known { IsKnown self.now }
+        requires edit { IsMadeBy (option_copied edit) self.now.source document.now }
+        ensures outcome { (modules : Modules) → AreCompiled modules self.now.compiled
+            → IfOk result (λ came. Comes modules (parameters_of self.now.parameters) (modules main_name) (Some (plain_of document.now)) (outcome_of came.outcome)) }
+        ensures fits { IfOk result (λ came. Fits came) }
+        ensures last { IfOk result (λ came. IfSome came.kept (KeptHolds self.now.compiled (parameters_of self.now.parameters) (Some document.now))) }
+    {
+        let marks = self.source_marks(alloc, edit, document)?;
+        let compiled = self.compiled.as_ref();
+        let parameters = &self.parameters;
+        let marked = marks.as_ref();
+        let came = outcome_of(
+            alloc,
+            compiled,
+            parameters,
+            Some(document),
+            &self.last,
+            marked,
+        );
+        drop(marks);
+        came
+    }
+
+    // What the edit marks, by which this document was made of the present source. Where nothing is known, all is marked.
+    fn source_marks(
+        &self,
+        alloc: Global,
+        edit: Option<&Edit>,
+        document: &Doc,
+    ) -> Result<Option<Marks>, Memory>
+        requires known { IsKnown self.now }
+        requires edit { IsMadeBy (option_copied edit) self.now.source document.now }
+        ensures { IfOk result (λ marks. KeptSpared self.now.compiled (parameters_of self.now.parameters) (Some document.now) self.now.last marks) }
+    {
+        if !self.outcome.is_done() {
+            return Ok(None);
+        }
+        match edit {
+            None => Ok(None),
+            Some(edit) => match &self.source {
+                None => Ok(None),
+                Some(old) => edit_marks(alloc, self.compiled.as_ref(), old, edit, document),
+            },
+        }
     }
 
     // There is room for one module more afterwards, so that `adopt` takes no memory.
@@ -358,9 +426,7 @@ impl Held {
             return Err(Memory);
         };
         let tried = compiled_with(alloc, &mut self.modules, name, document)?;
-        let source = self.source.as_ref();
-        let compiled = tried.compiled.as_ref();
-        let Ok(came) = outcome_of(alloc, compiled, &self.parameters, source, &self.last) else {
+        let Ok(came) = self.outcome_with_modules(alloc, tried.compiled.as_ref()) else {
             drop(tried);
             return Err(Memory);
         };
@@ -385,9 +451,7 @@ impl Held {
     {
         let dropped = name.copy(alloc)?;
         let compiled = compiled_without(alloc, &mut self.modules, name)?;
-        let source = self.source.as_ref();
-        let last = &self.last;
-        let Ok(came) = outcome_of(alloc, compiled.as_ref(), &self.parameters, source, last) else {
+        let Ok(came) = self.outcome_with_modules(alloc, compiled.as_ref()) else {
             drop(compiled);
             return Err(Memory);
         };
@@ -398,15 +462,54 @@ impl Held {
         })
     }
 
+    // The outcome where modules are this.
+    fn outcome_with_modules(
+        &self,
+        alloc: Global,
+        compiled: Option<&Compiled>,
+    ) -> Result<Came, Memory>
+        requires known { IsKnown self.now }
+        requires answers { AnswersAsSome (option_copied compiled) }
+        ensures outcome { (modules : Modules) → AreCompiled modules (option_copied compiled.entry)
+            → IfOk result (λ came. Comes modules (parameters_of self.now.parameters) (modules main_name) (documents_of self.now).source (outcome_of came.outcome)) }
+        ensures fits { IfOk result (λ came. Fits came) }
+        ensures last { IfOk result (λ came. IfSome came.kept (KeptHolds (option_copied compiled.entry) (parameters_of self.now.parameters) self.now.source)) }
+    {
+        let marks = self.marks_of_modules(alloc, compiled)?;
+        let source = self.source.as_ref();
+        let parameters = &self.parameters;
+        let marked = marks.as_ref();
+        let came = outcome_of(alloc, compiled, parameters, source, &self.last, marked);
+        drop(marks);
+        came
+    }
+
+    // What is marked where modules are this from now on. Where nothing is known, all is.
+    fn marks_of_modules(
+        &self,
+        alloc: Global,
+        compiled: Option<&Compiled>,
+    ) -> Result<Option<Marks>, Memory>
+        requires known { IsKnown self.now }
+        requires answers { AnswersAsSome (option_copied compiled) }
+        ensures { IfOk result (λ marks. KeptSpared (option_copied compiled.entry) (parameters_of self.now.parameters) self.now.source self.now.last marks) }
+    {
+        if !self.outcome.is_done() {
+            return Ok(None);
+        }
+        module_marks(alloc, self.compiled.as_ref(), compiled)
+    }
+
     // There is room for one parameter more afterwards, so that `adopt` takes no memory.
     fn parameter_ready(&mut self, alloc: Global, name: &Text, value: &Text) -> Result<Ready, Memory>
         requires { IsCurrent self.old }
         ensures ok { IfOk result (λ ready. IsReady (with_parameter name.now value.now) (made_of self.new) self.new ready) }
         ensures kept { IsKept self.old self.new }
     {
+        let marks = self.marks_of_parameter(alloc, name)?;
         let compiled = self.compiled.as_ref();
         let source = self.source.as_ref();
-        let last = &self.last;
+        let marked = marks.as_ref();
         let tried = outcome_with(
             alloc,
             compiled,
@@ -414,8 +517,11 @@ impl Held {
             name,
             value,
             source,
-            last,
-        )?;
+            &self.last,
+            marked,
+        );
+        drop(marks);
+        let tried = tried?;
         let TriedParameter { name, value, came } = tried;
         Ok(Ready {
             change: Change::Parameter(name, value),
@@ -424,10 +530,22 @@ impl Held {
         })
     }
 
+    // What is marked where the parameter of this name is given another value. Where nothing is known, all is.
+    fn marks_of_parameter(&self, alloc: Global, name: &Text) -> Result<Option<Marks>, Memory>
+        requires { IsKnown self.now }
+        ensures { (value : List ℕ) → IfOk result (λ marks. KeptSpared self.now.compiled (with_value name.now value (parameters_of self.now.parameters)) self.now.source self.now.last marks) }
+    {
+        if !self.outcome.is_done() {
+            return Ok(None);
+        }
+        parameter_marks(alloc, name)
+    }
+
     fn put(&mut self, change: Change)
         requires { HasRoom change self.old }
         ensures documents { documents_of self.new ≡ changed_by change (documents_of self.old) }
         ensures compiled { self.new.compiled ≡ next_compiled change self.old }
+        ensures source { self.new.source ≡ next_source change self.old }
         ensures last { last_in self.new ≡ last_in self.old }
         ensures below { (first : ℕ) → HasBelow first self.old → IsBelow first change → HasBelow first self.new }
     {
@@ -441,6 +559,7 @@ impl Held {
 
     fn put_source(&mut self, document: Doc)
         ensures documents { documents_of self.new ≡ with_source (plain_of document) (documents_of self.old) }
+        ensures source { self.new.source ≡ Some document }
         ensures compiled { self.new.compiled ≡ self.old.compiled }
         ensures last { last_in self.new ≡ last_in self.old }
         ensures below { (first : ℕ) → HasBelow first self.old → AreBelow first document → HasBelow first self.new }
@@ -451,6 +570,7 @@ impl Held {
     // There is room, so the insertion does not fail.
     fn put_module(&mut self, name: String, document: Doc, compiled: Option<Compiled>)
         requires { 0 < spare self.old.modules }
+        ensures source { self.new.source ≡ self.old.source }
         ensures documents { documents_of self.new ≡ with_module (chars (string_bytes name)) (plain_of document) (documents_of self.old) }
         ensures compiled { self.new.compiled ≡ compiled }
         ensures last { last_in self.new ≡ last_in self.old }
@@ -461,6 +581,7 @@ impl Held {
     }
 
     fn take_module(&mut self, name: &Text, compiled: Option<Compiled>)
+        ensures source { self.new.source ≡ self.old.source }
         ensures documents { documents_of self.new ≡ without_module name.now (documents_of self.old) }
         ensures compiled { self.new.compiled ≡ compiled }
         ensures last { last_in self.new ≡ last_in self.old }
@@ -473,6 +594,7 @@ impl Held {
     // There is room, so that no memory is taken.
     fn put_parameter(&mut self, name: String, value: Text)
         requires { HasRoomForOne self.old.parameters }
+        ensures source { self.new.source ≡ self.old.source }
         ensures documents { documents_of self.new ≡ with_parameter (chars (string_bytes name)) value (documents_of self.old) }
         ensures compiled { self.new.compiled ≡ self.old.compiled }
         ensures last { last_in self.new ≡ last_in self.old }

@@ -20,6 +20,7 @@
 #![tactic(auto)]
 
 mod held;
+mod marking;
 mod name;
 mod outcome;
 mod parameter;

@@ -1,5 +1,5 @@
 // What the transformation of documents comes to.
-ghost use Rattle.std.specs.Prelude.{◌≡◌, IfOk, None, Ok, Some, []};
+ghost use Rattle.std.specs.Prelude.{◌≡◌, IfOk, IfSome, None, Ok, Some, []};
 ghost use Rattle.std.specs.Option.{option_copied};
 ghost use Rattle.spec_document.specs.Forest.{Plain};
 ghost use Rattle.spec_expression.specs.declared.code.Code.TheVariants as codes;
@@ -17,8 +17,11 @@ ghost use Rattle.xt_compile.specs.View.{refusal_in};
 ghost use Rattle.xt_engine.specs.View.{refused_of};
 ghost use Rattle.xt_driver.specs.View.{whole_of};
 ghost use Rattle.xt_import.specs.View.{plain_of};
+ghost use Rattle.xt_record.specs.Sure.{AreAnswered, IsSure, Spares};
 ghost use Rattle.xt_world.specs.ParameterView.{parameters_of};
-ghost use Rattle.xt_held.specs.OutcomeView.{Fits, no_steps, outcome_of, plain_in};
+ghost use Rattle.xt_world.specs.View.{truth_in};
+ghost use Rattle.xt_held.specs.OutcomeView.{Fits, is_done, no_steps, outcome_of, plain_in};
+ghost use Rattle.xt_held.specs.RunView.{Ask, KeptHolds, KeptSpared, truth_seen};
 ghost use Rattle.xt_held.specs.StylesheetView.{AnswersAs, AreCompiled, IsCompiledFrom};
 
 use crate::stylesheet::{Compiled, copy_method};
@@ -36,6 +39,7 @@ use xt_runner::Runner;
 use xt_strip::seen;
 use xt_syntax::{Method, SpaceRules};
 use xt_text::{Memory, Path, Text};
+use xt_touch::Marks;
 use xt_tree::{Doc, NodeRef};
 use xt_world::{Parameters, SheetWorld, Stylesheet, same_run};
 
@@ -61,6 +65,18 @@ pub enum Outcome {
     },
 }
 
+impl Outcome {
+    /// Whether there is a result. Takes no memory.
+    pub(crate) fn is_done(&self) -> bool
+        ensures { result ≡ is_done (outcome_of self.now) }
+    {
+        match self {
+            Outcome::Done { .. } => true,
+            Outcome::Refused { .. } => false,
+        }
+    }
+}
+
 /// An outcome, with what its run leaves to the next and what it took.
 #[derive(Drop)]
 pub(crate) struct Came {
@@ -73,23 +89,26 @@ pub(crate) struct Came {
 
 /// The outcome of modules that are this on this source with these parameters: `S01` without a module `main`, else `S02` without a source,
 /// else the first static refusal of the modules, else the first dynamic refusal of the run, else the result. The run takes what still
-/// holds from what the last one kept.
+/// holds from what the last one kept, and asks again only what is marked. Where there are no marks, all is.
 pub(crate) fn outcome_of(
     alloc: Global,
     compiled: Option<&Compiled>,
     parameters: &Parameters,
     source: Option<&Doc>,
     last: &Pool,
+    marks: Option<&Marks>,
 ) -> Result<Came, Memory>
+    requires { KeptSpared (option_copied compiled) (parameters_of parameters.now) (option_copied source) last.now (option_copied marks) }
     ensures outcome { (modules : Modules) → AreCompiled modules (option_copied compiled.entry)
         → IfOk result (λ came. Comes modules (parameters_of parameters.now) (modules main_name) (plain_in source.entry) (outcome_of came.outcome)) }
     ensures fits { IfOk result (λ came. Fits came) }
+    ensures last { IfOk result (λ came. IfSome came.kept (KeptHolds (option_copied compiled.entry) (parameters_of parameters.now) (option_copied source.entry))) }
 {
     match compiled {
         None => Ok(with_no_run(at_no_element(alloc, StaticCode::NoMain))),
         Some(compiled) => match source {
             None => Ok(with_no_run(at_no_element(alloc, StaticCode::NoSource))),
-            Some(source) => transformed(alloc, compiled, parameters, source, last),
+            Some(source) => transformed(alloc, compiled, parameters, source, last, marks),
         },
     }
 }
@@ -135,14 +154,25 @@ fn transformed(
     parameters: &Parameters,
     source: &Doc,
     last: &Pool,
+    marks: Option<&Marks>,
 ) -> Result<Came, Memory>
+    requires { KeptSpared (Some compiled.now) (parameters_of parameters.now) (Some source.now) last.now (option_copied marks) }
     ensures outcome { (modules : Modules) (main : Plain) → IsCompiledFrom modules compiled.now
         → IfOk result (λ came. Comes modules (parameters_of parameters.now) (Some main) (Some (plain_of source.now)) (outcome_of came.outcome)) }
     ensures fits { IfOk result (λ came. Fits came) }
+    ensures last { IfOk result (λ came. IfSome came.kept (KeptHolds (Some compiled.now) (parameters_of parameters.now) (Some source.now))) }
 {
     match compiled {
         Compiled::Stylesheet(stylesheet, space_rules, method) => {
-            let over = whole_of_seen(alloc, stylesheet, space_rules, parameters, source, last)?;
+            let over = whole_of_seen(
+                alloc,
+                stylesheet,
+                space_rules,
+                parameters,
+                source,
+                last,
+                marks,
+            )?;
             let Ok(method) = copy_method(alloc, method) else {
                 drop(over);
                 return Err(Memory);
@@ -157,6 +187,7 @@ fn transformed(
 fn refused(alloc: Global, refusal: &StaticRefusal) -> Result<Came, Memory>
     ensures outcome { IfOk result (λ came. outcome_of came.outcome ≡ spec.Failed (refused_static (refusal_in refusal.now)) []) }
     ensures fits { IfOk result (λ came. Fits came) }
+    ensures kept { IfOk result (λ came. came.kept ≡ None) }
 {
     let place = copy_place(alloc, &refusal.place)?;
     Ok(with_no_run(Outcome::Refused {
@@ -182,13 +213,16 @@ fn whole_of_seen(
     parameters: &Parameters,
     source: &Doc,
     last: &Pool,
+    marks: Option<&Marks>,
 ) -> Result<Over, Memory>
-    ensures { (sheet : plain.Sheet) → AnswersAs stylesheet.now sheet → space_rules_of space_rules.now ≡ sheet.space_rules
+    requires { Spares (truth_seen stylesheet.now space_rules.now (parameters_of parameters.now) source.now) last.now (option_copied marks) }
+    ensures run { (sheet : plain.Sheet) → AnswersAs stylesheet.now sheet → space_rules_of space_rules.now ≡ sheet.space_rules
         → IfOk result (λ over. whole_of over.whole ≡ run_of (setting_of sheet (parameters_of parameters.now) (seen_of sheet.space_rules.rules (document_of (plain_of source.now))))) }
+    ensures kept { IfOk result (λ over. AreAnswered (truth_seen stylesheet.now space_rules.now (parameters_of parameters.now) source.now) over.kept) }
 {
     labels_do_not_matter();
     let seen = seen(alloc, source, space_rules.rules.as_slice())?;
-    whole(alloc, stylesheet, parameters, &seen, last)
+    whole(alloc, stylesheet, parameters, &seen, last, marks)
 }
 
 // The run of the stylesheet on this source, in a world of its own.
@@ -198,14 +232,17 @@ fn whole(
     parameters: &Parameters,
     source: &Doc,
     last: &Pool,
+    marks: Option<&Marks>,
 ) -> Result<Over, Memory>
-    ensures { (sheet : plain.Sheet) → AnswersAs stylesheet.now sheet
+    requires { Spares (truth_in stylesheet.now (parameters_of parameters.now) source.now) last.now (option_copied marks) }
+    ensures run { (sheet : plain.Sheet) → AnswersAs stylesheet.now sheet
         → IfOk result (λ over. whole_of over.whole ≡ run_of (setting_of sheet (parameters_of parameters.now) (document_of (plain_of source.now)))) }
+    ensures kept { IfOk result (λ over. AreAnswered (truth_in stylesheet.now (parameters_of parameters.now) source.now) over.kept) }
 {
     same_run();
     source.distinct_numbers();
     let root = NodeRef::of(source.root());
-    let mut reuse = Reuse::new(alloc, last)?;
+    let mut reuse = Reuse::new(alloc, last, marks)?;
     let mut world = SheetWorld::new(alloc, source, stylesheet, parameters);
     let mut engine = Runner::new();
     let whole = run(
@@ -221,7 +258,8 @@ fn whole(
 
 // The run with what it kept.
 fn with_kept(whole: Result<Whole, Memory>, reuse: Reuse<'_>) -> Result<Over, Memory>
-    ensures { IfOk result (λ over. whole ≡ Ok over.whole) }
+    ensures run { IfOk result (λ over. whole ≡ Ok over.whole) }
+    ensures kept { IfOk result (λ over. (ask : Ask) → IsSure ask reuse.entry → AreAnswered ask over.kept) }
 {
     match whole {
         Ok(whole) => {
@@ -239,6 +277,7 @@ fn with_kept(whole: Result<Whole, Memory>, reuse: Reuse<'_>) -> Result<Over, Mem
 fn ended(method: Option<Method>, over: Over) -> Result<Came, Memory>
     ensures outcome { IfOk result (λ came. outcome_of came.outcome ≡ outcome_by method (whole_of over.whole)) }
     ensures fits { IfOk result (λ came. Fits came) }
+    ensures kept { IfOk result (λ came. IfSome came.kept (λ kept. kept ≡ over.kept)) }
 {
     let Over { whole, kept, steps } = over;
     let Whole {
@@ -275,6 +314,7 @@ fn ended(method: Option<Method>, over: Over) -> Result<Came, Memory>
 fn refused_in_run(why: Refused, messages: Vec<Text>, steps: Steps) -> Came
     ensures outcome { outcome_of result.outcome ≡ spec.Failed (refused_dynamic (refused_of why)) messages.items }
     ensures fits { Fits result }
+    ensures kept { result.kept ≡ None }
 {
     Came {
         outcome: Outcome::Refused {

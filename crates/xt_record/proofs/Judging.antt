@@ -1,11 +1,12 @@
 -- What is sure of records that are added, and of those that are judged.
-use Rattle.std.proofs.Common.{◌≡◌, ℕ, zero, suc, ◌<◌, List, [], ◌∷◌, ◌++◌, length, get_or, set, replicate, refl, sym, ap, subst, ◌∙◌, arith}
+use Rattle.std.proofs.Common.{◌≡◌, ℕ, zero, suc, ◌<◌, List, [], ◌∷◌, ◌++◌, Option, length, get_or, set, replicate, refl, sym, ap, subst, ◌∙◌, arith}
 use Rattle.std.specs.declared.rc.Rc.{Rc}
 use Rattle.std.specs.declared.alloc.Global.{Global}
 use Rattle.spec_meaning.specs.Question.{Question, Answer}
 use Rattle.spec_node.specs.declared.node_ref.NodeRef.{NodeRef}
 use Rattle.xt_record.specs.View.{kept_in, AsksHold}
-use Rattle.xt_record.specs.Sure.{AllHold, AllJudged}
+use Rattle.xt_touch.specs.declared.marks.Marks.{Marks}
+use Rattle.xt_record.specs.Sure.{AllHold, AllJudged, AllSpared, AsksSpared}
 use Rattle.xt_record.specs.declared.record.Record.{Record}
 use Rattle.xt_record.specs.declared.reuse.Verdict.{Verdict}
 use Rattle.xt_record.specs.declared.reuse.Verdict.TheVariants.{Unasked, Holds, Fails}
@@ -66,3 +67,14 @@ pub read_at : (rs : List (Rc Record Global)) (i : ℕ) (r s : Rc Record Global) 
 read_at [] i r s lt at e = absurd (omega arith)
 read_at (x ∷ rs) zero r s lt at e = sym e ∙ ap (λ (y : Rc Record Global). y.value) at
 read_at (x ∷ rs) (suc i) r s lt at e = read_at rs i r s (omega arith) at e
+
+-- what is not marked of a record among others
+module _ (ask : Question NodeRef → Answer NodeRef) (marks : Option Marks) where
+  abbrev SparedIn : Record → Type 0
+  SparedIn r = AsksSpared ask marks (kept_in r).trace
+
+  pub all_spared_at : (rs : List (Rc Record Global)) (i : ℕ) (r : Rc Record Global) → i < length rs → r.value ≡ (get_or rs i r).value → AllSpared ask marks rs
+      → SparedIn r.value
+  all_spared_at [] i r lt at h = absurd (omega arith)
+  all_spared_at (x ∷ rs) zero r lt at h = subst SparedIn (sym at) h.0
+  all_spared_at (x ∷ rs) (suc i) r lt at h = all_spared_at rs i r (omega arith) at h.1

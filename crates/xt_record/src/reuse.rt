@@ -1,10 +1,11 @@
 // What a run may reuse.
 ghost use Rattle.std.specs.Prelude.{◌≡◌, ◌<◌, true, length, get_or, IfOk, IfSome, OnOk};
+ghost use Rattle.std.specs.Option.{option_copied};
 ghost use Rattle.spec_meaning.specs.Question.{Question, Answer};
 ghost use Rattle.spec_node.specs.declared.node_ref.NodeRef.{NodeRef};
 ghost use Rattle.xt_engine.specs.View.{call_of};
 ghost use Rattle.xt_record.specs.View.{AsksHold, MayServe, kept_in};
-ghost use Rattle.xt_record.specs.Sure.{IsSure};
+ghost use Rattle.xt_record.specs.Sure.{AreAnswered, IsSure, Spares};
 ghost use Rattle.xt_record.specs.declared.reuse.Verdict.TheVariants as Verdict;
 
 use crate::asking::asks_hold;
@@ -14,6 +15,7 @@ use std::rc::Rc;
 use xt_engine::Call;
 use xt_questions::World;
 use xt_text::Memory;
+use xt_touch::Marks;
 
 /// What a run cost, as far as it is counted.
 #[derive(Clone, Copy, Debug, PartialEq, Eq)]
@@ -53,6 +55,8 @@ pub struct Found {
 #[derive(Drop)]
 pub struct Reuse<'a> {
     last: &'a Pool,
+    // The questions of the last run that may have other answers now. Where there are none, each may.
+    marks: Option<&'a Marks>,
     // One for each record of the last run.
     verdicts: Vec<Verdict>,
     kept: Pool,
@@ -60,12 +64,14 @@ pub struct Reuse<'a> {
 }
 
 impl<'a> Reuse<'a> {
-    /// Nothing is kept yet and nothing counted, and no question of the last run was asked.
-    pub fn new(alloc: Global, last: &'a Pool) -> Result<Reuse<'a>, Memory>
-        ensures { IfOk result (λ reuse. (ask : Question NodeRef → Answer NodeRef) → IsSure ask reuse) }
+    /// Nothing is kept yet and nothing counted, and no question of the last run was asked. Those that are not marked have
+    /// the answers that they had.
+    pub fn new(alloc: Global, last: &'a Pool, marks: Option<&'a Marks>) -> Result<Reuse<'a>, Memory>
+        ensures { IfOk result (λ reuse. (ask : Question NodeRef → Answer NodeRef) → Spares ask last.now (option_copied marks.entry) → IsSure ask reuse) }
     {
         Ok(Reuse {
             last,
+            marks,
             verdicts: vec![in alloc; Verdict::Unasked; last.count()]?,
             kept: Pool::new(alloc),
             steps: Steps { ran: 0, asked: 0 },
@@ -74,8 +80,8 @@ impl<'a> Reuse<'a> {
 
     /// A record that may serve the call, with so many levels below the call's own: among those that this run kept, the
     /// latest first, and then among those of the last. From 0 on, or from where one that was found says; from there on
-    /// nothing is found twice. Where the questions of a record were not asked in this run, they are asked up to the
-    /// first that has another answer, and counted.
+    /// nothing is found twice. Where the questions of a record were not asked in this run, those that are marked are asked
+    /// up to the first that has another answer, and counted.
     pub fn find<W: World>(
         &mut self,
         alloc: Global,
@@ -245,7 +251,7 @@ impl<'a> Reuse<'a> {
         ensures name { W.name world.new ≡ W.name world.old }
     {
         let events = kept.ran.events.as_slice();
-        let holds = asks_hold(alloc, events, world, &mut self.steps)?;
+        let holds = asks_hold(alloc, events, self.marks, world, &mut self.steps)?;
         self.verdicts[turn] = verdict_of(holds);
         Ok(holds)
     }
@@ -264,10 +270,13 @@ impl<'a> Reuse<'a> {
         self.steps.ran = self.steps.ran.saturating_add(1);
     }
 
-    /// What the run kept, and what it cost.
-    pub fn ended(self) -> (Pool, Steps) {
+    /// What the run kept, whose questions have their answers, and what it cost.
+    pub fn ended(self) -> (Pool, Steps)
+        ensures { (ask : Question NodeRef → Answer NodeRef) → IsSure ask self.entry → AreAnswered ask result.0 }
+    {
         let Reuse {
             last,
+            marks,
             verdicts,
             kept,
             steps,

@@ -3,6 +3,7 @@ use Rattle.std.specs.Prelude.{Box}
 use Rattle.std.specs.declared.alloc.Global.{Global as Allocator}
 use Rattle.std.proofs.lemmas.List.{length-map}
 use Rattle.spec_meaning.specs.Stream.{Stream, filled, holes}
+use Rattle.spec_run.specs.Cut.{cut}
 use Rattle.spec_run.specs.Direct.{Outcome}
 use Rattle.spec_run.specs.Going.{Event}
 use Rattle.spec_run.specs.Meaning.{Setting, meaning}
@@ -25,8 +26,8 @@ use Rattle.xt_driver.specs.Referring.{entry_of, entries_of, Refers, Settles}
 use Rattle.xt_driver.specs.Stands.{level_of, Stands}
 use Rattle.xt_driver.specs.Steps.{Enters, Needs}
 use Rattle.xt_driver.specs.Along.{IsNext}
-use Rattle.xt_driver.specs.Lost.{IsServed, IsOfCall, IsOfReference}
-use Rattle.xt_driver.specs.Followed.{instance_of, IsFollowed}
+use Rattle.xt_driver.specs.Lost.{IsServed, IsOfReference}
+use Rattle.xt_driver.specs.Followed.{instance_of, IsFollowed, cut_with, EndsWith}
 use Rattle.xt_driver.proofs.NoHoles.{meaning_whole}
 use Rattle.xt_driver.proofs.Remembering.{keeps_all}
 use Rattle.xt_driver.proofs.Following.{lasts_done}
@@ -34,8 +35,8 @@ use Rattle.xt_driver.proofs.Standing.{stands_entered, stands_referred, stands_do
 use Rattle.xt_driver.proofs.Referring.{refers_given, refers_evaluated, aside_of, evaluates_as}
 use Rattle.xt_driver.proofs.Onward.{Onward, onward_begun, onward_entered, onward_referred, on_any, evaluation_ready, evaluation_all, remembers_there, lasts_fault}
 use Rattle.xt_driver.proofs.Serving.{followed_begun}
-use Rattle.xt_driver.proofs.Along.{rest_from, rest_all, rest_none, along_turn, along_even, along_ended, gone_holds, gone_entered, gone_referred, gone_on, left_entered, left_referred, lost_on, lost_there, keeps_there, served_there, served_as, served_not}
-use Rattle.xt_driver.proofs.Regaining.{some_of, regained_means, regained_lasts, regained_settles}
+use Rattle.xt_driver.proofs.Along.{rest_from, rest_all, rest_none, along_turn, along_even, along_ended, along_short, gone_holds, gone_entered, gone_referred, gone_on, gone_refused, left_entered, left_referred, lost_on, lost_there, keeps_there, served_there, served_as, served_not}
+use Rattle.xt_driver.proofs.Regaining.{some_of, regained_settles}
 use Rattle.xt_driver.proofs.Keeping.{done_kept}
 use Rattle.xt_driver.proofs.Coming.{Ask, sure_there, of_streamed, of_taken, of_takes, of_reference, as_served, on_is, on_all, of_evaluates}
 use Rattle.xt_driver.proofs.drive.+drive.Goals as goal
@@ -61,11 +62,11 @@ run_call-loop-standing-smaller-in-Continue-branch-4 g t c =
     let resumed = c.advance.ensures.truth ∙ inv.truth in
     let entered = ap call_of c.deref.ensures ∙ e.call in
     let same = meant_from (λ a. setting_of a globals) past below e.depth left (call_of c.deref.result.now) _ resumed e.levels entered in
-    let came = if_ok c.enter-came.result c.enter-came.ensures.meaning (λ x h. h ∙ same) in
+    let came = if_ok c.means-came.result c.means-came.ensures.meaning (λ x h. h ∙ same) in
     let next = c.take_stream.new.standing in
     let at = c.deref_mut-in-Enter.ensures.value in
-    let streamed : IsStreamed next.given c.enter-came.result ss (streams_of next.parts.items) = rw (sym at) c.in_ok-take_stream-in-Enter.ensures.streamed in
-    let onto = stands_entered l (prog old.run) (prog new.run) gift ss (streams_of next.parts.items) e.wanted e.depth c.enter-came.result next.given stands e.advances came streamed in
+    let streamed : IsStreamed next.given c.means-came.result ss (streams_of next.parts.items) = rw (sym at) c.in_ok-take_stream-in-Enter.ensures.streamed in
+    let onto = stands_entered l (prog old.run) (prog new.run) gift ss (streams_of next.parts.items) e.wanted e.depth c.means-came.result next.given stands e.advances came streamed in
     rw (c.take_stream.ensures.run, at, sym c.deref_mut.ensures.value) onto.less
 
 pub run_call-loop-standing-preserved-in-Continue-branch-4 : goal.run_call-loop-standing-preserved-in-Continue-branch-4
@@ -89,26 +90,26 @@ run_call-loop-standing-preserved-in-Continue-branch-4 g t c =
     let resumed = c.advance.ensures.truth ∙ inv.truth in
     let entered = ap call_of c.deref.ensures ∙ e.call in
     let same = meant_from (λ a. setting_of a globals) past below e.depth left (call_of c.deref.result.now) _ resumed e.levels entered in
-    let came = if_ok c.enter-came.result c.enter-came.ensures.meaning (λ x h. h ∙ same) in
+    let came = if_ok c.means-came.result c.means-came.ensures.meaning (λ x h. h ∙ same) in
     let next = c.take_stream.new.standing in
     let at = c.deref_mut-in-Enter.ensures.value in
-    let streamed : IsStreamed next.given c.enter-came.result ss (streams_of next.parts.items) = rw (sym at) c.in_ok-take_stream-in-Enter.ensures.streamed in
-    let onto = stands_entered l (prog old.run) (prog new.run) gift ss (streams_of next.parts.items) e.wanted e.depth c.enter-came.result next.given stands e.advances came streamed in
+    let streamed : IsStreamed next.given c.means-came.result ss (streams_of next.parts.items) = rw (sym at) c.in_ok-take_stream-in-Enter.ensures.streamed in
+    let onto = stands_entered l (prog old.run) (prog new.run) gift ss (streams_of next.parts.items) e.wanted e.depth c.means-came.result next.given stands e.advances came streamed in
     let on : Stands l (prog next.run) (gift_of next.given) (streams_of next.parts.items) = rw (c.take_stream.ensures.run, at) onto.stands in
     let first = entries_of c.args.memo.now in
     let held = entries_of c.loop-standing.memo in
-    let more = entries_of c.enter-came.new.memo in
+    let more = entries_of c.means-came.new.memo in
     let before : Onward l first held new.spare (prog old.run) gift = rw (c.advance.ensures.spare, c.deref_mut.ensures.value) inv.onward in
     let fewer : next.spare ≤ new.spare = rw (sym at) c.take_stream.ensures.spare in
-    let onward = onward_entered (λ a. setting_of a globals) past below l.call first held more new.spare next.spare (prog old.run) (prog new.run) gift e.wanted e.depth left (call_of c.deref.result.now) c.enter-came.result next.given ss
-    (streams_of next.parts.items) resumed before e.advances e.levels entered c.enter-came.ensures.keeps c.enter-came.ensures.lasts streamed fewer c.take_stream.ensures.inner in
+    let onward = onward_entered (λ a. setting_of a globals) past below l.call first held more new.spare next.spare (prog old.run) (prog new.run) gift e.wanted e.depth left (call_of c.deref.result.now) c.means-came.result next.given ss
+    (streams_of next.parts.items) resumed before e.advances e.levels entered c.means-came.ensures.keeps c.means-came.ensures.lasts streamed fewer c.take_stream.ensures.inner in
     let onward_next : Onward l first more next.spare (prog next.run) (gift_of next.given) = rw (c.take_stream.ensures.run, at) onward in
     record {
       stands = on;
       onward = onward_next;
-      sure = sure_there resumed (of_streamed next.given ss (streams_of next.parts.items) c.enter-came.result streamed c.enter-came.ensures.sure);
-      truth = c.enter-came.ensures.truth ∙ resumed;
-      name = c.enter-came.ensures.name ∙ c.advance.ensures.name ∙ inv.name;
+      sure = sure_there resumed (of_streamed next.given ss (streams_of next.parts.items) c.means-came.result streamed c.means-came.ensures.sure);
+      truth = c.means-came.ensures.truth ∙ resumed;
+      name = c.means-came.ensures.name ∙ c.advance.ensures.name ∙ inv.name;
     }
 
 pub run_call-loop-standing-smaller : goal.run_call-loop-standing-smaller
@@ -303,8 +304,8 @@ run_call-returns-in-Failed-clause-meaning g t c =
     let adv : Advances truth gift (prog old.run) (prog new.run) (Err fault) = stepped gift (prog old.run) (prog new.run) l.call below inv.truth c.in-Failed.is c.in_ok-inner.ensures.steps in
     stands_fault l (prog old.run) (prog new.run) gift ss fault c.in_ok-outcome-in-Failed.outcome.value stands adv c.in_ok-outcome-in-Failed.ensures
 
-pub run_call-enter-came-requires : goal.run_call-enter-came-requires
-run_call-enter-came-requires g t c =
+pub run_call-means-came-requires : goal.run_call-means-came-requires
+run_call-means-came-requires g t c =
     let truth = (g.W.World.state c.args.world.now).truth in
     let prog = g.E.Engine.progress in
     let globals = c.args.globals.now in
@@ -321,7 +322,7 @@ run_call-enter-came-requires g t c =
     let resumed = c.advance.ensures.truth ∙ inv.truth in
     let at : Ask → Setting NodeRef = λ a. setting_of a globals in
     let remembers = remembers_there at past (entries_of c.loop-standing.memo) resumed inv.onward.keeps.remembers in
-    λ κs lives. (omega (arith, room), (lives.0, (lives.1.0, (lives.1.1, (remembers, (sure_there (sym resumed) inv.sure, lost_there at past c.args.lost.now resumed c.requires.lost))))))
+    λ κs lives. (omega (arith, room), (lives.0, (lives.1.0, (lives.1.1, (remembers, sure_there (sym resumed) inv.sure)))))
 
 pub run_call-need-came-requires : goal.run_call-need-came-requires
 run_call-need-came-requires g t c =
@@ -387,14 +388,14 @@ follow-loop-event-preserved g t c =
     let turned = along_turn s i first held way.spare k ss events n e (omega arith) c.event-item.is inv.followed in
     let before : IsFollowed s i first held old.spare k (streams_of old.parts.items) (event_of e ∷ rest_from events (n + 1)) = rw c.deref_mut.ensures.value turned in
     record {
-      followed = gone_on (λ a. setting_of a globals) i first held more old next (event_of e) k (rest_from events (n + 1)) c.in_ok-go_on.field-0 inv.truth c.in_ok-go_on.ensures.goes c.in-None.is before;
+      followed = gone_on (λ a. setting_of a globals) i first held more old next (event_of e) k (rest_from events (n + 1)) c.in_ok-go_on.field-0 inv.truth c.in_ok-go_on.ensures.goes c.in-On.is before;
       sure = sure_there inv.truth c.in_ok-go_on.ensures.sure;
       truth = c.go_on.ensures.truth ∙ inv.truth;
       name = c.go_on.ensures.name ∙ inv.name;
     }
 
-pub follow-returns-in-Some-clause-keeps : goal.follow-returns-in-Some-clause-keeps
-follow-returns-in-Some-clause-keeps g t c =
+pub follow-returns-in-Not-clause-keeps : goal.follow-returns-in-Not-clause-keeps
+follow-returns-in-Not-clause-keeps g t c =
     let truth = (g.W.World.state c.args.world.now).truth in
     let globals = c.args.globals.now in
     let s = setting_of truth globals in
@@ -410,8 +411,8 @@ follow-returns-in-Some-clause-keeps g t c =
     let held = entries_of c.loop-event.memo in
     keeps_there (λ a. setting_of a globals) past first held (entries_of c.go_on.new.memo) inv.truth inv.followed.keeps c.in_ok-go_on.ensures.keeps
 
-pub follow-returns-in-Some-clause-served : goal.follow-returns-in-Some-clause-served
-follow-returns-in-Some-clause-served g t c =
+pub follow-returns-in-Not-clause-served : goal.follow-returns-in-Not-clause-served
+follow-returns-in-Not-clause-served g t c =
     let truth = (g.W.World.state c.args.world.now).truth in
     let globals = c.args.globals.now in
     let s = setting_of truth globals in
@@ -425,10 +426,10 @@ follow-returns-in-Some-clause-served g t c =
     let way = c.loop-event.way.value in
     let ss = streams_of way.parts.items in
     let held = entries_of c.loop-event.memo in
-    lost_on (λ a. setting_of a globals) i held (entries_of c.go_on.new.memo) c.deref_mut.result.now c.go_on.new.way (event_of c.event-item.result) c.in_ok-go_on.field-0 c.in-Some.lost inv.truth c.in_ok-go_on.ensures.goes c.in-Some.is
+    lost_on (λ a. setting_of a globals) i held (entries_of c.go_on.new.memo) c.deref_mut.result.now c.go_on.new.way (event_of c.event-item.result) c.in_ok-go_on.field-0 c.in-Not.lost inv.truth c.in_ok-go_on.ensures.goes c.in-Not.is
 
-pub follow-returns-in-Some-clause-sure : goal.follow-returns-in-Some-clause-sure
-follow-returns-in-Some-clause-sure g t c =
+pub follow-returns-in-Not-clause-sure : goal.follow-returns-in-Not-clause-sure
+follow-returns-in-Not-clause-sure g t c =
     let truth = (g.W.World.state c.args.world.now).truth in
     let globals = c.args.globals.now in
     let s = setting_of truth globals in
@@ -443,6 +444,89 @@ follow-returns-in-Some-clause-sure g t c =
     let ss = streams_of way.parts.items in
     let held = entries_of c.loop-event.memo in
     sure_there inv.truth c.in_ok-go_on.ensures.sure
+
+pub follow-cut_short-requires : goal.follow-cut_short-requires
+follow-cut_short-requires g t c =
+    let truth = (g.W.World.state c.args.world.now).truth in
+    let globals = c.args.globals.now in
+    let s = setting_of truth globals in
+    let past = past_of globals in
+    let i = instance_of (call_of c.args.call.now) c.args.below past in
+    let first = entries_of c.args.memo.now in
+    let k = kept_in c.args.kept.now in
+    let inv = c.loop-event.invariant in
+    let n = c.loop-event.event-index in
+    let events = c.as_slice-events.result.now in
+    let way = c.loop-event.way.value in
+    let ss = streams_of way.parts.items in
+    let held = entries_of c.loop-event.memo in
+    let e = c.event-item.result in
+    let more = entries_of c.go_on.new.memo in
+    let old = c.deref_mut.result.now in
+    let next = c.go_on.new.way in
+    let turned = along_turn s i first held way.spare k ss events n e (omega arith) c.event-item.is inv.followed in
+    let before : IsFollowed s i first held old.spare k (streams_of old.parts.items) (event_of e ∷ rest_from events (n + 1)) = rw c.deref_mut.ensures.value turned in
+    let last = c.in-Refused.last in
+    let ends : EndsWith s i k (streams_of next.parts.items) (outcome_of last.value).ending
+    = gone_refused (λ a. setting_of a globals) i first held more old next (event_of e) k (rest_from events (n + 1)) c.in_ok-go_on.field-0 last inv.truth c.in_ok-go_on.ensures.goes c.in-Refused.is before in
+    let parts : c.as_slice.result.now ≡ next.parts.items = rw (sym c.deref.ensures) c.as_slice.ensures.value in
+    let many : length (streams_of next.parts.items) ≡ length c.as_slice.result.now = length-map next.parts.items _ ∙ ap length (sym parts) in
+    let some = ends.some in
+    let fit = ends.fit in
+    record { some = omega (arith, some, many); fit = omega (arith, fit, many) }
+
+pub follow-returns-in-Refused-clause-keeps : goal.follow-returns-in-Refused-clause-keeps
+follow-returns-in-Refused-clause-keeps g t c =
+    let truth = (g.W.World.state c.args.world.now).truth in
+    let globals = c.args.globals.now in
+    let s = setting_of truth globals in
+    let past = past_of globals in
+    let i = instance_of (call_of c.args.call.now) c.args.below past in
+    let first = entries_of c.args.memo.now in
+    let k = kept_in c.args.kept.now in
+    let inv = c.loop-event.invariant in
+    let n = c.loop-event.event-index in
+    let events = c.as_slice-events.result.now in
+    let way = c.loop-event.way.value in
+    let ss = streams_of way.parts.items in
+    let held = entries_of c.loop-event.memo in
+    keeps_there (λ a. setting_of a globals) past first held (entries_of c.go_on.new.memo) inv.truth inv.followed.keeps c.in_ok-go_on.ensures.keeps
+
+pub follow-returns-in-Refused-clause-served : goal.follow-returns-in-Refused-clause-served
+follow-returns-in-Refused-clause-served g t c =
+    let truth = (g.W.World.state c.args.world.now).truth in
+    let globals = c.args.globals.now in
+    let s = setting_of truth globals in
+    let past = past_of globals in
+    let i = instance_of (call_of c.args.call.now) c.args.below past in
+    let first = entries_of c.args.memo.now in
+    let k = kept_in c.args.kept.now in
+    let inv = c.loop-event.invariant in
+    let n = c.loop-event.event-index in
+    let events = c.as_slice-events.result.now in
+    let way = c.loop-event.way.value in
+    let ss = streams_of way.parts.items in
+    let held = entries_of c.loop-event.memo in
+    let e = c.event-item.result in
+    let more = entries_of c.go_on.new.memo in
+    let old = c.deref_mut.result.now in
+    let next = c.go_on.new.way in
+    let turned = along_turn s i first held way.spare k ss events n e (omega arith) c.event-item.is inv.followed in
+    let before : IsFollowed s i first held old.spare k (streams_of old.parts.items) (event_of e ∷ rest_from events (n + 1)) = rw c.deref_mut.ensures.value turned in
+    let last = c.in-Refused.last in
+    let ends : EndsWith s i k (streams_of next.parts.items) (outcome_of last.value).ending
+    = gone_refused (λ a. setting_of a globals) i first held more old next (event_of e) k (rest_from events (n + 1)) c.in_ok-go_on.field-0 last inv.truth c.in_ok-go_on.ensures.goes c.in-Refused.is before in
+    let parts : c.as_slice.result.now ≡ next.parts.items = rw (sym c.deref.ensures) c.as_slice.ensures.value in
+    let many : length (streams_of next.parts.items) ≡ length c.as_slice.result.now = length-map next.parts.items _ ∙ ap length (sym parts) in
+    let o = c.in_ok-short-in-Refused.short in
+    let made : outcome_of o.value ≡ cut_with k (streams_of next.parts.items) (outcome_of last.value).ending
+    = c.in_ok-short-in-Refused.ensures ∙ ap (λ m. record { content = filled (cut (m - 1) k.content) (streams_of c.as_slice.result.now); ending = (outcome_of last.value).ending }) (sym many)
+    ∙ ap (λ xs. record { content = filled (cut (length (streams_of next.parts.items) - 1) k.content) (streams_of xs); ending = (outcome_of last.value).ending }) parts in
+    along_short s i (entries_of c.go_on.new.memo) k (streams_of next.parts.items) (outcome_of last.value).ending o ends c.a_record_lasts.ensures c.requires.serves.of_call c.requires.serves.levels made
+
+pub follow-returns-in-Refused-clause-sure : goal.follow-returns-in-Refused-clause-sure
+follow-returns-in-Refused-clause-sure g t c =
+    sure_there c.loop-event.invariant.truth c.in_ok-go_on.ensures.sure
 
 pub follow-done-requires : goal.follow-done-requires
 follow-done-requires g t c =
@@ -460,7 +544,7 @@ follow-done-requires g t c =
     let ss = streams_of way.parts.items in
     let held = entries_of c.loop-event.memo in
     let none = rest_none events n (omega arith) in
-    let parts : c.as_slice.result.now ≡ way.parts.items = rw (sym c.deref.ensures) c.as_slice.ensures.value in
+    let parts : c.as_slice-2.result.now ≡ way.parts.items = rw (sym c.deref-2.ensures) c.as_slice-2.ensures.value in
     along_even s i first held way.spare k ss (rest_from events n) inv.followed none ∙ length-map way.parts.items _ ∙ ap length (sym parts)
 
 pub follow-returns-clause-served : goal.follow-returns-clause-served
@@ -479,9 +563,9 @@ follow-returns-clause-served g t c =
     let ss = streams_of way.parts.items in
     let held = entries_of c.loop-event.memo in
     let none = rest_none events n (omega arith) in
-    let parts : c.as_slice.result.now ≡ way.parts.items = rw (sym c.deref.ensures) c.as_slice.ensures.value in
+    let parts : c.as_slice-2.result.now ≡ way.parts.items = rw (sym c.deref-2.ensures) c.as_slice-2.ensures.value in
     let o = c.in_ok-outcome.outcome in
-    let low : o.value.spare ≤ way.spare = rw (sym c.deref-2.ensures) c.in_ok-outcome.ensures.spare in
+    let low : o.value.spare ≤ way.spare = rw (sym c.deref-3.ensures) c.in_ok-outcome.ensures.spare in
     let made = c.in_ok-outcome.ensures.outcome ∙ ap (λ xs. record { content = filled k.content (streams_of xs); ending = k.ending }) parts in
     along_ended s i first held way.spare k ss (rest_from events n) o inv.followed none c.a_record_lasts.ensures c.requires.serves.of_call c.requires.serves.levels low c.in_ok-outcome.ensures.height made
 
@@ -521,7 +605,7 @@ go_on-means-came-requires g t c =
 
 pub go_on-returns-in-Enter-clause-keeps : goal.go_on-returns-in-Enter-clause-keeps
 go_on-returns-in-Enter-clause-keeps g t c =
-    on_ok c.take_entered.result c.take_entered.ensures (λ l h. of_takes l _ _ _ _ c.means-came.result h c.means-came.ensures.keeps)
+    on_ok c.take_entered.result c.take_entered.ensures (λ l h. of_takes l _ _ c.means-came.result h c.means-came.ensures.keeps)
 
 pub go_on-returns-in-Enter-clause-goes : goal.go_on-returns-in-Enter-clause-goes
 go_on-returns-in-Enter-clause-goes g t c =
@@ -540,7 +624,7 @@ go_on-returns-in-Enter-clause-goes g t c =
 
 pub go_on-returns-in-Enter-clause-sure : goal.go_on-returns-in-Enter-clause-sure
 go_on-returns-in-Enter-clause-sure g t c =
-    on_ok c.take_entered.result c.take_entered.ensures (λ l h. of_takes l _ _ _ _ c.means-came.result h c.means-came.ensures.sure)
+    on_ok c.take_entered.result c.take_entered.ensures (λ l h. of_takes l _ _ c.means-came.result h c.means-came.ensures.sure)
 
 pub go_on-refer-came-requires : goal.go_on-refer-came-requires
 go_on-refer-came-requires g t c =
@@ -760,32 +844,6 @@ means-returns-in_ok-ended-in-Not-clause-meaning g t c =
 pub means-returns-in_ok-ended-in-Not-clause-sure : goal.means-returns-in_ok-ended-in-Not-clause-sure
 means-returns-in_ok-ended-in-Not-clause-sure g t c =
     on_all c.keep_ended.result c.keep_ended.ensures.sure (λ keeps. sure_there c.serve.ensures.truth (keeps (g.W.World.state c.serve.new.world).truth c.in_ok-ended-in-Not.ensures.sure c.in_ok-ended-in-Not.ensures.asks))
-
-pub enter-returns-in-Some-clause-keeps : goal.enter-returns-in-Some-clause-keeps
-enter-returns-in-Some-clause-keeps g t c =
-    keeps_all c.requires.remembers
-
-pub enter-returns-in-Some-clause-lasts : goal.enter-returns-in-Some-clause-lasts
-enter-returns-in-Some-clause-lasts g t c =
-    let truth = (g.W.World.state c.args.world.now).truth in
-    let globals = c.args.globals.now in
-    let s = setting_of truth globals in
-    let past = past_of globals in
-    let lost = c.args.lost.now in
-    let o = c.in-Some.outcome in
-    let is = some_of (λ x. IsOfCall lost (call_of c.args.call.now) c.args.levels x.value) c.in_ok-outcome.field-0 o c.in-Some.is c.in_ok-outcome.ensures in
-    regained_lasts s past lost (call_of c.args.call.now) (call_of c.args.call.now) c.args.levels _ (entries_of c.args.memo.now) o.value is
-
-pub enter-returns-in-Some-clause-meaning : goal.enter-returns-in-Some-clause-meaning
-enter-returns-in-Some-clause-meaning g t c =
-    let truth = (g.W.World.state c.args.world.now).truth in
-    let globals = c.args.globals.now in
-    let s = setting_of truth globals in
-    let past = past_of globals in
-    let lost = c.args.lost.now in
-    let o = c.in-Some.outcome in
-    let is = some_of (λ x. IsOfCall lost (call_of c.args.call.now) c.args.levels x.value) c.in_ok-outcome.field-0 o c.in-Some.is c.in_ok-outcome.ensures in
-    regained_means s past lost (call_of c.args.call.now) c.args.levels o.value c.requires.lost is
 
 pub need-returns-in-Some-clause-keeps : goal.need-returns-in-Some-clause-keeps
 need-returns-in-Some-clause-keeps g t c =

@@ -19,9 +19,6 @@ decreases-means g l = 8 * l.levels
 abbrev pub decreases-refer : goal.decreases-refer
 decreases-refer g l = 1 + 8 * l.levels
 
-abbrev pub decreases-enter : goal.decreases-enter
-decreases-enter g l = 1 + 8 * l.levels
-
 abbrev pub decreases-need : goal.decreases-need
 decreases-need g l = 2 + 8 * l.levels
 

@@ -6,10 +6,10 @@ use Rattle.spec_run.specs.Meaning.{at_turn, root_call, run}
 use Rattle.xt_engine.specs.View.{named_of}
 use Rattle.xt_driver.specs.View.{held_of, setting_in}
 use Rattle.xt_driver.specs.Referring.{entries_of}
-use Rattle.xt_driver.proofs.Standing.{if_ok}
+use Rattle.xt_driver.proofs.Standing.{if_ok, on_ok}
 use Rattle.xt_driver.proofs.Turns.{root_here, turn_made, next_turn, turn_held, turn_refused, last_turn}
 use Rattle.xt_driver.proofs.Turning.{remembers_here, turns_here, remembers_next, nothing_yet}
-use Rattle.xt_driver.proofs.Coming.{sure_there}
+use Rattle.xt_driver.proofs.Coming.{of_finished, sure_there}
 use Rattle.xt_driver.proofs.whole.run_in.Goals as goal
 
 pub loop-global-init : goal.loop-global-init
@@ -87,6 +87,10 @@ returns-in-Some-clause-run g c =
     let refused = turn_refused s levels (named_of n) gs values all told more call t.held c.in_ok-refusal.refusal why made c.in-Some.is c.in_ok-refusal.ensures.held in
     if_ok c.halted.result c.halted.ensures (λ w h. h ∙ refused ∙ sym next ∙ inv.same)
 
+pub returns-in-Some-clause-sure : goal.returns-in-Some-clause-sure
+returns-in-Some-clause-sure g c =
+    on_ok c.halted.result c.halted.ensures (λ w h. sure_there c.loop-global.invariant.truth c.in_ok-turned.ensures.sure)
+
 pub first_means-came-requires-clause-sure : goal.first_means-came-requires-clause-sure
 first_means-came-requires-clause-sure g c =
     let inv = c.loop-global.invariant in
@@ -113,3 +117,9 @@ returns-clause-run g c =
     let here = root_here root named levels (c.root_call.ensures.truth ∙ inv.truth) c.as_slice-2.ensures.value refl same in
     let came = if_ok c.first_means-came.result c.first_means-came.ensures.meaning (λ x h. h ∙ here) in
     if_ok c.finished.result c.finished.ensures (λ w f. last_turn s levels named i values told call c.first_means-came.result w (omega arith) came f ∙ inv.same)
+
+pub returns-clause-sure : goal.returns-clause-sure
+returns-clause-sure g c =
+    on_ok c.finished.result c.finished.ensures (λ w f.
+    sure_there (c.root_call.ensures.truth ∙ c.loop-global.invariant.truth)
+    (of_finished w c.loop-global.told.items c.first_means-came.result f c.first_means-came.ensures.sure))

@@ -1,11 +1,35 @@
+use Rattle.std.proofs.Common.{Some, subst, sym}
+use Rattle.std.specs.Prelude.{IfOk, IfSome}
+use Rattle.std.specs.Option.{option_copied}
 use Rattle.xt_driver.specs.View.{whole_of}
 use Rattle.xt_import.specs.View.{plain_of}
 use Rattle.xt_world.specs.ParameterView.{parameters_of}
-use Rattle.xt_held.proofs.Coming.{runs_so}
+use Rattle.xt_record.specs.declared.pool.Pool.{Pool}
+use Rattle.xt_held.specs.RunView.{KeptHolds, KeptSpared}
+use Rattle.xt_held.specs.declared.stylesheet.Compiled.{Compiled}
+use Rattle.xt_held.specs.declared.stylesheet.Compiled.TheVariants.{Stylesheet}
+use Rattle.xt_held.proofs.Coming.{ended_so, none_kept, runs_so}
 use Rattle.xt_held.proofs.outcome.transformed.Goals as goal
 
 pub returns-in-Ok-clause-outcome : goal.returns-in-Ok-clause-outcome
 returns-in-Ok-clause-outcome c modules main h =
     runs_so modules (parameters_of c.args.parameters.now) main (plain_of c.args.source.now) c.args.compiled.now c.in-Stylesheet.stylesheet c.in-Stylesheet.space_rules
     c.in-Stylesheet.method c.in-Ok.method (whole_of c.in_ok-over-in-Stylesheet.over.whole) c.ended.result c.in-Stylesheet.is
-    c.in-Ok.ensures c.in_ok-over-in-Stylesheet.ensures c.ended.ensures.outcome h
+    c.in-Ok.ensures c.in_ok-over-in-Stylesheet.ensures.run c.ended.ensures.outcome h
+
+pub whole_of_seen-requires : goal.whole_of_seen-requires
+whole_of_seen-requires c =
+    subst (λ (compiled : Compiled). KeptSpared (Some compiled) (parameters_of c.args.parameters.now) (Some c.args.source.now) c.args.last.now (option_copied c.args.marks))
+    c.in-Stylesheet.is c.requires
+
+pub returns-in-Ok-clause-last : goal.returns-in-Ok-clause-last
+returns-in-Ok-clause-last c =
+    let Holds : Compiled → Pool → Type 0 = λ compiled pool. KeptHolds (Some compiled) (parameters_of c.args.parameters.now) (Some c.args.source.now) pool in
+    subst (λ (compiled : Compiled). IfOk c.ended.result (λ came. IfSome came.kept (Holds compiled))) (sym c.in-Stylesheet.is)
+    (ended_so c.ended.result c.in_ok-over-in-Stylesheet.over.kept
+    (Holds (Stylesheet c.in-Stylesheet.stylesheet c.in-Stylesheet.space_rules c.in-Stylesheet.method)) c.ended.ensures.kept
+    c.in_ok-over-in-Stylesheet.ensures.kept)
+
+pub returns-in-Refused-clause-last : goal.returns-in-Refused-clause-last
+returns-in-Refused-clause-last c =
+    none_kept c.refused.result (KeptHolds (Some c.args.compiled.now) (parameters_of c.args.parameters.now) (Some c.args.source.now)) c.refused.ensures.kept

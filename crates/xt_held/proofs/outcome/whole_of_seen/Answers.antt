@@ -1,11 +1,29 @@
-use Rattle.std.proofs.Common.{map, ap, ◌∙◌}
+use Rattle.std.proofs.Common.{ℕ, List, map, ap, subst, sym, ◌∙◌}
+use Rattle.std.specs.Prelude.{IfOk}
+use Rattle.std.specs.Option.{option_copied}
+use Rattle.spec_document.specs.Forest.{Document}
+use Rattle.spec_seen.specs.Seen.{seen}
 use Rattle.spec_stylesheet.specs.Sheet as plain
 use Rattle.xt_syntax.specs.SheetView.{space_rule_of}
+use Rattle.xt_syntax.specs.declared.space_rules.SpaceRule.{SpaceRule}
+use Rattle.xt_record.specs.Sure.{AreAnswered, Spares}
 use Rattle.xt_world.specs.ParameterView.{parameters_of}
+use Rattle.xt_world.specs.View.{truth_in}
 use Rattle.xt_held.proofs.Coming.{seen_so}
 use Rattle.xt_held.proofs.outcome.whole_of_seen.Goals as goal
 
-pub returns : goal.returns
-returns c sheet answers rules =
+pub whole-requires : goal.whole-requires
+whole-requires c =
+    subst (λ (source : Document ℕ). Spares (truth_in c.args.stylesheet.now (parameters_of c.args.parameters.now) source) c.args.last.now (option_copied c.args.marks))
+    (sym (c.in_ok-seen.ensures ∙ ap (λ (rs : List SpaceRule). seen (map space_rule_of rs) c.args.source.now) c.as_slice.ensures.value)) c.requires
+
+pub returns-clause-run : goal.returns-clause-run
+returns-clause-run c = λ sheet answers rules.
     seen_so c.labels_do_not_matter.ensures sheet (parameters_of c.args.parameters.now) c.args.source.now c.in_ok-seen.seen (map space_rule_of c.as_slice.result.now)
-    (ap (map space_rule_of) c.as_slice.ensures.value ∙ ap (λ (rs : plain.SpaceRules). rs.rules) rules) c.in_ok-seen.ensures c.whole.result (c.whole.ensures sheet answers)
+    (ap (map space_rule_of) c.as_slice.ensures.value ∙ ap (λ (rs : plain.SpaceRules). rs.rules) rules) c.in_ok-seen.ensures c.whole.result
+    (c.whole.ensures.run sheet answers)
+
+pub returns-clause-kept : goal.returns-clause-kept
+returns-clause-kept c =
+    subst (λ (source : Document ℕ). IfOk c.whole.result (λ over. AreAnswered (truth_in c.args.stylesheet.now (parameters_of c.args.parameters.now) source) over.kept))
+    (c.in_ok-seen.ensures ∙ ap (λ (rs : List SpaceRule). seen (map space_rule_of rs) c.args.source.now) c.as_slice.ensures.value) c.whole.ensures.kept

@@ -1,7 +1,7 @@
 use Rattle.std.proofs.Common.{ap, subst, sym, ◌∙◌}
 use Rattle.std.specs.Option.{unwrap_or}
 use Rattle.xt_record.specs.declared.pool.Pool.{Pool}
-use Rattle.xt_held.specs.View.{HasBelow, documents_of, last_in, made_of, next_documents, next_made, next_outcome, next_compiled, outcome_in, steps_in}
+use Rattle.xt_held.specs.View.{HasBelow, documents_of, last_in, made_of, next_documents, next_last, next_made, next_outcome, next_compiled, next_source, outcome_in, steps_in}
 use Rattle.xt_held.specs.declared.held.Held.{Held}
 use Rattle.xt_held.proofs.Keeping.{current_by}
 use Rattle.xt_held.proofs.held.Held.adopt.Goals as goal
@@ -26,7 +26,9 @@ returns-clause-current c =
     let ready = c.args.ready in
     let held = c.args.self.now in
     let below = c.put.ensures.below (next_made ready) c.requires.others c.requires.below in
-    current_by _ (next_documents ready held) (next_outcome ready) (next_compiled ready.change held)
+    current_by _ (next_documents ready held) (next_outcome ready) (next_compiled ready.change held) (next_source ready.change held) (next_last ready held)
     (ap documents_of c.take_over.ensures ∙ c.put.ensures.documents) (ap outcome_in c.take_over.ensures)
-    (ap (λ (held : Held). held.compiled) c.take_over.ensures ∙ c.put.ensures.compiled) c.requires.outcome c.requires.compiled
-    (subst (λ (held : Held). HasBelow (made_of held) held) (sym c.take_over.ensures) below)
+    (ap (λ (held : Held). held.compiled) c.take_over.ensures ∙ c.put.ensures.compiled)
+    (ap (λ (held : Held). held.source) c.take_over.ensures ∙ c.put.ensures.source)
+    (ap last_in c.take_over.ensures ∙ ap (λ (last : Pool). unwrap_or ready.came.kept last) c.put.ensures.last) c.requires.outcome c.requires.compiled
+    (subst (λ (held : Held). HasBelow (made_of held) held) (sym c.take_over.ensures) below) c.requires.last

@@ -1,15 +1,12 @@
-use Rattle.std.proofs.Common.{Option, ap, refl, subst, sym, ◌∙◌}
-use Rattle.std.specs.Option.{option_map}
-use Rattle.spec_document.specs.Forest.{Plain}
-use Rattle.spec_run.specs.Documents.{main_name}
-use Rattle.spec_run.specs.Outcome.{Comes}
-use Rattle.xt_import.specs.View.{modules_in, plain_of}
+use Rattle.std.proofs.Common.{Option, refl, subst, sym}
+use Rattle.std.specs.Prelude.{IfSome}
+use Rattle.xt_import.specs.View.{modules_in}
 use Rattle.xt_world.specs.ParameterView.{parameters_of}
-use Rattle.xt_held.specs.OutcomeView.{outcome_of}
+use Rattle.xt_held.specs.RunView.{AnswersAsSome, KeptHolds}
 use Rattle.xt_held.specs.StylesheetView.{AreCompiled, without_one}
 use Rattle.xt_held.specs.declared.stylesheet.Compiled.{Compiled}
 use Rattle.xt_held.proofs.Dropped.{kept_so, ready_so}
-use Rattle.xt_held.proofs.Keys.{map-copied}
+use Rattle.xt_held.proofs.Marked.{answers_as_some, known_of}
 use Rattle.xt_held.proofs.held.Held.drop_ready.Goals as goal
 
 pub returns-in_err-compiled-clause-kept : goal.returns-in_err-compiled-clause-kept
@@ -24,6 +21,16 @@ pub returns-clause-kept : goal.returns-clause-kept
 returns-clause-kept c =
     kept_so c.args.self.now _ (record { modules = c.in_ok-compiled.ensures.kept; source = refl; compiled = refl; parameters = refl; made = refl; outcome = refl; steps = refl; last = refl })
 
+pub outcome_with_modules-requires-clause-known : goal.outcome_with_modules-requires-clause-known
+outcome_with_modules-requires-clause-known c =
+    let known = known_of c.args.self.now c.requires in record { answers = known.answers; last = known.last }
+
+pub outcome_with_modules-requires-clause-answers : goal.outcome_with_modules-requires-clause-answers
+outcome_with_modules-requires-clause-answers c =
+    let modules = without_one c.args.name.now (modules_in c.args.self.now.modules.entries) in
+    subst (λ (o : Option Compiled). AnswersAsSome o) (sym c.as_ref.ensures.value)
+    (answers_as_some modules c.in_ok-compiled.compiled c.in_ok-compiled.ensures.compiled)
+
 pub returns-clause-ok : goal.returns-clause-ok
 returns-clause-ok c =
     let held = c.args.self.now in
@@ -32,8 +39,7 @@ returns-clause-ok c =
     let came = c.in-Ok.came in
     let modules = without_one name (modules_in held.modules.entries) in
     let are = subst (λ (o : Option Compiled). AreCompiled modules o) (sym c.as_ref.ensures.value) c.in_ok-compiled.ensures.compiled in
-    let source = map-copied plain_of c.as_ref-source.result ∙ ap (option_map plain_of) c.as_ref-source.ensures.value in
-    let comes = subst (λ (s : Option Plain). Comes modules (parameters_of held.parameters) (modules main_name) s (outcome_of came.outcome)) source
-    (c.in-Ok.ensures.outcome modules are) in
+    let holds = subst (λ (o : Option Compiled). IfSome came.kept (KeptHolds o (parameters_of held.parameters) held.source)) c.as_ref.ensures.value c.in-Ok.ensures.last in
     ready_so held _ (record { modules = c.in_ok-compiled.ensures.kept; source = refl; compiled = refl; parameters = refl; made = refl; outcome = refl; steps = refl; last = refl })
-    name c.in_ok-dropped.dropped c.in_ok-dropped.ensures compiled came held.next refl c.in_ok-compiled.ensures.compiled comes c.in-Ok.ensures.fits c.requires
+    name c.in_ok-dropped.dropped c.in_ok-dropped.ensures compiled came held.next refl c.in_ok-compiled.ensures.compiled (c.in-Ok.ensures.outcome modules are)
+    c.in-Ok.ensures.fits holds c.requires

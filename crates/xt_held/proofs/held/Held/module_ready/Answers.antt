@@ -1,9 +1,10 @@
 use Rattle.std.proofs.Common.{◌≡◌, List, ℕ, Option, refl, ap, sym, subst, string_bytes, ◌∙◌}
-use Rattle.std.specs.Option.{option_map}
+use Rattle.std.specs.Prelude.{IfSome}
+use Rattle.std.specs.Option.{option_copied, option_map}
 use Rattle.std.specs.Str.{chars}
 use Rattle.std.specs.declared.alloc.Global.{Global}
 use Rattle.std.specs.declared.string.String.{String}
-use Rattle.spec_document.specs.Forest.{Document, Plain}
+use Rattle.spec_document.specs.Forest.{Document}
 use Rattle.spec_run.specs.Documents.{main_name, with_module}
 use Rattle.spec_run.specs.Outcome.{Comes}
 use Rattle.spec_structure.specs.Modules.{Modules}
@@ -11,12 +12,23 @@ use Rattle.xt_edit.specs.View.{AreBelow}
 use Rattle.xt_import.specs.View.{modules_in, plain_of}
 use Rattle.xt_world.specs.ParameterView.{parameters_of}
 use Rattle.xt_held.specs.OutcomeView.{outcome_of}
+use Rattle.xt_held.specs.RunView.{AnswersAsSome, KeptHolds}
 use Rattle.xt_held.specs.StylesheetView.{AreCompiled, with_one}
 use Rattle.xt_held.specs.View.{AreAllBelow, made_of}
 use Rattle.xt_held.specs.declared.stylesheet.Compiled.{Compiled}
 use Rattle.xt_held.proofs.Keeping.{all_raised, kept_by}
-use Rattle.xt_held.proofs.Keys.{map-copied}
+use Rattle.xt_held.proofs.Marked.{adopted_last, answers_as_some, known_of}
 use Rattle.xt_held.proofs.held.Held.module_ready.Goals as goal
+
+pub outcome_with_modules-requires-clause-known : goal.outcome_with_modules-requires-clause-known
+outcome_with_modules-requires-clause-known c =
+    let known = known_of c.args.self.now c.requires.current in record { answers = known.answers; last = known.last }
+
+pub outcome_with_modules-requires-clause-answers : goal.outcome_with_modules-requires-clause-answers
+outcome_with_modules-requires-clause-answers c =
+    let compiled = c.in_ok-tried.tried.compiled in
+    let modules = with_one c.args.name.now (plain_of c.args.document) (modules_in c.args.self.now.modules.entries) in
+    subst (λ (o : Option Compiled). AnswersAsSome o) (sym c.as_ref.ensures.value) (answers_as_some modules compiled c.in_ok-tried.ensures.compiled)
 
 pub returns-clause-ok : goal.returns-clause-ok
 returns-clause-ok c =
@@ -31,21 +43,24 @@ returns-clause-ok c =
     let is : with_one c.args.name.now (plain_of c.args.document) (modules_in held.modules.entries) ≡ modules
     = sym (λ i. with_one (name i) (plain_of (same i)) (modules_in (entries i))) in
     let are : AreCompiled modules compiled = subst (λ (ms : Modules). AreCompiled ms compiled) is c.in_ok-tried.ensures.compiled in
-    let outcome = outcome_of c.in-Ok-outcome_of.came.outcome in
-    let source = map-copied plain_of c.as_ref-source.result ∙ ap (option_map plain_of) c.as_ref-source.ensures.value in
+    let came = c.in-Ok-outcome_with_modules in
+    let of_reference : AreCompiled modules (option_copied c.as_ref.result) = subst (λ (o : Option Compiled). AreCompiled modules o) (sym c.as_ref.ensures.value) are in
+    let comes : Comes modules (parameters_of held.parameters) (modules main_name) (option_map plain_of held.source) (outcome_of came.came.outcome)
+    = came.ensures.outcome modules of_reference in
     record {
       documents = λ i. with_module (name i) (plain_of (same i))
           (record { source = option_map plain_of held.source; modules = modules_in c.reserve.new.self.entries; parameters = parameters_of held.parameters });
       made = refl;
       from = record {
-        outcome = subst (λ (s : Option Plain). Comes modules (parameters_of held.parameters) (modules main_name) s outcome) source
-            (c.in-Ok-outcome_of.ensures.outcome modules (subst (λ (o : Option Compiled). AreCompiled modules o) (sym c.as_ref-compiled.ensures.value) are));
-        fits = c.in-Ok-outcome_of.ensures.fits;
+        outcome = comes;
+        fits = came.ensures.fits;
         compiled = are;
         room = c.in-Ok-reserve.ensures.ok;
         others = subst (λ (es : List (String Global × Document ℕ)). AreAllBelow c.args.next.number held.source es) (sym entries)
             (all_raised (made_of held) c.args.next.number held c.requires.grows c.requires.current.below);
         below = subst (λ (d : Document ℕ). AreBelow c.args.next.number d) (sym same) c.requires.below;
+        last = adopted_last came.came held.last (KeptHolds compiled (parameters_of held.parameters) held.source) came.ensures.fits
+            (subst (λ (o : Option Compiled). IfSome came.came.kept (KeptHolds o (parameters_of held.parameters) held.source)) c.as_ref.ensures.value came.ensures.last);
       };
     }
 
@@ -63,8 +78,8 @@ returns-in_default-reserve-clause-kept c =
     kept_by held _ (λ i. record { source = option_map plain_of held.source; modules = modules_in (entries i); parameters = parameters_of held.parameters })
     refl refl refl refl entries refl refl
 
-pub returns-in_default-outcome_of-clause-kept : goal.returns-in_default-outcome_of-clause-kept
-returns-in_default-outcome_of-clause-kept c =
+pub returns-in_default-outcome_with_modules-clause-kept : goal.returns-in_default-outcome_with_modules-clause-kept
+returns-in_default-outcome_with_modules-clause-kept c =
     let held = c.args.self.now in
     let entries : c.compiled_with.new.modules.entries ≡ held.modules.entries = c.in_ok-tried.ensures.kept in
     kept_by held _ (λ i. record { source = option_map plain_of held.source; modules = modules_in (entries i); parameters = parameters_of held.parameters })

@@ -13,4 +13,5 @@ returns c = on_ok c.add.result c.add.ensures (λ added ask sure holds.
     record {
       kept = subst (λ (kept : List (Rc Record Global)). AllHold ask kept) (sym added) (all_more ask before c.args.kept sure.kept holds);
       judged = sure.judged;
+      spared = sure.spared;
     })

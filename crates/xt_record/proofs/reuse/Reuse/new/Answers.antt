@@ -8,9 +8,10 @@ use Rattle.xt_record.proofs.Judging.{unasked}
 use Rattle.xt_record.proofs.reuse.Reuse.new.Goals as goal
 
 pub returns : goal.returns
-returns c = λ ask.
+returns c = λ ask spares.
     let rs = c.args.last.now.records.items in
     record {
       kept = subst (λ (kept : List (Rc Record Global)). AllHold ask kept) (sym c.new.ensures) tt;
       judged = subst (λ (vs : List Verdict). AllJudged ask vs rs) (sym (c.in_ok-vec.ensures.items_if_clones_equal (λ y e. e))) (unasked ask c.count.result rs);
+      spared = spares;
     }
