@@ -29,10 +29,12 @@ use Rattle.spec_edit.proofs.Normal.{IsAbove, normal-met, normal-whole}
 use Rattle.spec_move.proofs.Normal.{parts_of}
 use Rattle.spec_move.proofs.Moving.{Place, tree, above-by}
 use Rattle.spec_touch.specs.Leads.{Leads, seen_change}
+use Rattle.spec_touch.specs.Plain.{TellsApart}
 use Rattle.spec_stylesheet.specs.Sheet.{SpaceRule}
 use Rattle.spec_seen.specs.Seen.{seen}
 use Rattle.spec_touch.proofs.Leading.{children-lead}
 use Rattle.spec_touch.proofs.SeenLeading.{children-lead-seen}
+use Rattle.spec_touch.proofs.ToldApart.{none-told}
 use Rattle.spec_touch.proofs.Parting.{Holds, is_root, is_element, child-holds}
 use Rattle.spec_touch.proofs.Parting.{Split, split_goes, unsplit, met-split, come-split, parts-used, told-itself}
 
@@ -73,6 +75,40 @@ module _ (Used : ℕ → Type 0) (document : Document ℕ) (path : List ℕ) (wa
             (λ k. (let most = once k in let all = counted k in omega arith))
             (λ k some. used k (let all = counted k in omega arith));
       })
+
+  -- each number of the document but those below the node is where it was
+  pub made-apart : AreOnce (document.root ∷ labels document.nodes) → AreOnce (document.root ∷ labels changed_document.nodes)
+      → TellsApart change_made document changed_document
+  made-apart once then_once =
+      let b = below path (root_of document) was at in
+      let old : (k : ℕ) → stands (λ m. m == k) document.nodes
+      ≡ stands_around (λ m. m == k) b.around + stands (λ m. m == k) was.children =
+      λ k. ap (stands (λ m. m == k)) b.whole ∙ stands-filled (λ m. m == k) b.around was.children in
+      let new : (k : ℕ) → stands (λ m. m == k) changed_document.nodes
+      ≡ stands_around (λ m. m == k) b.around + stands (λ m. m == k) (g was.children) =
+      λ k. ap (stands (λ m. m == k)) (b.changed g) ∙ stands-filled (λ m. m == k) b.around (g was.children) in
+      record {
+        gone = none-told (labels (g was.children)) (labels was.children) (document.root ∷ labels changed_document.nodes) (λ k some none. (
+            let one = once.at k in
+            let parts = old k in
+            let now = new k in
+            let all = occurs-labels (λ m. m == k) document.nodes in
+            let here = occurs-labels (λ m. m == k) changed_document.nodes in
+            let inside = occurs-labels (λ m. m == k) was.children in
+            let others = occurs-labels (λ m. m == k) (g was.children) in
+            omega arith
+            ));
+        brought = none-told (labels was.children) (labels (g was.children)) (document.root ∷ labels document.nodes) (λ k some none. (
+            let one = then_once.at k in
+            let parts = old k in
+            let now = new k in
+            let all = occurs-labels (λ m. m == k) document.nodes in
+            let here = occurs-labels (λ m. m == k) changed_document.nodes in
+            let inside = occurs-labels (λ m. m == k) was.children in
+            let others = occurs-labels (λ m. m == k) (g was.children) in
+            omega arith
+            ));
+      }
 
 -- ---- What a move makes, by its places
 
@@ -256,6 +292,8 @@ pub record Carried (document after : Document ℕ) (from to : Spot) : Type 0 whe
   pub told : change_by from to document after ≡ Some (between left entered)
   pub leaves : Leads left document (document_without from document)
   pub enters : Leads entered (document_without from document) after
+  pub leaves_apart : TellsApart left document (document_without from document)
+  pub enters_apart : AreOnce (document.root ∷ labels after.nodes) → TellsApart entered (document_without from document) after
   -- as they are seen
   pub leaves_seen : (rules : List SpaceRule) → Leads (seen_change left (seen rules document) (seen rules (document_without from document)))
       (seen rules document) (seen rules (document_without from document))
@@ -316,6 +354,18 @@ module _ (first : ℕ) (document : Document ℕ) (p : ℕ) (ps : List ℕ) (to :
   middle-once : (k : ℕ) → stands (λ m. m == k) middle.nodes ≤ 1
   middle-once k = let one = most-once k in let all = left-most document origin old x at (λ m. m == k) in omega arith
 
+  middle-alone : AreOnce (document.root ∷ labels middle.nodes)
+  middle-alone =
+      record {
+        at = λ k. (
+            let one = once.at k in
+            let all = occurs-labels (λ m. m == k) document.nodes in
+            let here = occurs-labels (λ m. m == k) middle.nodes in
+            let most = left-most document origin old x at (λ m. m == k) in
+            omega arith
+            );
+      }
+
   middle-normal : IsNormal middle.nodes
   middle-normal =
       let parts = parts_of document origin old x at normal in
@@ -346,6 +396,9 @@ module _ (first : ℕ) (document : Document ℕ) (p : ℕ) (ps : List ℕ) (to :
         leaves = leads-by (λ _. Unit {0}) document origin.above old there (deleted (origin.position - 1)) leaving most-once (λ _ _. tt);
         enters = leads-by (λ j. stands (λ m. m == j) put ≡ 0) middle (path_without origin old to.above) k.now k.there (inserted n put) entering
             middle-once used;
+        leaves_apart = made-apart (λ _. Unit {0}) document origin.above old there (deleted (origin.position - 1)) once middle-alone;
+        enters_apart = λ then_once. made-apart (λ j. stands (λ m. m == j) put ≡ 0) middle (path_without origin old to.above) k.now k.there
+            (inserted n put) middle-alone then_once;
         leaves_seen = λ rules. children-lead-seen rules (λ _. Unit {0}) document (record { nodes = middle.nodes; made = 0 }) normal most-once
             (λ _ _. tt) (change_made (λ _. Unit {0}) document origin.above old there (deleted (origin.position - 1))) old
             (deleted (origin.position - 1)) leaving refl refl refl refl origin.above refl there

@@ -234,12 +234,12 @@ pub or-second : (a b : Bool) → b ≡ true → (a || b) ≡ true
 or-second true b e = refl
 or-second false b e = e
 
-all-front : (test : ℕ → Bool) (xs ys : List ℕ) → list_all test (xs ++ ys) ≡ true → list_all test xs ≡ true
+pub all-front : (test : ℕ → Bool) (xs ys : List ℕ) → list_all test (xs ++ ys) ≡ true → list_all test xs ≡ true
 all-front test [] ys h = refl
 all-front test (x ∷ xs) ys h =
     (λ i. first-of (test x) (list_all test (xs ++ ys)) h i && list_all test xs) ∙ all-front test xs ys (second-of (test x) _ h)
 
-all-back : (test : ℕ → Bool) (xs ys : List ℕ) → list_all test (xs ++ ys) ≡ true → list_all test ys ≡ true
+pub all-back : (test : ℕ → Bool) (xs ys : List ℕ) → list_all test (xs ++ ys) ≡ true → list_all test ys ≡ true
 all-back test [] ys h = h
 all-back test (x ∷ xs) ys h = all-back test xs ys (second-of (test x) _ h)
 

@@ -18,3 +18,7 @@ pub mod SeenElements
 pub mod SeenLeading
 pub mod Spaces
 pub mod KeepingSpace
+pub mod Choosing
+pub mod Sparing
+pub mod ToldApart
+pub mod MovingChoices

@@ -1,16 +1,39 @@
 -- A question that a change of a world does not mark has the same answer in both worlds.
-use Rattle.std.proofs.Common.{◌≡◌, ℕ, false, List, sym, ap, ◌∙◌}
-use Rattle.std.specs.Prelude.{bytes_eq}
+use Rattle.std.proofs.Common.{◌≡◌, ℕ, Bool, true, false, List, ◌∷◌, Option, Some, refl, sym, ap, ◌∙◌, subst}
+use Rattle.std.specs.Prelude.{◌&&◌, not, Ok, IsTrue, bytes_eq, nat_lt}
+use Rattle.std.specs.List.{list_all}
+use Rattle.spec_document.specs.Forest.{Document, labels}
+use Rattle.spec_document.specs.Name.{Expanded}
 use Rattle.spec_document.specs.Order.{entries_of}
+use Rattle.spec_stylesheet.specs.Place as stylesheet
+use Rattle.spec_stylesheet.specs.Sheet.{Sheet, SpaceRule}
+use Rattle.spec_seen.specs.Seen.{seen}
 use Rattle.spec_meaning.specs.Question as question
-use Rattle.spec_meaning.specs.Question.{Question, Passed}
+use Rattle.spec_meaning.specs.Question.{Question, Answer, Passed}
+use Rattle.spec_run.specs.Documents.{Parameters}
 use Rattle.spec_run.specs.World.{truth_by}
+use Rattle.spec_edit.specs.Edit.{Edit, Edited, edited_nodes}
+use Rattle.spec_edit.proofs.Around.{some_same}
+use Rattle.spec_edit.proofs.Numbers.{once-distinct, below-from, edit_numbers}
+use Rattle.spec_change.specs.Change.{Change, IsEdit, change_of}
+use Rattle.spec_move.specs.Changed.{MoveChange, IsMove, move_change}
+use Rattle.spec_move.specs.Move.{moved_nodes}
 use Rattle.spec_node.specs.declared.node_ref.NodeRef.{NodeRef}
 use Rattle.spec_node.specs.Naming.{ref_of, same_ref}
-use Rattle.spec_touch.specs.Marks.{World, answers, marks, by_modules, by_parameter, ComesTo, by_edit, by_source}
-use Rattle.spec_touch.specs.Marks.{by_module, by_other_sight, by_value}
-use Rattle.spec_touch.specs.Marks.{WorldChange}
-use Rattle.spec_touch.proofs.Answering.{unmarked}
+use Rattle.spec_touch.specs.Leads.{seen_change}
+use Rattle.spec_touch.specs.Marks.{World, WorldChange, SourceEdited, SourceMoved, answers, marks, any_marks, by_modules, by_parameter}
+use Rattle.spec_touch.specs.Marks.{IsSound, SameButSource, ComesTo, by_edit, by_move, by_modules_alone, by_value, by_anything, ComeTo, none_more, one_more}
+use Rattle.spec_touch.specs.Moved.{move_touched}
+use Rattle.spec_touch.specs.Plain.{AreAsking, spared, spared_by_move}
+use Rattle.spec_touch.specs.Touched.{is_touched}
+use Rattle.spec_touch.proofs.Answering.{unmarked, neither-first, neither-second}
+use Rattle.spec_touch.proofs.KeepingSpace.{keeps-space}
+use Rattle.spec_touch.proofs.Leading.{after_edit}
+use Rattle.spec_touch.proofs.Moving.{after_move, move-unmarked}
+use Rattle.spec_touch.proofs.MovingChoices.{move-spared}
+use Rattle.spec_touch.proofs.SeenLeading.{edit-leads-seen}
+use Rattle.spec_touch.proofs.Sparing.{choice-spared}
+use Rattle.spec_touch.proofs.ToldApart.{seen-apart}
 
 -- in worlds that see one source, what is asked of the source alone
 modules-unmarked : (old new : World) → new.source ≡ old.source → new.parameters ≡ old.parameters → (q : Question NodeRef)
@@ -58,12 +81,84 @@ parameter-unmarked given old new h s c e (question.Copy node) u =
 parameter-unmarked given old new h s c e (question.Unit element) u =
     λ i. truth_by ref_of same_ref (sym c i) (sym s i) old.parameters (entries_of (sym e i)) (question.Unit element)
 
+-- what is not marked is not touched, or spared
+by-either : {A : Type 0} (touched is_spared : Bool) → (touched && not is_spared) ≡ false → (touched ≡ false → A) → (is_spared ≡ true → A) → A
+by-either false is_spared e f g = f refl
+by-either true true e f g = g refl
+by-either true false e f g = absurd (cc)
+
+-- with one stylesheet and the same parameters
+module _ (sheet : Sheet) (parameters : Parameters) (called : stylesheet.Place → NodeRef) (asking : List (Option Expanded))
+    (plain : AreAsking asking sheet.rules.rules) (q : Question NodeRef) where
+  abbrev told_in : Document ℕ → Answer NodeRef
+  told_in d = truth_by ref_of same_ref called sheet parameters (entries_of d) q
+
+  module _ (rules : List SpaceRule) (edit : Edit) (before : Document ℕ) (sound : IsSound before) (change : Change) where
+    abbrev is_unmarked : Document ℕ → Type 0
+    is_unmarked after = marks (SourceEdited (seen_change change (seen rules before) (seen rules after)) asking) q ≡ false
+
+    edited-unmarked : (first : ℕ) (new : Edited ℕ) → IsTrue (list_all (λ n. nat_lt n first) (before.root ∷ labels before.nodes))
+        → edited_nodes first edit before ≡ Ok new → change_of edit before (after_edit before new) ≡ Some change
+        → is_unmarked (after_edit before new) → told_in (seen rules before) ≡ told_in (seen rules (after_edit before new))
+    edited-unmarked first new low e told u =
+        let after = after_edit before new in
+        let once = once-distinct _ sound.apart in
+        let below = below-from first _ low in
+        let l = edit-leads-seen rules first edit before new sound.normal once below e (keeps-space first edit before new e sound.valid) in
+        let made = seen_change l.change (seen rules before) (seen rules after) in
+        let same = some_same change l.change (sym told ∙ l.change_is) in
+        let u : (is_touched made q && not (spared asking made q)) ≡ false = subst
+        (λ x. marks (SourceEdited (seen_change x (seen rules before) (seen rules after)) asking) q ≡ false) same u in
+        by-either (is_touched made q) (spared asking made q) u
+        (λ t. unmarked made (seen rules before) (seen rules after) l.leads sheet parameters called q t)
+        (λ s. choice-spared made (seen rules before) (seen rules after) l.leads sheet parameters called
+        (seen-apart rules before.root l.change before.nodes new.nodes once (edit_numbers first edit before new e once below).once) asking plain q s)
+
+    edit-unmarked : (after : Document ℕ) → IsEdit edit before after → change_of edit before after ≡ Some change → is_unmarked after
+        → told_in (seen rules before) ≡ told_in (seen rules after)
+    edit-unmarked after is =
+        subst (λ d. change_of edit before d ≡ Some change → is_unmarked d → told_in (seen rules before) ≡ told_in (seen rules d)) (sym is.new_is)
+        (edited-unmarked is.first is.edited is.below is.edited_is)
+
+  module _ (path other : List ℕ) (before : Document ℕ) (sound : IsSound before) (change : MoveChange)
+      (u : marks (SourceMoved change asking) q ≡ false) where
+    moved-unmarked : (first : ℕ) (new : Edited ℕ) → IsTrue (list_all (λ n. nat_lt n first) (before.root ∷ labels before.nodes))
+        → moved_nodes first path other before ≡ Ok new → move_change path other before (after_move before new) ≡ Some change
+        → told_in before ≡ told_in (after_move before new)
+    moved-unmarked first new low e told =
+        let once = once-distinct _ sound.apart in
+        let below = below-from first _ low in
+        by-either (move_touched change q) (spared_by_move asking change q) u
+        (λ t. move-unmarked first before new sound.normal once below sheet parameters called q path other e change told t)
+        (λ s. move-spared first before new sound.normal once below path other e change told sheet parameters called q asking plain s)
+
+    move-kept : (after : Document ℕ) → IsMove path other before after → move_change path other before after ≡ Some change
+        → told_in before ≡ told_in after
+    move-kept after is =
+        subst (λ d. move_change path other before d ≡ Some change → told_in before ≡ told_in d) (sym is.new_is)
+        (moved-unmarked is.first is.edited is.below is.edited_is)
+
+but-source : (old new : World) → SameButSource old new → (d : Document ℕ) → new.source ≡ d → (q : Question NodeRef)
+    → truth_by ref_of same_ref old.called old.sheet old.parameters (entries_of d) q ≡ answers new q
+but-source old new same d e q =
+    λ i. truth_by ref_of same_ref (sym same.called i) (sym same.sheet i) (sym same.parameters i) (entries_of (sym e i)) q
+
 pub world-unmarked : {change : WorldChange} {old new : World} → ComesTo change old new → (q : Question NodeRef) → marks change q ≡ false
     → answers old q ≡ answers new q
-world-unmarked (by_edit {change = change} {old = old} {new = new} h s c p) q u =
-    unmarked change old.source new.source h old.sheet old.parameters old.called q u
-    ∙ (λ i. truth_by ref_of same_ref (sym c i) (sym s i) (sym p i) (entries_of new.source) q)
-world-unmarked by_source q u = absurd (cc)
-world-unmarked (by_module {old = old} {new = new} e p) q u = modules-unmarked old new e p q u
-world-unmarked by_other_sight q u = absurd (cc)
+world-unmarked (by_edit {old = old} {new = new} {asking = asking} rules edit before after sound is change told old_is new_is plain same) q u =
+    ap (λ d. truth_by ref_of same_ref old.called old.sheet old.parameters (entries_of d) q) old_is
+    ∙ edit-unmarked old.sheet old.parameters old.called asking plain q rules edit before sound change after is told u
+    ∙ but-source old new same (seen rules after) new_is q
+world-unmarked (by_move {old = old} {new = new} {change = change} {asking = asking} path other sound is told plain same) q u =
+    move-kept old.sheet old.parameters old.called asking plain q path other old.source sound change u new.source is told
+    ∙ but-source old new same new.source refl q
+world-unmarked (by_modules_alone {old = old} {new = new} e p) q u = modules-unmarked old new e p q u
 world-unmarked (by_value {name = name} {old = old} {new = new} h s c e) q u = parameter-unmarked name old new h s c e q u
+world-unmarked by_anything q u = absurd (cc)
+
+pub worlds-unmarked : {changes : List WorldChange} {old new : World} → ComeTo changes old new → (q : Question NodeRef)
+    → any_marks changes q ≡ false → answers old q ≡ answers new q
+worlds-unmarked none_more q u = refl
+worlds-unmarked (one_more {change = change} {changes = changes} comes come) q u =
+    world-unmarked comes q (neither-first (marks change q) (any_marks changes q) u)
+    ∙ worlds-unmarked come q (neither-second (marks change q) (any_marks changes q) u)

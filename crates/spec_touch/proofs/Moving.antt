@@ -42,7 +42,7 @@ all-at-once document path old there g =
     let b = below path (root_of document) old there in b.changed g ∙ sym (b.changed (λ _. g old.children))
 
 -- the change that is told within one parent
-within-told : (from to : Spot) (document after : Document ℕ) (change : MoveChange) (c : Change) → is_path from.above to.above ≡ true
+pub within-told : (from to : Spot) (document after : Document ℕ) (change : MoveChange) (c : Change) → is_path from.above to.above ≡ true
     → change_at false document after from.above ≡ Some c → change_by from to document after ≡ Some change → in_order c ≡ change
 within-told from to document after change c same told e =
     some_same (in_order c) change

@@ -2,3 +2,4 @@ pub mod Touched
 pub mod Leads
 pub mod Marks
 pub mod Moved
+pub mod Plain

@@ -1,19 +1,29 @@
 -- Which questions a change marks of a world, which is a stylesheet, parameters and a source as it is seen.
---     marks       of an edit of the source, of another source, of a module and of a parameter
+--     marks       of an edit of the source, of a move in it, of modules, of a parameter, and of what nothing is known of
+--     any_marks   of changes one after the other
 --     ComesTo     what is true of the worlds before and after
-use Rattle.std.specs.Prelude.{ℕ, ◌≡◌, Bool, true, false, List, bytes_eq, if◌then◌else◌}
-use Rattle.spec_document.specs.Forest.{Document}
+--     ComeTo      of worlds that changes one after the other lead through
+use Rattle.std.specs.Prelude.{ℕ, ◌≡◌, Bool, true, false, not, ◌&&◌, List, [], ◌∷◌, Option, Some, bytes_eq, nat_eq}
+use Rattle.std.specs.List.{list_any, IsDistinct}
+use Rattle.spec_document.specs.Forest.{Document, IsNormal, labels}
+use Rattle.spec_document.specs.Name.{Expanded}
 use Rattle.spec_document.specs.Order.{entries_of}
+use Rattle.spec_edit.specs.Edit.{Edit}
+use Rattle.spec_edit.specs.Valid.{IsValid}
 use Rattle.spec_stylesheet.specs.Place as stylesheet
-use Rattle.spec_stylesheet.specs.Sheet.{Sheet}
+use Rattle.spec_stylesheet.specs.Sheet.{Sheet, SpaceRule}
+use Rattle.spec_seen.specs.Seen.{seen}
 use Rattle.spec_meaning.specs.Question.{Question, Answer, Step, Text, Name, Place, Order, Key, Choice, Copy, Unit, External}
 use Rattle.spec_run.specs.Documents.{Parameters}
 use Rattle.spec_run.specs.World.{truth_by}
-use Rattle.spec_change.specs.Change.{Change}
+use Rattle.spec_change.specs.Change.{Change, IsEdit, change_of}
+use Rattle.spec_move.specs.Changed.{MoveChange, IsMove, move_change}
 use Rattle.spec_node.specs.declared.node_ref.NodeRef.{NodeRef}
 use Rattle.spec_node.specs.Naming.{ref_of, same_ref}
+use Rattle.spec_touch.specs.Leads.{seen_change}
+use Rattle.spec_touch.specs.Moved.{move_touched}
+use Rattle.spec_touch.specs.Plain.{AreAsking, spared, spared_by_move}
 use Rattle.spec_touch.specs.Touched.{is_touched}
-use Rattle.spec_touch.specs.Leads.{Leads}
 
 -- the elements of the stylesheet have names of the reader's choice, the nodes of the source their numbers
 pub record World : Type 0 where
@@ -26,14 +36,15 @@ abbrev pub answers : World → Question NodeRef → Answer NodeRef
 answers world = truth_by ref_of same_ref world.called world.sheet world.parameters (entries_of world.source)
 
 pub data WorldChange : Type 0 where
-  -- the source is edited
-  SourceEdited : (change : Change) → WorldChange
-  -- another source is given
-  SourceGiven : WorldChange
-  -- modules come, go or are edited; by the rules for white space the source is seen as before, or it may be seen otherwise
-  ModulesChanged : (is_seen_as_before : Bool) → WorldChange
+  -- the source is edited, or a node of it moved. The modes are those that have a rule whose pattern has a predicate or key()
+  SourceEdited : (change : Change) → (asking : List (Option Expanded)) → WorldChange
+  SourceMoved : (change : MoveChange) → (asking : List (Option Expanded)) → WorldChange
+  -- modules come, go or are edited, and by the rules for white space the source is seen as before
+  ModulesChanged : WorldChange
   -- a parameter is given, another than before or for the first time
   ParameterGiven : (name : List ℕ) → WorldChange
+  -- anything may be another, as where another source is given, or where the source is seen otherwise
+  Anything : WorldChange
 
 abbrev pub by_modules : Question NodeRef → Bool
 by_modules (Step node axis test) = false
@@ -59,19 +70,53 @@ by_parameter given (Copy node) = false
 by_parameter given (Unit element) = false
 by_parameter given (External name) = bytes_eq given name
 
+-- what a change of the source marks by the table, but for choices that it spares
 abbrev pub marks : WorldChange → Question NodeRef → Bool
-marks (SourceEdited change) question = is_touched change question
-marks SourceGiven question = true
-marks (ModulesChanged is_seen_as_before) question = if is_seen_as_before then by_modules question else true
+marks (SourceEdited change asking) question = is_touched change question && not (spared asking change question)
+marks (SourceMoved change asking) question = move_touched change question && not (spared_by_move asking change question)
+marks ModulesChanged question = by_modules question
 marks (ParameterGiven name) question = by_parameter name question
+marks Anything question = true
+
+-- changes one after the other mark what one of them marks
+abbrev pub any_marks : List WorldChange → Question NodeRef → Bool
+any_marks changes question = list_any (λ change. marks change question) changes
+
+-- ---- The worlds before and after
+
+-- a document without faults, of which no texts meet and no number stands twice
+pub record IsSound (document : Document ℕ) : Type 0 where
+  pub valid : IsValid document.nodes
+  pub normal : IsNormal document.nodes
+  pub apart : IsDistinct nat_eq (document.root ∷ labels document.nodes)
+
+-- all is the same but the source
+pub record SameButSource (old new : World) : Type 0 where
+  pub sheet : new.sheet ≡ old.sheet
+  pub called : new.called ≡ old.called
+  pub parameters : new.parameters ≡ old.parameters
 
 -- the first world comes to the second by the change
 pub data ComesTo : WorldChange → (old new : World) → Type 0 where
-  by_edit : {change : Change} {old new : World} → Leads change old.source new.source → new.sheet ≡ old.sheet → new.called ≡ old.called
-      → new.parameters ≡ old.parameters → ComesTo (SourceEdited change) old new
-  by_source : {old new : World} → ComesTo SourceGiven old new
-  by_module : {old new : World} → new.source ≡ old.source → new.parameters ≡ old.parameters → ComesTo (ModulesChanged true) old new
-  by_other_sight : {old new : World} → ComesTo (ModulesChanged false) old new
+  -- an edit of a document, of which the worlds see what some rules for white space let them see
+  by_edit : {old new : World} {asking : List (Option Expanded)} → (rules : List SpaceRule) → (edit : Edit) → (before after : Document ℕ)
+      → IsSound before → IsEdit edit before after → (change : Change) → change_of edit before after ≡ Some change
+      → old.source ≡ seen rules before → new.source ≡ seen rules after
+      → AreAsking asking old.sheet.rules.rules → SameButSource old new
+      → ComesTo (SourceEdited (seen_change change (seen rules before) (seen rules after)) asking) old new
+  -- a move in a document of which all is seen
+  by_move : {old new : World} {change : MoveChange} {asking : List (Option Expanded)} → (path other : List ℕ) → IsSound old.source
+      → IsMove path other old.source new.source → move_change path other old.source new.source ≡ Some change
+      → AreAsking asking old.sheet.rules.rules → SameButSource old new
+      → ComesTo (SourceMoved change asking) old new
+  by_modules_alone : {old new : World} → new.source ≡ old.source → new.parameters ≡ old.parameters → ComesTo ModulesChanged old new
   by_value : {name : List ℕ} {old new : World} → ((other : List ℕ) → bytes_eq name other ≡ false
       → new.parameters other ≡ old.parameters other)
       → new.sheet ≡ old.sheet → new.called ≡ old.called → new.source ≡ old.source → ComesTo (ParameterGiven name) old new
+  by_anything : {old new : World} → ComesTo Anything old new
+
+-- changes one after the other
+pub data ComeTo : List WorldChange → (old new : World) → Type 0 where
+  none_more : {world : World} → ComeTo [] world world
+  one_more : {change : WorldChange} {changes : List WorldChange} {old middle new : World} → ComesTo change old middle
+      → ComeTo changes middle new → ComeTo (change ∷ changes) old new

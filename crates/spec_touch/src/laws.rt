@@ -1,7 +1,8 @@
 // Laws of what changes mark, which hold of the definitions alone.
-ghost use Rattle.std.specs.Prelude.{◌≡◌, ℕ, List, ◌∷◌, Some, Ok, false, IsTrue, nat_eq, nat_lt};
+ghost use Rattle.std.specs.Prelude.{◌≡◌, ℕ, List, ◌∷◌, Option, Some, Ok, true, false, IsTrue, nat_eq, nat_lt};
 ghost use Rattle.std.specs.List.{list_all, IsDistinct};
 ghost use Rattle.spec_document.specs.Forest.{Document, IsNormal, labels};
+ghost use Rattle.spec_document.specs.Name.{Expanded};
 ghost use Rattle.spec_document.specs.Order.{entries_of};
 ghost use Rattle.spec_stylesheet.specs.Place.{Place};
 ghost use Rattle.spec_stylesheet.specs.Sheet.{Sheet, SpaceRule};
@@ -20,7 +21,8 @@ ghost use Rattle.spec_node.specs.Naming.{ref_of, same_ref};
 ghost use Rattle.spec_touch.specs.Touched.{is_touched};
 ghost use Rattle.spec_touch.specs.Leads.{KeepsSpace, Leads, seen_change};
 ghost use Rattle.spec_touch.specs.Moved.{move_touched};
-ghost use Rattle.spec_touch.specs.Marks.{ComesTo, World, WorldChange, answers, marks};
+ghost use Rattle.spec_touch.specs.Plain.{AreAsking, TellsApart, spared, spared_by_move};
+ghost use Rattle.spec_touch.specs.Marks.{ComeTo, ComesTo, World, WorldChange, answers, any_marks, marks};
 
 /// Each edit that is accepted makes a change that leads from the document before to the one after, where the numbers of the
 /// document were distinct and all below the first that is free.
@@ -45,6 +47,13 @@ pub fn unmarked_questions_keep_their_answers()
 pub fn unmarked_questions_keep_their_answers_in_worlds()
     ensures { (change : WorldChange) (old new : World) → ComesTo change old new → (question : Question NodeRef) → marks change question ≡ false
         → answers old question ≡ answers new question }
+{}
+
+/// So it is where several changes lead from one world to another, one after the other: a question that none of them marks has
+/// the same true answer in both.
+pub fn unmarked_by_all_keep_their_answers()
+    ensures { (changes : List WorldChange) (old new : World) → ComeTo changes old new → (question : Question NodeRef)
+        → any_marks changes question ≡ false → answers old question ≡ answers new question }
 {}
 
 /// The change of an edit as it is seen leads from what is seen of the document before to what is seen of the one after,
@@ -83,6 +92,33 @@ pub fn edits_keep_the_answers_of_unmarked_questions()
         (entries_of (seen sheet.space_rules.rules (record { root = document.root; nodes = new.nodes }))) question }
 {}
 
+/// Where the patterns of all rules of a mode have no predicates and no key(), the choice of a rule for a node that stays is the
+/// same before and after a change, though the change marks it. What is told to be gone or brought must be told apart from what
+/// stays; with two nodes of one number a node above could be taken for one that goes.
+pub fn plain_choices_stay()
+    ensures { (change : Change) (old new : Document ℕ) → Leads change old new → TellsApart change old new
+        → (sheet : Sheet) (parameters : Parameters) (called : Place → NodeRef) (question : Question NodeRef)
+        → (asking : List (Option Expanded)) → AreAsking asking sheet.rules.rules → spared asking change question ≡ true
+        → truth_by ref_of same_ref called sheet parameters (entries_of old) question
+        ≡ truth_by ref_of same_ref called sheet parameters (entries_of new) question }
+{}
+
+/// So with an edit of the source such a choice is the same before and after, whatever the stylesheet and the parameters are.
+pub fn edits_keep_plain_choices()
+    ensures { (sheet : Sheet) (first : ℕ) (edit : Edit) (document : Document ℕ) (new : Edited ℕ) → edited_nodes first edit document ≡ Ok new
+        → IsNormal document.nodes → IsDistinct nat_eq (document.root ∷ labels document.nodes)
+        → IsTrue (list_all (λ n. nat_lt n first) (document.root ∷ labels document.nodes))
+        → KeepsSpace edit document (record { root = document.root; nodes = new.nodes })
+        → (parameters : Parameters) (called : Place → NodeRef) (change : Change)
+        → change_of edit document (record { root = document.root; nodes = new.nodes }) ≡ Some change → (question : Question NodeRef)
+        → (asking : List (Option Expanded)) → AreAsking asking sheet.rules.rules
+        → spared asking (seen_change change (seen sheet.space_rules.rules document)
+        (seen sheet.space_rules.rules (record { root = document.root; nodes = new.nodes }))) question ≡ true
+        → truth_by ref_of same_ref called sheet parameters (entries_of (seen sheet.space_rules.rules document)) question
+        ≡ truth_by ref_of same_ref called sheet parameters
+        (entries_of (seen sheet.space_rules.rules (record { root = document.root; nodes = new.nodes }))) question }
+{}
+
 /// Each move that is accepted makes a change.
 pub fn moves_make_changes()
     ensures { (first : ℕ) (path other : List ℕ) (document : Document ℕ) (new : Edited ℕ) → moved_nodes first path other document ≡ Ok new
@@ -113,6 +149,19 @@ pub fn moves_keep_the_answers_of_unmarked_questions()
         → (change : MoveChange) → move_change path other document (record { root = document.root; nodes = new.nodes }) ≡ Some change
         → (sheet : Sheet) (parameters : Parameters) (called : Place → NodeRef) (question : Question NodeRef)
         → move_touched change question ≡ false
+        → truth_by ref_of same_ref called sheet parameters (entries_of document) question
+        ≡ truth_by ref_of same_ref called sheet parameters (entries_of (record { root = document.root; nodes = new.nodes })) question }
+{}
+
+/// With a move too the choice of a rule for a node that stays is the same before and after, where the patterns of all rules of
+/// the mode have no predicates and no key().
+pub fn moves_keep_plain_choices()
+    ensures { (first : ℕ) (path other : List ℕ) (document : Document ℕ) (new : Edited ℕ) → moved_nodes first path other document ≡ Ok new
+        → IsNormal document.nodes → IsDistinct nat_eq (document.root ∷ labels document.nodes)
+        → IsTrue (list_all (λ n. nat_lt n first) (document.root ∷ labels document.nodes))
+        → (change : MoveChange) → move_change path other document (record { root = document.root; nodes = new.nodes }) ≡ Some change
+        → (sheet : Sheet) (parameters : Parameters) (called : Place → NodeRef) (question : Question NodeRef)
+        → (asking : List (Option Expanded)) → AreAsking asking sheet.rules.rules → spared_by_move asking change question ≡ true
         → truth_by ref_of same_ref called sheet parameters (entries_of document) question
         ≡ truth_by ref_of same_ref called sheet parameters (entries_of (record { root = document.root; nodes = new.nodes })) question }
 {}

@@ -6,9 +6,11 @@
 mod laws;
 
 pub use laws::{
-    edits_keep_space, edits_keep_the_answers_of_unmarked_questions, edits_lead,
-    edits_lead_as_they_are_seen, moves_keep_the_answers_of_unmarked_questions, moves_make_changes,
+    edits_keep_plain_choices, edits_keep_space, edits_keep_the_answers_of_unmarked_questions,
+    edits_lead, edits_lead_as_they_are_seen, moves_keep_plain_choices,
+    moves_keep_the_answers_of_unmarked_questions, moves_make_changes,
     moves_to_another_parent_keep_the_answers_of_unmarked_questions, moves_to_another_parent_lead,
-    moves_to_another_parent_lead_as_they_are_seen, unmarked_questions_keep_their_answers,
+    moves_to_another_parent_lead_as_they_are_seen, plain_choices_stay,
+    unmarked_by_all_keep_their_answers, unmarked_questions_keep_their_answers,
     unmarked_questions_keep_their_answers_in_worlds,
 };

@@ -1,18 +1,17 @@
 -- A node of a document taken away and put in elsewhere.
 use Rattle.std.proofs.Common.{◌≡◌, ◌≢◌, ◌≤◌, ◌<◌, arith, ℕ, ◌+◌, ◌-◌, ◌==◌, true, false, cond, List, [], ◌∷◌, length, get_or, refl, ap, sym, subst, ◌∙◌}
 use Rattle.std.proofs.Common.{Option, None, Some}
-use Rattle.std.specs.Prelude.{IsTrue, nat_le, ◌&&◌}
+use Rattle.std.specs.Prelude.{nat_le}
 use Rattle.std.specs.Option.{option_map, option_and_then, ForSome}
 use Rattle.std.specs.declared.rc.Rc.{Rc}
 use Rattle.std.specs.declared.alloc.Global.{Global}
 use Rattle.std.proofs.lemmas.Bool.{and_parts, leb-true}
 use Rattle.spec_document.specs.Forest.{Content, Document, Forest, Empty, Node as Tree}
 use Rattle.spec_document.specs.Place.{Found, root_of, found_in, child_at, node_from, node_at}
-use Rattle.spec_edit.specs.Edit.{is_position}
 use Rattle.spec_edit.specs.Splice.{Spot, below_changed, children_changed, deleted, sibling_count}
 use Rattle.spec_move.specs.Move.{fewer_by, path_below, position_without, rearranged}
 use Rattle.xt_edit.specs.Changed.{taken_out, with_children}
-use Rattle.xt_edit.specs.Moving.{HasPosition, IsFewerBy, carried_in, moved_within, old_parent, put_there_in, tree_in}
+use Rattle.xt_edit.specs.Moving.{HasPosition, IsFewerBy, carried_in, moved_within, put_there_in, tree_in}
 use Rattle.xt_edit.specs.Seam.{put_in}
 use Rattle.xt_edit.specs.Site.{IsThere, found_below, found_there, outer_of, spot_in}
 use Rattle.xt_edit.specs.declared.relocation.Ends.{Ends}
@@ -22,7 +21,7 @@ use Rattle.xt_edit.proofs.Seams.{changed-there, count-length}
 use Rattle.xt_edit.proofs.Shifted.{IsShifted, shifted, unshifted}
 use Rattle.xt_edit.proofs.Sites.{child-from, position-from}
 use Rattle.xt_tree.specs.declared.node.Node.{Node}
-use Rattle.xt_tree.specs.View.{Tree as Parts, forest_of, tree_at, tree_of}
+use Rattle.xt_tree.specs.View.{forest_of, tree_at, tree_of}
 use Rattle.xt_tree.proofs.Views.{tree_at-index}
 use Rattle.xt_tree.proofs.Ways.{found_tree, child_at-tree_at}
 

@@ -1,5 +1,5 @@
 -- What nodes are put below, and what is put there.
-use Rattle.std.proofs.Common.{◌≡◌, ◌≤◌, arith, ℕ, ◌+◌, ◌-◌, true, List, [], ◌∷◌, length, None, Some, if◌then◌else◌, refl, ap, sym, ◌∙◌, nat_le, inl, inr}
+use Rattle.std.proofs.Common.{◌≡◌, ◌≤◌, arith, ℕ, ◌+◌, ◌-◌, true, List, length, None, Some, if◌then◌else◌, ap, sym, ◌∙◌, nat_le, inl, inr}
 use Rattle.std.proofs.lemmas.Bool.Decides.{leb_tells}
 use Rattle.std.specs.Prelude.{Ok, ◌&&◌}
 use Rattle.std.specs.Option.{ForSome}

@@ -1,5 +1,5 @@
 -- The faults of a node that comes to another parent, found part by part.
-use Rattle.std.proofs.Common.{◌≡◌, ℕ, ◌+◌, ◌-◌, Bool, true, false, cond, List, [], ◌++◌, map, drop, refl, sym, ap, ◌∙◌, append-nil, Option, None, Some}
+use Rattle.std.proofs.Common.{◌≡◌, ℕ, ◌-◌, Bool, true, false, cond, List, [], ◌++◌, map, refl, sym, ap, ◌∙◌, append-nil, Option, None, Some}
 use Rattle.std.proofs.Math.Seq.{drop-nil}
 use Rattle.spec_document.specs.Balance.{LineNumbers, alone}
 use Rattle.spec_document.specs.Fault.{Fault, least}

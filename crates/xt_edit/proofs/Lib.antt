@@ -1,3 +1,4 @@
+pub mod Apart
 pub mod Between
 pub mod Carried
 pub mod Deleted
@@ -7,12 +8,15 @@ pub mod Faults
 pub mod Inserting
 pub mod Judged
 pub mod Keeping
+pub mod MoveTold
+pub mod Moved
 pub mod Moves
 pub mod Named
 pub mod Placed
 pub mod Plainly
 pub mod Preserved
 pub mod Renewed
+pub mod Reordering
 pub mod Seams
 pub mod Shifted
 pub mod Sites

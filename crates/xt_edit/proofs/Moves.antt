@@ -1,13 +1,13 @@
 -- What a move is at the node there: its refusals, and the document afterwards by where the node comes to.
-use Rattle.std.proofs.Common.{◌≡◌, ◌≢◌, ℕ, ◌+◌, ◌-◌, true, false, cond, List, [], ◌∷◌, ◌++◌, refl, ap, sym, subst, ◌∙◌, arith, Option, None, Some, length, eq-eqb}
-use Rattle.std.specs.Prelude.{Result, Ok, Err, is_none, not, bytes_eq}
+use Rattle.std.proofs.Common.{◌≡◌, ◌≢◌, ℕ, true, false, cond, List, [], ◌∷◌, ◌++◌, ap, sym, ◌∙◌, arith, Option, None, Some, length}
+use Rattle.std.specs.Prelude.{Result, Ok, Err, is_none, not}
 use Rattle.std.specs.Option.{unwrap_or}
 use Rattle.std.proofs.lemmas.Slice.Eq.{bytes_eq-Decides}
 use Rattle.spec_document.specs.declared.parent.Parent.{Parent}
 use Rattle.spec_document.specs.Fault.{Fault, fault_if, least, answer_of}
-use Rattle.spec_document.specs.Forest.{Content, Document, Forest, Empty, Node as Tree}
+use Rattle.spec_document.specs.Forest.{Content, Document, Forest}
 use Rattle.spec_document.specs.Place.{Found, root_of, node_at}
-use Rattle.spec_edit.specs.Edit.{Edited, at_spot, by_content, by_node, parent_by, refused}
+use Rattle.spec_edit.specs.Edit.{Edited, at_spot, by_node, parent_by, refused}
 use Rattle.spec_edit.specs.Splice.{Spot, spot_of}
 use Rattle.spec_move.specs.Move.{goes_through, is_path, moved_at, moved_between, moved_from, moved_nodes, moved_there, origin_faults, parent_faults}
 use Rattle.spec_move.specs.Move.{position_faults, target_faults, tree_of}
@@ -15,7 +15,7 @@ use Rattle.xt_base.specs.declared.codes.EditCode.{EditCode}
 use Rattle.xt_edit.specs.Finding.{fault_of}
 use Rattle.xt_edit.specs.Inserted.{IsParent}
 use Rattle.xt_edit.specs.Moving.{AreAt, IsAtTarget, IsLeast, Stand, moved_in, moved_within, new_parent, old_parent, tree_in}
-use Rattle.xt_edit.specs.Site.{IsAt, found_there, outer_of, spot_in}
+use Rattle.xt_edit.specs.Site.{IsAt, outer_of, spot_in}
 use Rattle.xt_edit.specs.View.{Edits}
 use Rattle.xt_edit.specs.declared.fault.EditFault.TheVariants as faults
 use Rattle.xt_edit.specs.declared.relocation.Ends.{Ends}
@@ -23,7 +23,6 @@ use Rattle.xt_edit.specs.declared.relocation.Target.{Target}
 use Rattle.xt_edit.proofs.Renewed.{faulted, some_is}
 use Rattle.xt_edit.proofs.Sites.{depth_of-from, path_of-spot}
 use Rattle.xt_tree.specs.declared.node.Node.{Node}
-use Rattle.xt_tree.specs.View.{tree_of as tree_in_code}
 
 -- ---- Refusals for paths
 

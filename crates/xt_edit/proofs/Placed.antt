@@ -8,7 +8,7 @@ use Rattle.spec_document.specs.Fault.{Fault, least, answer_of}
 use Rattle.spec_document.specs.Forest.{Content, Element, Text, Comment, Instruction, Document, Forest, Empty, Node as Tree, labels, plain, size}
 use Rattle.spec_document.specs.NodeFaults.{node_faults}
 use Rattle.spec_document.specs.Numbering.{number_faults, number_limit}
-use Rattle.spec_document.specs.Place.{Found, scope_at}
+use Rattle.spec_document.specs.Place.{scope_at}
 use Rattle.spec_document.specs.Top.{kept, top_faults}
 use Rattle.spec_edit.specs.Edit.{Edited, depth_of, without_lines}
 use Rattle.spec_edit.proofs.Numbers.{lines_limit, size-numbered, size-plain, size-without}

@@ -2,8 +2,10 @@ pub mod Changed
 pub mod Finding
 pub mod Inserted
 pub mod Kept
+pub mod MoveTelling
 pub mod Moving
 pub mod Placing
+pub mod Reordered
 pub mod Seam
 pub mod Site
 pub mod Standing

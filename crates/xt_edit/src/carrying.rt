@@ -9,7 +9,7 @@ ghost use Rattle.xt_tree.specs.View.{forest_of};
 
 use crate::relocation::Ends;
 use crate::seam::{children_of, put_between, take_out};
-use crate::site::Site;
+use crate::site::{Site, Spot};
 use std::alloc::Global;
 use std::rc::Rc;
 use xt_text::Memory;
@@ -98,14 +98,26 @@ fn put_there(
     requires position { 1 ≤ ends.to.spot.position }
     ensures { IfOk result (λ new. new ≡ put_there_in left.now ends.entry fewer (forest_of nodes.now)) }
 {
-    let from = ends.site.spot;
     let to = ends.to.spot;
-    let mut way = Vec::new(alloc);
-    push_below(&mut way, from.parent, from.position, fewer, to.parent)?;
+    let way = way_without(alloc, ends.site.spot, fewer, to.parent)?;
     let index = (to.position - 1) as usize;
     let put = put_between(alloc, left, way.as_slice(), index, index, nodes);
     drop(way);
     put
+}
+
+/// The positions of a path once the sibling at this spot was taken away, by which there are so many fewer.
+pub(crate) fn way_without(
+    alloc: Global,
+    spot: Spot<'_>,
+    fewer: u64,
+    path: &[u64],
+) -> Result<Vec<u64>, Memory>
+    ensures { IfOk result (λ way. way.items ≡ path_below spot.entry.parent.now spot.entry.position fewer path.now) }
+{
+    let mut way = Vec::new(alloc);
+    push_below(&mut way, spot.parent, spot.position, fewer, path)?;
+    Ok(way)
 }
 
 // Adds the positions of a path once the sibling at this position below these was taken away.
@@ -154,8 +166,8 @@ fn position_without(gone: u64, fewer: u64, position: u64) -> u64
     }
 }
 
-// By how many nodes there are fewer below the node that these positions lead to in both.
-fn fewer_by(document: &Doc, left: &Doc, path: &[u64]) -> u64
+/// By how many nodes there are fewer below the node that these positions lead to in both.
+pub(crate) fn fewer_by(document: &Doc, left: &Doc, path: &[u64]) -> u64
     ensures { IsFewerBy document.now left.now path.now result }
 {
     let before = children_of(document, path).len();

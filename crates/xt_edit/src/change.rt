@@ -97,16 +97,20 @@ fn path_of(edit: &Edit) -> &Path
     }
 }
 
-// A node, with those above it, the root first, and those directly below it.
+/// A node, with those above it, the root first, and those directly below it.
 #[derive(Drop)]
-struct Way<'a> {
-    node: NodeId,
-    above: Vec<NodeId>,
-    children: &'a [Rc<Node>],
+pub(crate) struct Way<'a> {
+    pub node: NodeId,
+    pub above: Vec<NodeId>,
+    pub children: &'a [Rc<Node>],
 }
 
-// The way to the node that these positions lead to. None exactly where there is no such node.
-fn way_to<'a>(alloc: Global, document: &'a Doc, path: &[u64]) -> Result<Option<Way<'a>>, Memory>
+/// The way to the node that these positions lead to. None exactly where there is no such node.
+pub(crate) fn way_to<'a>(
+    alloc: Global,
+    document: &'a Doc,
+    path: &[u64],
+) -> Result<Option<Way<'a>>, Memory>
     ensures { IfOk result (λ way. option_map telling.way_in way ≡ telling.way_at document.now path.now) }
 {
     let mut node = document.root();
@@ -139,8 +143,8 @@ pub(crate) fn child_at(siblings: &[Rc<Node>], position: u64) -> Option<&Node>
     Some(&siblings[(position - 1) as usize])
 }
 
-// The change of the node that the way leads to, whose children are now these.
-fn change_among(
+/// The change of the node that the way leads to, whose children are now these.
+pub(crate) fn change_among(
     alloc: Global,
     of_attributes: bool,
     way: Way<'_>,
@@ -227,8 +231,8 @@ fn is_same(old: &Rc<Node>, new: &Rc<Node>) -> bool
     old.id() == new.id()
 }
 
-// The numbers of siblings, without what is below them.
-fn numbers(alloc: Global, siblings: &[Rc<Node>]) -> Result<Vec<NodeId>, Memory>
+/// The numbers of siblings, without what is below them.
+pub(crate) fn numbers(alloc: Global, siblings: &[Rc<Node>]) -> Result<Vec<NodeId>, Memory>
     ensures { IfOk result (λ list. numbers_in list.items ≡ sibling_labels (forest_of siblings.now)) }
 {
     let mut list = Vec::new(alloc);
@@ -238,8 +242,8 @@ fn numbers(alloc: Global, siblings: &[Rc<Node>]) -> Result<Vec<NodeId>, Memory>
     Ok(list)
 }
 
-// Adds the numbers of siblings and of all below them.
-fn push_numbers(list: &mut Vec<NodeId>, siblings: &[Rc<Node>]) -> Result<(), Memory>
+/// Adds the numbers of siblings and of all below them.
+pub(crate) fn push_numbers(list: &mut Vec<NodeId>, siblings: &[Rc<Node>]) -> Result<(), Memory>
     ensures { OnOk result (numbers_in list.new.items ≡ numbers_in list.old.items ++ labels (forest_of siblings.now)) }
 {
     for sibling in siblings {

@@ -95,8 +95,12 @@ fn parted(
     }
 }
 
-// The node at the first path, and where the second one leads; else the least fault of the paths.
-fn ends_of<'a>(document: &'a Doc, path: &'a Path, other: &'a Path) -> Result<Ends<'a>, EditCode>
+/// The node at the first path, and where the second one leads; else the least fault of the paths.
+pub(crate) fn ends_of<'a>(
+    document: &'a Doc,
+    path: &'a Path,
+    other: &'a Path,
+) -> Result<Ends<'a>, EditCode>
     ensures { AreEnds document.now path.now other.now result }
 {
     match origin_at(document, path) {
@@ -124,7 +128,8 @@ fn target_of<'a>(document: &Doc, path: &'a Path) -> Result<Target<'a>, EditCode>
     }
 }
 
-fn is_same_way(way: &[u64], other: &[u64]) -> bool
+/// Whether both lead to one node.
+pub(crate) fn is_same_way(way: &[u64], other: &[u64]) -> bool
     ensures { result ≡ spec.is_path way.now other.now }
 {
     way == other

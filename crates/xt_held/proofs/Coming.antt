@@ -144,6 +144,7 @@ answers_as held s rules method h = record {
   naming = h.naming;
   truth = λ parameters document q. h.truth parameters document q ∙ same_answers h.numbers s rules method parameters document q;
   globals = h.globals;
+  rules = h.rules;
 }
 
 -- ---- The run, by numbers and by places

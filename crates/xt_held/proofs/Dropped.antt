@@ -1,6 +1,5 @@
 -- What is held where a module was tried without, and what is ready then.
 use Rattle.std.proofs.Common.{◌≡◌, ℕ, List, Option, Some, ap, sym, subst, ◌∙◌}
-use Rattle.std.specs.Prelude.{IfSome}
 use Rattle.std.specs.Map.{lookup}
 use Rattle.std.specs.Option.{option_copied, option_map}
 use Rattle.std.specs.Str.{chars}
@@ -10,18 +9,17 @@ use Rattle.spec_run.specs.Outcome.{Comes, IsOutcome}
 use Rattle.xt_import.specs.View.{is_name, modules_in, plain_of}
 use Rattle.xt_world.specs.ParameterView.{parameters_of}
 use Rattle.xt_held.specs.OutcomeView.{Fits, outcome_of}
-use Rattle.xt_held.specs.RunView.{KeptHolds}
+use Rattle.xt_held.specs.RunView.{LastHolds}
 use Rattle.xt_held.specs.StylesheetView.{AreCompiled, IsThere, without_one}
 use Rattle.xt_held.specs.Tried.{AreSame}
 use Rattle.spec_node.specs.declared.node_ref.NodeId.{NodeId}
-use Rattle.xt_held.specs.View.{AreAllBelow, HasBelow, IsCurrent, IsKept, IsReady, documents_of, last_in, made_of, outcome_in, steps_in}
+use Rattle.xt_held.specs.View.{AreAllBelow, HasBelow, IsCurrent, IsKept, IsReady, before_by, left_by, documents_of, last_in, made_of, outcome_in, steps_in}
 use Rattle.xt_held.specs.declared.held.Held.{Held}
 use Rattle.xt_held.specs.declared.outcome.Came.{Came}
 use Rattle.xt_held.specs.declared.ready.Change.TheVariants as changes
 use Rattle.xt_held.specs.declared.stylesheet.Compiled.{Compiled}
 use Rattle.xt_held.proofs.Dropping.{same_below, same_modules}
 use Rattle.xt_held.proofs.Keeping.{current_by}
-use Rattle.xt_held.proofs.Marked.{adopted_last}
 use denote.Ref.{Bor}
 
 -- a module of this name, as it is looked for by its text
@@ -68,7 +66,7 @@ pub ready_so : (old new : Held) → IsReordered old new → (name : List ℕ) (k
     → next.number ≡ made_of old → AreCompiled (without_one name (modules_in old.modules.entries)) compiled
     → Comes (without_one name (modules_in old.modules.entries)) (parameters_of old.parameters) (without_one name (modules_in old.modules.entries) main_name)
     (option_map plain_of old.source) (outcome_of came.outcome)
-    → Fits came → IfSome came.kept (KeptHolds compiled (parameters_of new.parameters) new.source)
+    → Fits came → LastHolds (outcome_of came.outcome) compiled (parameters_of new.parameters) new.source (left_by came (before_by compiled new.compiled new.last.before) new.last)
     → IsCurrent old → IsReady (without_module name) (made_of new) new (record { change = changes.Dropped kept compiled; next = next; came = came })
 ready_so old new h name kept same compiled came next number are comes fits holds now =
     let documents : without_module name (documents_of old) ≡ without_module kept (documents_of new)
@@ -83,6 +81,6 @@ ready_so old new h name kept same compiled came next number are comes fits holds
         room = tt;
         others = subst (λ (first : ℕ). HasBelow first new) (h.made ∙ sym number) (still_below old new h now.below);
         below = tt;
-        last = adopted_last came new.last (KeptHolds compiled (parameters_of new.parameters) new.source) fits holds;
+        last = holds;
       };
     }

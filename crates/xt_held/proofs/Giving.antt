@@ -1,7 +1,5 @@
 -- What is held where a value of a parameter was tried, and what is ready then.
-use Rattle.std.proofs.Common.{◌≡◌, ℕ, true, List, string_bytes, refl, sym, subst}
-use Rattle.std.specs.Prelude.{IfSome}
-use Rattle.std.specs.Option.{unwrap_or}
+use Rattle.std.proofs.Common.{◌≡◌, ℕ, List, string_bytes, refl, sym, subst}
 use Rattle.std.specs.Str.{chars}
 use Rattle.std.specs.declared.alloc.Global.{Global}
 use Rattle.std.specs.declared.string.String.{String}
@@ -10,14 +8,13 @@ use Rattle.spec_run.specs.Documents.{Documents, main_name, with_parameter}
 use Rattle.spec_run.specs.Outcome.{Comes, IsOutcome}
 use Rattle.xt_world.specs.ParameterView.{HasRoomForOne, parameters_of, with_value}
 use Rattle.xt_world.specs.declared.parameters.Parameters.{Parameters}
-use Rattle.xt_held.specs.OutcomeView.{Fits, is_done, outcome_of}
-use Rattle.xt_held.specs.RunView.{KeptHolds, LastHolds}
+use Rattle.xt_held.specs.OutcomeView.{Fits, outcome_of}
+use Rattle.xt_held.specs.RunView.{LastHolds}
 use Rattle.xt_held.specs.StylesheetView.{AreCompiled}
-use Rattle.xt_held.specs.View.{HasBelow, IsKept, IsReady, documents_of, made_of, outcome_in}
+use Rattle.xt_held.specs.View.{HasBelow, IsKept, IsReady, left_by, documents_of, made_of, outcome_in}
 use Rattle.xt_held.specs.declared.held.Held.{Held}
 use Rattle.xt_held.specs.declared.outcome.Came.{Came}
 use Rattle.xt_held.specs.declared.ready.Change.TheVariants as changes
-use Rattle.xt_held.proofs.Marked.{adopted_last}
 
 abbrev with_those : Held → Parameters → Held
 with_those held parameters = record held { parameters = parameters }
@@ -48,7 +45,10 @@ pub ready_so : (held : Held) (parameters : Parameters) (name value : List ℕ) (
     → AreCompiled (documents_of held).modules held.compiled → HasBelow (made_of held) held
     → Comes (documents_of held).modules (with_value name value (parameters_of held.parameters)) ((documents_of held).modules main_name)
     (documents_of held).source (outcome_of came.outcome)
-    → Fits came → IfSome came.kept (KeptHolds held.compiled (with_value name value (parameters_of held.parameters)) held.source) → HasRoomForOne parameters
+    → Fits came
+    → LastHolds (outcome_of came.outcome) held.compiled (with_value name value (parameters_of held.parameters)) held.source
+    (left_by came held.last.before held.last)
+    → HasRoomForOne parameters
     → IsReady (with_parameter name value) (made_of held) (with_those held parameters)
     (record { change = changes.Parameter key kept; next = held.next; came = came })
 ready_so held parameters name value key kept came same named valued compiled below comes fits holds room =
@@ -66,7 +66,7 @@ ready_so held parameters name value key kept came same named valued compiled bel
         room = room;
         others = below;
         below = tt;
-        last = subst (λ (values : spec.Parameters). is_done (outcome_of came.outcome) ≡ true → KeptHolds held.compiled values held.source (unwrap_or came.kept held.last)) given
-            (adopted_last came held.last (KeptHolds held.compiled (with_value name value (parameters_of held.parameters)) held.source) fits holds);
+        last = subst (λ (values : spec.Parameters). LastHolds (outcome_of came.outcome) held.compiled values held.source
+            (left_by came held.last.before held.last)) given holds;
       };
     }

@@ -14,13 +14,13 @@ use Rattle.spec_run.specs.Outcome as spec
 use Rattle.spec_run.specs.Outcome.{IsOutcome}
 use Rattle.xt_edit.specs.View.{AreBelow}
 use Rattle.xt_import.specs.View.{is_name, plain_of}
-use Rattle.xt_record.specs.declared.pool.Pool.{Pool}
 use Rattle.xt_world.specs.ParameterView.{parameters_of}
 use Rattle.xt_world.proofs.Keys.{lookup-insert}
 use Rattle.xt_held.specs.RunView.{LastHolds}
 use Rattle.xt_held.specs.StylesheetView.{AreCompiled}
 use Rattle.xt_held.specs.View.{AreAllBelow, HasBelow, document_named, documents_of, last_in, made_of, numbered_document, outcome_in, steps_in, IsCurrent, IsKept}
 use Rattle.xt_held.specs.declared.held.Held.{Held}
+use Rattle.xt_held.specs.declared.last_run.LastRun.{LastRun}
 use Rattle.xt_held.specs.declared.name.DocName.{DocName}
 use Rattle.xt_held.specs.declared.name.DocName.TheVariants as names
 use Rattle.xt_held.specs.declared.stylesheet.Compiled.{Compiled}
@@ -28,7 +28,7 @@ use Rattle.xt_held.proofs.Below.{raised}
 use Rattle.xt_held.proofs.Keys.{map-copied}
 use denote.Ref.{Bor}
 
-same_last : (outcome now : spec.Outcome) (compiled kept : Option Compiled) (parameters given : Parameters) (source document : Option (Document ℕ)) (last pool : Pool)
+same_last : (outcome now : spec.Outcome) (compiled kept : Option Compiled) (parameters given : Parameters) (source document : Option (Document ℕ)) (last pool : LastRun)
     → outcome ≡ now → compiled ≡ kept → parameters ≡ given → source ≡ document → last ≡ pool → LastHolds now kept given document pool
     → LastHolds outcome compiled parameters source last
 same_last outcome now compiled kept parameters given source document last pool o k p s l h =
@@ -36,9 +36,9 @@ same_last outcome now compiled kept parameters given source document last pool o
     (subst (λ (x : Option Compiled). LastHolds now x parameters source last) (sym k)
     (subst (λ (x : Parameters). LastHolds now kept x source last) (sym p)
     (subst (λ (x : Option (Document ℕ)). LastHolds now kept given x last) (sym s)
-    (subst (λ (x : Pool). LastHolds now kept given document x) (sym l) h))))
+    (subst (λ (x : LastRun). LastHolds now kept given document x) (sym l) h))))
 
-pub current_by : (held : Held) (documents : Documents) (outcome : spec.Outcome) (compiled : Option Compiled) (source : Option (Document ℕ)) (last : Pool)
+pub current_by : (held : Held) (documents : Documents) (outcome : spec.Outcome) (compiled : Option Compiled) (source : Option (Document ℕ)) (last : LastRun)
     → documents_of held ≡ documents → outcome_in held ≡ outcome → held.compiled ≡ compiled → held.source ≡ source → last_in held ≡ last
     → IsOutcome documents outcome → AreCompiled documents.modules compiled → HasBelow (made_of held) held
     → LastHolds outcome compiled documents.parameters source last → IsCurrent held

@@ -8,3 +8,4 @@ pub mod Dropping
 pub mod Dropped
 pub mod Sparing
 pub mod Marked
+pub mod Left

@@ -1,44 +1,39 @@
--- What may be reused of the last run after each kind of change.
-use Rattle.std.proofs.Common.{◌≡◌, ℕ, true, List, Option, None, Some, Result, Ok, Err, ap, sym, subst, ◌∙◌}
-use Rattle.std.specs.Prelude.{IfOk, IfSome}
-use Rattle.std.specs.Option.{is_some, option_copied, unwrap_or}
+-- What was kept is spared after each kind of change.
+use Rattle.std.proofs.Common.{◌≡◌, ℕ, List, [], ◌∷◌, Option, None, Some, ap, sym, subst, ◌∙◌}
 use Rattle.spec_document.specs.Forest.{Document, Plain}
+use Rattle.spec_document.specs.Name.{Expanded}
 use Rattle.spec_stylesheet.specs.Place.{Place}
 use Rattle.spec_stylesheet.specs.Sheet as plain
+use Rattle.spec_stylesheet.specs.declared.method.Method.{Method}
 use Rattle.spec_seen.specs.Seen.{seen}
 use Rattle.spec_structure.specs.Modules.{Modules}
 use Rattle.spec_meaning.specs.Question.{Question}
 use Rattle.spec_run.specs.Documents.{Parameters, main_name}
 use Rattle.spec_edit.specs.Edit as spec
 use Rattle.spec_change.specs.Change.{Change, IsEdit, change_of}
+use Rattle.spec_move.specs.Changed.{MoveChange, IsMove, move_change}
 use Rattle.spec_node.specs.declared.node_ref.NodeRef.{NodeRef}
-use Rattle.spec_touch.specs.Marks.{SourceEdited, ModulesChanged, ParameterGiven, answers}
-use Rattle.xt_text.specs.declared.memory.Memory.{Memory}
-use Rattle.xt_tree.specs.Numbers.{IsNumbered}
-use Rattle.xt_edit.specs.View.{AreBelow, Edits, edit_of}
-use Rattle.xt_edit.specs.declared.edit.Edit.{Edit}
-use Rattle.xt_edit.specs.declared.edit.Edited.{Edited}
-use Rattle.xt_edit.specs.declared.fault.EditFault.{EditFault}
-use Rattle.xt_touch.specs.View.{marked_by}
-use Rattle.xt_touch.specs.declared.marks.Marks.{Marks}
-use Rattle.xt_syntax.specs.SheetView.{space_rules_of}
+use Rattle.spec_touch.specs.Leads.{Leads, seen_change}
+use Rattle.spec_touch.specs.Marks.{SourceEdited, SourceMoved, ModulesChanged, ParameterGiven, Anything, WorldChange, answers}
+use Rattle.spec_touch.specs.Plain.{AreAsking}
+use Rattle.xt_touch.specs.View.{remembered}
+use Rattle.xt_syntax.specs.SheetView.{rules_of, space_rules_of}
+use Rattle.xt_syntax.specs.declared.space_rules.SpaceRules.{SpaceRules}
+use Rattle.xt_record.specs.Sure.{Spares}
 use Rattle.xt_record.specs.declared.pool.Pool.{Pool}
 use Rattle.xt_world.specs.Numbered.{element_called}
 use Rattle.xt_world.specs.ParameterView.{with_value}
 use Rattle.xt_world.specs.View.{truth_in}
 use Rattle.xt_world.specs.declared.stylesheet.Stylesheet as world
-use Rattle.xt_held.specs.OutcomeView.{Fits, is_done, outcome_of}
-use Rattle.xt_held.specs.RunView.{AnswersAsSome, IsMadeBy, KeptHolds, KeptSpared, SeeAlike, SeesAll, SparesWithValue, truth_seen}
-use Rattle.xt_held.specs.StylesheetView.{AnswersAs, AreCompiled, AreCompiledBy, Holds, IsCompiledFrom}
-use Rattle.xt_held.specs.View.{HasBelow, IsCurrent, IsKnown, documents_of, numbered_document}
+use Rattle.xt_tree.specs.Numbers.{IsNumbered}
+use Rattle.xt_held.specs.RunView.{AnswersAsSome, IsFaultless, KeptSpared, SeesAll, StaysSpared, truth_seen}
+use Rattle.xt_held.specs.StylesheetView.{AnswersAs, AreCompiled, AreCompiledBy, IsCompiledFrom}
+use Rattle.xt_held.specs.View.{IsCurrent, IsKnown}
 use Rattle.xt_held.specs.declared.held.Held.{Held}
-use Rattle.xt_held.specs.declared.name.DocName.{DocName}
-use Rattle.xt_held.specs.declared.name.DocName.TheVariants as names
-use Rattle.xt_held.specs.declared.outcome.Came.{Came}
 use Rattle.xt_held.specs.declared.stylesheet.Compiled.{Compiled}
 use Rattle.xt_held.specs.declared.stylesheet.Compiled.TheVariants.{Stylesheet, Refused}
-use Rattle.xt_held.proofs.Sparing.{Answering, Leading, alike, edit_comes, leads_so, modules_come, none_spared, pool_spared, value_comes, world_of}
-use denote.Ref.{Bor}
+use Rattle.xt_held.proofs.Sparing.{Answering, KeepingSpace, Leading, alike, edit_comes, leads_so, modules_come, move_comes, none_spared, seen_whole}
+use Rattle.xt_held.proofs.Sparing.{sound_of, spared_after, value_comes, world_of}
 
 -- ---- What modules are answers as some stylesheet does
 
@@ -55,7 +50,7 @@ pub answers_as_some : (modules : Modules) (compiled : Option Compiled) → AreCo
 answers_as_some modules compiled h = answers_among modules (modules main_name) compiled h.so
 
 pub known_of : (held : Held) → IsCurrent held → IsKnown held
-known_of held h = record { answers = answers_as_some (documents_of held).modules held.compiled h.compiled; last = h.last }
+known_of held h = record { last = h.last }
 
 -- the world of a stylesheet, of which it holds what is answered
 abbrev named_by : (held : world.Stylesheet) (sheet : plain.Sheet) → AnswersAs held sheet → Place → NodeRef
@@ -65,117 +60,110 @@ answered : (held : world.Stylesheet) (sheet : plain.Sheet) (h : AnswersAs held s
     → truth_in held parameters document q ≡ answers (world_of sheet (named_by held sheet h) parameters document) q
 answered held sheet h parameters document q = h.truth parameters document q
 
--- ---- Where all is marked
+-- ---- Where anything may be another
 
-pub all_marked : (compiled : Option Compiled) (parameters : Parameters) (source : Option (Document ℕ)) (pool : Pool)
-    → KeptSpared compiled parameters source pool None
+all_marked : (compiled : Option Compiled) (parameters : Parameters) (source : Option (Document ℕ)) (pool : Pool)
+    → KeptSpared compiled parameters source pool (Anything ∷ [])
 all_marked None parameters source pool = tt
 all_marked (Some (Refused why)) parameters source pool = tt
 all_marked (Some (Stylesheet held rules method)) parameters None pool = tt
 all_marked (Some (Stylesheet held rules method)) parameters (Some source) pool = none_spared (truth_seen held rules parameters source) pool
 
--- ---- After an edit of the source
+pub anything_stays : (old new : Option Compiled) (before after : Parameters) (was is : Option (Document ℕ)) (changes next : List WorldChange)
+    → next ≡ Anything ∷ [] → StaysSpared old new before after was is changes next
+anything_stays old new before after was is changes next e = λ pool answers others h.
+    subst (λ (cs : List WorldChange). KeptSpared new after is pool cs) (sym e) (all_marked new after is pool)
 
--- where an edit is told, and there is a source
-pub made_so : (told : Option (Bor Edit)) (edit : Bor Edit) (source : Option (Document ℕ)) (old new : Document ℕ) → told ≡ Some edit → source ≡ Some old
-    → IsMadeBy (option_copied told) source new → IsEdit (edit_of edit.now) old new
-made_so told edit source old new is there h =
-    subst (λ (s : Option (Document ℕ)). IsMadeBy (Some edit.now) s new) there
-    (subst (λ (e : Option (Bor Edit)). IsMadeBy (option_copied e) source new) is h)
+-- where nothing changes
+pub same_stays : (known : Option Compiled) (parameters : Parameters) (source : Option (Document ℕ)) (changes next : List WorldChange) → next ≡ changes
+    → StaysSpared known known parameters parameters source source changes next
+same_stays known parameters source changes next e = λ pool answers others h.
+    subst (λ (cs : List WorldChange). KeptSpared known parameters source pool cs) (sym e) h
 
--- what an edit that is accepted makes of a document
-edit_made : (edit : Edit) (first : ℕ) (old : Document ℕ) → AreBelow first old → (result : Result Edited EditFault)
-    → Edits old first result (spec.edited_nodes first (edit_of edit) old) → IfOk result (λ edited. IsEdit (edit_of edit) old edited.document)
-edit_made edit first old below (Ok edited) h = record { first = first; below = below; edited = h.0; edited_is = h.1; new_is = h.2 }
-edit_made edit first old below (Err why) h = tt
+-- ---- After an edit of the source, and after a move in it
 
-below_named : (first : ℕ) (name : DocName) (held : Held) → HasBelow first held → IfSome (numbered_document name held) (AreBelow first)
-below_named first names.Source held h = h.source
-below_named first (names.Module name) held h = h.modules name.now
-
--- what it makes of the document of a name
-pub made_by : (edit : Edit) (first : ℕ) (name : DocName) (held : Held) (found : Option (Bor (Document ℕ))) (old : Bor (Document ℕ))
-    → option_copied found ≡ numbered_document name held → found ≡ Some old → HasBelow first held → (result : Result Edited EditFault)
-    → Edits old.now first result (spec.edited_nodes first (edit_of edit) old.now)
-    → IfOk result (λ edited. IsMadeBy (Some edit) (numbered_document name held) edited.document)
-made_by edit first name held found old copied is below result h =
-    let named : numbered_document name held ≡ Some old.now = sym copied ∙ ap option_copied is in
-    subst (λ (o : Option (Document ℕ)). IfOk result (λ edited. IsMadeBy (Some edit) o edited.document)) (sym named)
-    (edit_made edit first old.now (subst (λ (o : Option (Document ℕ)). IfSome o (AreBelow first)) named (below_named first name held below)) result h)
-
--- what is so of what is lent is so of what is held
-pub source_marked : (lent : Option (Bor Compiled)) (compiled : Option Compiled) → option_copied lent ≡ compiled → (parameters : Parameters)
-    (source : Option (Document ℕ)) (old new : Document ℕ) → source ≡ Some old → (pool : Pool) (result : Result (Option Marks) Memory)
-    → ((parameters : Parameters) (pool : Pool) → AnswersAsSome (option_copied lent) → KeptHolds (option_copied lent) parameters (Some old) pool
-    → IfOk result (λ marks. KeptSpared (option_copied lent) parameters (Some new) pool marks))
-    → AnswersAsSome compiled → KeptHolds compiled parameters source pool → IfOk result (λ marks. KeptSpared compiled parameters (Some new) pool marks)
-source_marked lent compiled e parameters source old new there pool result told answers h =
-    subst (λ (o : Option Compiled). IfOk result (λ marks. KeptSpared o parameters (Some new) pool marks)) e
-    (told parameters pool (subst (λ (o : Option Compiled). AnswersAsSome o) (sym e) answers)
-    (subst (λ (s : Option (Document ℕ)). KeptHolds (option_copied lent) parameters s pool) there
-    (subst (λ (o : Option Compiled). KeptHolds o parameters source pool) (sym e) h)))
-
-pub edit_spared : Answering → Leading → (compiled : Option Compiled) → SeesAll compiled → (edit : spec.Edit) (old new : Document ℕ) → IsEdit edit old new
-    → IsNumbered old → (change : Change) → change_of edit old new ≡ Some change → (marks : Marks) → marked_by marks ≡ SourceEdited change
-    → (parameters : Parameters) (pool : Pool) → AnswersAsSome compiled → KeptHolds compiled parameters (Some old) pool
-    → KeptSpared compiled parameters (Some new) pool (Some marks)
-edit_spared answering leading None all edit old new q numbers change is marks of parameters pool answers h = tt
-edit_spared answering leading (Some (Refused why)) all edit old new q numbers change is marks of parameters pool answers h = tt
-edit_spared answering leading (Some (Stylesheet held rules method)) all edit old new q numbers change is marks of parameters pool answers h =
+pub edit_stays : Answering → Leading → KeepingSpace → (held : world.Stylesheet) (rules : SpaceRules) (method : Option (Method Expanded))
+    (parameters : Parameters) (edit : spec.Edit) (old new : Document ℕ) → IsFaultless old → IsNumbered old → IsEdit edit old new
+    → (told change : Change) → change_of edit old new ≡ Some told
+    → (Leads (seen_change told (seen (space_rules_of rules).rules old) (seen (space_rules_of rules).rules new)) (seen (space_rules_of rules).rules old)
+    (seen (space_rules_of rules).rules new)
+    → change ≡ seen_change told (seen (space_rules_of rules).rules old) (seen (space_rules_of rules).rules new))
+    → (asking : List (Option Expanded)) → AreAsking asking (rules_of held.rules).rules
+    → (changes next : List WorldChange) → next ≡ remembered changes (SourceEdited change asking)
+    → StaysSpared (Some (Stylesheet held rules method)) (Some (Stylesheet held rules method)) parameters parameters (Some old) (Some new) changes next
+edit_stays answering leading keeping held rules method parameters edit old new faultless numbers q told change is seen_so asking asks changes next e =
+    λ pool answers others h.
+    let sight = (space_rules_of rules).rules in
     let sheet = answers.0 in
     let called = named_by held sheet answers.1 in
+    let sound = sound_of old numbers faultless in
+    let made = seen_change told (seen sight old) (seen sight new) in
+    let same : change ≡ made = seen_so (leads_so leading keeping sight edit old new q sound told is) in
+    let comes = edit_comes sheet called parameters sight asking edit old new sound q told is
+    (subst (λ (rs : plain.Rules). AreAsking asking rs.rules) answers.1.rules asks) in
+    let before = truth_seen held rules parameters old in
+    let after = truth_seen held rules parameters new in
+    subst (λ (cs : List WorldChange). Spares after pool cs) (sym (e ∙ ap (λ (c : Change). remembered changes (SourceEdited c asking)) same))
+    (spared_after changes (SourceEdited made asking) before after
+    (alike answering (SourceEdited made asking) (world_of sheet called parameters (seen sight old)) (world_of sheet called parameters (seen sight new))
+    comes before after (answered held sheet answers.1 parameters (seen sight old)) (answered held sheet answers.1 parameters (seen sight new))) pool h)
+
+pub move_stays : Answering → (held : world.Stylesheet) (rules : SpaceRules) (method : Option (Method Expanded)) (parameters : Parameters)
+    (path other : List ℕ) (old new : Document ℕ) → SeesAll rules → IsFaultless old → IsNumbered old → IsMove path other old new
+    → (change : MoveChange) → move_change path other old new ≡ Some change
+    → (asking : List (Option Expanded)) → AreAsking asking (rules_of held.rules).rules
+    → (changes next : List WorldChange) → next ≡ remembered changes (SourceMoved change asking)
+    → StaysSpared (Some (Stylesheet held rules method)) (Some (Stylesheet held rules method)) parameters parameters (Some old) (Some new) changes next
+move_stays answering held rules method parameters path other old new all faultless numbers q change is asking asks changes next e =
+    λ pool answers others h.
     let sight = (space_rules_of rules).rules in
-    let comes = edit_comes sheet called parameters change old new sight all (leads_so leading edit old new q numbers change is) in
-    pool_spared marks (SourceEdited change) of (truth_seen held rules parameters old) (truth_seen held rules parameters new)
-    (alike answering (SourceEdited change) (world_of sheet called parameters (seen sight old))
-    (world_of sheet called parameters (seen sight new)) comes
-    (truth_seen held rules parameters old) (truth_seen held rules parameters new)
-    (answered held sheet answers.1 parameters (seen sight old)) (answered held sheet answers.1 parameters (seen sight new))) pool h
+    let sheet = answers.0 in
+    let called = named_by held sheet answers.1 in
+    let comes = move_comes sheet called parameters asking path other old new (sound_of old numbers faultless) q change is
+    (subst (λ (rs : plain.Rules). AreAsking asking rs.rules) answers.1.rules asks) in
+    let before = truth_in held parameters old in
+    let after = truth_in held parameters new in
+    let moved = spared_after changes (SourceMoved change asking) before after
+    (alike answering (SourceMoved change asking) (world_of sheet called parameters old) (world_of sheet called parameters new)
+    comes before after (answered held sheet answers.1 parameters old) (answered held sheet answers.1 parameters new)) pool
+    (subst (λ (d : Document ℕ). Spares (truth_in held parameters d) pool changes) (seen_whole sight old all) h) in
+    subst (λ (cs : List WorldChange). Spares (truth_seen held rules parameters new) pool cs) (sym e)
+    (subst (λ (d : Document ℕ). Spares (truth_in held parameters d) pool (remembered changes (SourceMoved change asking))) (sym (seen_whole sight new all))
+    moved)
 
 -- ---- After a change of modules
 
-pub modules_spared : Answering → (old new : Option Compiled) → SeeAlike old new → (marks : Marks) → marked_by marks ≡ ModulesChanged true
-    → (parameters : Parameters) (source : Option (Document ℕ)) (pool : Pool) → AnswersAsSome old → AnswersAsSome new
-    → KeptHolds old parameters source pool → KeptSpared new parameters source pool (Some marks)
-modules_spared answering None new see marks of parameters source pool was is h = absurd see
-modules_spared answering (Some (Refused why)) new see marks of parameters source pool was is h = absurd see
-modules_spared answering (Some (Stylesheet held rules method)) None see marks of parameters source pool was is h = absurd see
-modules_spared answering (Some (Stylesheet held rules method)) (Some (Refused why)) see marks of parameters source pool was is h = absurd see
-modules_spared answering (Some (Stylesheet held rules method)) (Some (Stylesheet other others another)) see marks of parameters None pool was is h = tt
-modules_spared answering (Some (Stylesheet held rules method)) (Some (Stylesheet other others another)) see marks of parameters (Some source) pool was is h =
+pub modules_stay : Answering → (held other : world.Stylesheet) (rules others : SpaceRules) (method another : Option (Method Expanded)) (parameters : Parameters)
+    (source : Option (Document ℕ)) → space_rules_of others ≡ space_rules_of rules → (changes next : List WorldChange) → next ≡ remembered changes ModulesChanged
+    → StaysSpared (Some (Stylesheet held rules method)) (Some (Stylesheet other others another)) parameters parameters source source changes next
+modules_stay answering held other rules others method another parameters None see changes next e = λ pool was is h. tt
+modules_stay answering held other rules others method another parameters (Some source) see changes next e = λ pool was is h.
     let old = seen (space_rules_of rules).rules source in
     let new = seen (space_rules_of others).rules source in
     let same : new ≡ old = ap (λ (rs : plain.SpaceRules). seen rs.rules source) see in
     let before = world_of was.0 (named_by held was.0 was.1) parameters old in
     let after = world_of is.0 (named_by other is.0 is.1) parameters new in
-    pool_spared marks (ModulesChanged true) of (truth_in held parameters old) (truth_in other parameters new)
-    (alike answering (ModulesChanged true) before after (modules_come was.0 is.0 (named_by held was.0 was.1) (named_by other is.0 is.1) parameters old new same)
+    subst (λ (cs : List WorldChange). Spares (truth_in other parameters new) pool cs) (sym e)
+    (spared_after changes ModulesChanged (truth_in held parameters old) (truth_in other parameters new)
+    (alike answering ModulesChanged before after (modules_come was.0 is.0 (named_by held was.0 was.1) (named_by other is.0 is.1) parameters old new same)
     (truth_in held parameters old) (truth_in other parameters new)
-    (answered held was.0 was.1 parameters old) (answered other is.0 is.1 parameters new)) pool h
+    (answered held was.0 was.1 parameters old) (answered other is.0 is.1 parameters new)) pool h)
 
 -- ---- After a parameter is given another value
 
-pub value_spared : Answering → (name : List ℕ) (marks : Marks) → marked_by marks ≡ ParameterGiven name → SparesWithValue name (Some marks)
-value_spared answering name marks of None parameters value source pool answers h = tt
-value_spared answering name marks of (Some (Refused why)) parameters value source pool answers h = tt
-value_spared answering name marks of (Some (Stylesheet held rules method)) parameters value None pool answers h = tt
-value_spared answering name marks of (Some (Stylesheet held rules method)) parameters value (Some source) pool answers h =
+pub value_stays : Answering → (name : List ℕ) (known : Option Compiled) (parameters : Parameters) (value : List ℕ) (source : Option (Document ℕ))
+    (changes next : List WorldChange) → next ≡ remembered changes (ParameterGiven name)
+    → StaysSpared known known parameters (with_value name value parameters) source source changes next
+value_stays answering name None parameters value source changes next e = λ pool answers others h. tt
+value_stays answering name (Some (Refused why)) parameters value source changes next e = λ pool answers others h. tt
+value_stays answering name (Some (Stylesheet held rules method)) parameters value None changes next e = λ pool answers others h. tt
+value_stays answering name (Some (Stylesheet held rules method)) parameters value (Some source) changes next e = λ pool answers others h.
     let sheet = answers.0 in
     let called = named_by held sheet answers.1 in
     let sight = seen (space_rules_of rules).rules source in
     let given = with_value name value parameters in
-    pool_spared marks (ParameterGiven name) of (truth_in held parameters sight) (truth_in held given sight)
+    subst (λ (cs : List WorldChange). Spares (truth_in held given sight) pool cs) (sym e)
+    (spared_after changes (ParameterGiven name) (truth_in held parameters sight) (truth_in held given sight)
     (alike answering (ParameterGiven name) (world_of sheet called parameters sight) (world_of sheet called given sight)
     (value_comes sheet called parameters name value sight) (truth_in held parameters sight) (truth_in held given sight)
-    (answered held sheet answers.1 parameters sight) (answered held sheet answers.1 given sight)) pool h
-
--- ---- What is adopted
-
--- where there is a result, what the run kept is what the last one did from then on
-pub adopted_last : (came : Came) (last : Pool) (P : Pool → Type 0) → Fits came → IfSome came.kept P → is_done (outcome_of came.outcome) ≡ true
-    → P (unwrap_or came.kept last)
-adopted_last came last P fits kept done = by came.kept (fits.kept ∙ done) kept
-  where
-    by : (kept : Option Pool) → is_some kept ≡ true → IfSome kept P → P (unwrap_or kept last)
-    by None none h = absurd (cc)
-    by (Some pool) some h = h
+    (answered held sheet answers.1 parameters sight) (answered held sheet answers.1 given sight)) pool h)

@@ -1,6 +1,6 @@
 -- Which questions have the answers that they had, after each kind of change.
-use Rattle.std.proofs.Common.{◌≡◌, ℕ, Bool, true, false, not, List, [], ◌∷◌, Option, None, Some, Ok, bytes_eq, if◌then◌else◌, refl, sym, ap, subst, ◌∙◌}
-use Rattle.std.specs.Prelude.{◌&&◌, IsTrue, nat_eq, nat_lt}
+use Rattle.std.proofs.Common.{◌≡◌, ℕ, Bool, true, false, cond, not, List, [], ◌∷◌, ◌++◌, Option, None, Some, Ok, bytes_eq, if◌then◌else◌, refl, sym, ap, subst, ◌∙◌}
+use Rattle.std.specs.Prelude.{◌&&◌, ◌||◌, IsTrue, length, nat_eq, nat_lt}
 use Rattle.std.specs.Option.{option_and_then}
 use Rattle.std.specs.List.{list_all, IsDistinct}
 use Rattle.std.proofs.lemmas.Slice.Eq.{bytes_eq-Decides}
@@ -8,7 +8,7 @@ use Rattle.std.specs.declared.rc.Rc.{Rc}
 use Rattle.std.specs.declared.alloc.Global.{Global}
 use Rattle.spec_document.specs.Declaration.{declared_all, element_name}
 use Rattle.spec_document.specs.Name.{Expanded, qname_of}
-use Rattle.spec_document.specs.Forest.{Document, Written, Forest, Empty, Node, Element, Text, Comment, Instruction, labels}
+use Rattle.spec_document.specs.Forest.{Document, Written, Forest, Empty, Node, Element, Text, Comment, Instruction, IsNormal, labels}
 use Rattle.spec_structure.specs.Inside.{value_of, space_name, space_by, is_white}
 use Rattle.spec_stylesheet.specs.Place.{Place}
 use Rattle.spec_stylesheet.specs.Sheet.{Sheet, SpaceRule}
@@ -17,21 +17,25 @@ use Rattle.spec_meaning.specs.Question.{Question}
 use Rattle.spec_run.specs.Documents.{Parameters}
 use Rattle.spec_run.specs.Going.{Event, Asked, Saw, Entered, Held}
 use Rattle.spec_edit.specs.Edit.{Edit, Edited, edited_nodes}
+use Rattle.spec_edit.specs.Valid.{IsValid}
 use Rattle.spec_edit.proofs.Numbers.{distinct-once, once-from}
 use Rattle.spec_change.specs.Change.{Change, IsEdit, change_of}
+use Rattle.spec_move.specs.Changed.{MoveChange, IsMove, move_change}
 use Rattle.spec_node.specs.declared.node_ref.NodeRef.{NodeRef}
 use Rattle.xt_tree.specs.Numbers.{IsNumbered, are_distinct}
 use Rattle.xt_tree.proofs.Bools.{not_true, true_false}
-use Rattle.spec_touch.specs.Leads.{Leads}
-use Rattle.spec_touch.specs.Marks.{ComesTo, by_edit, by_module, by_value, SourceEdited, ModulesChanged, ParameterGiven, World, WorldChange, answers, marks}
-use Rattle.xt_touch.specs.View.{marked_by}
-use Rattle.xt_touch.specs.declared.marks.Marks.{Marks}
+use Rattle.spec_touch.specs.Leads.{KeepsSpace, Leads, seen_change}
+use Rattle.spec_touch.specs.Marks.{ComesTo, by_edit, by_move, by_modules_alone, by_value, SourceEdited, SourceMoved, ModulesChanged, ParameterGiven, Anything}
+use Rattle.spec_touch.specs.Marks.{IsSound, SameButSource, World, WorldChange, answers, any_marks, marks}
+use Rattle.spec_touch.specs.Plain.{AreAsking}
+use Rattle.spec_touch.proofs.Answering.{neither-first, neither-second}
+use Rattle.xt_touch.specs.View.{most_remembered, remembered}
 use Rattle.xt_record.specs.View.{kept_in, AsksHold}
 use Rattle.xt_record.specs.Sure.{AllHold, AllSpared, AreAnswered, AsksSpared, Spares}
 use Rattle.xt_record.specs.declared.pool.Pool.{Pool}
 use Rattle.xt_record.specs.declared.record.Record.{Record}
 use Rattle.xt_world.specs.ParameterView.{with_value}
-use Rattle.xt_held.specs.RunView.{Ask}
+use Rattle.xt_held.specs.RunView.{Ask, IsFaultless}
 
 -- the laws on which this rests: of worlds, and of edits
 abbrev pub Answering : Type 0
@@ -39,12 +43,23 @@ Answering =
     (change : WorldChange) (old new : World) → ComesTo change old new → (question : Question NodeRef) → marks change question ≡ false
     → answers old question ≡ answers new question
 
+abbrev after_edit : Document ℕ → Edited ℕ → Document ℕ
+after_edit document new = record { root = document.root; nodes = new.nodes }
+
 abbrev pub Leading : Type 0
 Leading =
-    (first : ℕ) (edit : Edit) (document : Document ℕ) (new : Edited ℕ) → edited_nodes first edit document ≡ Ok new
-    → IsDistinct nat_eq (document.root ∷ labels document.nodes) → IsTrue (list_all (λ n. nat_lt n first) (document.root ∷ labels document.nodes))
+    (rules : List SpaceRule) (first : ℕ) (edit : Edit) (document : Document ℕ) (new : Edited ℕ) → edited_nodes first edit document ≡ Ok new
+    → IsNormal document.nodes → IsDistinct nat_eq (document.root ∷ labels document.nodes)
+    → IsTrue (list_all (λ n. nat_lt n first) (document.root ∷ labels document.nodes))
+    → KeepsSpace edit document (record { root = document.root; nodes = new.nodes })
     → (change : Change) × (change_of edit document (record { root = document.root; nodes = new.nodes }) ≡ Some change)
-    × Leads change document (record { root = document.root; nodes = new.nodes })
+    × Leads (seen_change change (seen rules document) (seen rules (record { root = document.root; nodes = new.nodes })))
+    (seen rules document) (seen rules (record { root = document.root; nodes = new.nodes }))
+
+abbrev pub KeepingSpace : Type 0
+KeepingSpace =
+    (first : ℕ) (edit : Edit) (document : Document ℕ) (new : Edited ℕ) → edited_nodes first edit document ≡ Ok new
+    → IsValid document.nodes → KeepsSpace edit document (record { root = document.root; nodes = new.nodes })
 
 abbrev pub world_of : Sheet → (Place → NodeRef) → Parameters → Document ℕ → World
 world_of sheet called parameters source = record { sheet = sheet; called = called; parameters = parameters; source = source }
@@ -83,7 +98,7 @@ pub seen_whole : (rules : List SpaceRule) (document : Document ℕ) → rules �
 seen_whole rules document e =
     ap (λ (rs : List SpaceRule). seen rs document) e ∙ ap (λ (f : Forest ℕ). record { root = document.root; nodes = f }) (all_seen at_root refl document.nodes)
 
--- ---- An edit of the source, of which no rule strips anything
+-- ---- An edit of the source, and a move in it
 
 first_of : (a b : Bool) → (a && b) ≡ true → a ≡ true
 first_of true b h = refl
@@ -97,28 +112,45 @@ distinct document numbers =
     let all = document.root ∷ labels document.nodes in
     distinct-once all (once-from are_distinct (λ n ns. refl) all (first_of (are_distinct all) _ numbers))
 
-pub leads_so : Leading → (edit : Edit) (old new : Document ℕ) → IsEdit edit old new → IsNumbered old → (change : Change)
-    → change_of edit old new ≡ Some change → Leads change old new
-leads_so leading edit old new q numbers change is =
-    let made : Document ℕ = record { root = old.root; nodes = q.edited.nodes } in
-    let told = leading q.first edit old q.edited q.edited_is (distinct old numbers) q.below in
-    let same : told.0 ≡ change = some_same told.0 change (sym told.1 ∙ ap (λ (d : Document ℕ). change_of edit old d) (sym q.new_is) ∙ is) in
-    subst (λ (d : Document ℕ). Leads change old d) (sym q.new_is) (subst (λ (c : Change). Leads c old made) same told.2)
+pub sound_of : (document : Document ℕ) → IsNumbered document → IsFaultless document → IsSound document
+sound_of document numbers h = record { valid = h.valid; normal = h.normal; apart = distinct document numbers }
 
-pub edit_comes : (sheet : Sheet) (called : Place → NodeRef) (parameters : Parameters) (change : Change) (old new : Document ℕ) (rules : List SpaceRule) → rules ≡ []
-    → Leads change old new
-    → ComesTo (SourceEdited change) (world_of sheet called parameters (seen rules old)) (world_of sheet called parameters (seen rules new))
-edit_comes sheet called parameters change old new rules e leads =
-    by_edit
-    (subst (λ (d : Document ℕ). Leads change d (seen rules new)) (sym (seen_whole rules old e))
-    (subst (λ (d : Document ℕ). Leads change old d) (sym (seen_whole rules new e)) leads))
-    refl refl refl
+-- the change of an edit as it is seen leads from what is seen before to what is seen after
+pub leads_so : Leading → KeepingSpace → (rules : List SpaceRule) (edit : Edit) (old new : Document ℕ) → IsEdit edit old new → IsSound old
+    → (change : Change) → change_of edit old new ≡ Some change
+    → Leads (seen_change change (seen rules old) (seen rules new)) (seen rules old) (seen rules new)
+leads_so leading keeping rules edit old new q sound change is =
+    let made : Document ℕ = record { root = old.root; nodes = q.edited.nodes } in
+    let keeps = keeping q.first edit old q.edited q.edited_is sound.valid in
+    let told = leading rules q.first edit old q.edited q.edited_is sound.normal sound.apart q.below keeps in
+    let same : told.0 ≡ change = some_same told.0 change (sym told.1 ∙ ap (λ (d : Document ℕ). change_of edit old d) (sym q.new_is) ∙ is) in
+    subst (λ (d : Document ℕ). Leads (seen_change change (seen rules old) (seen rules d)) (seen rules old) (seen rules d)) (sym q.new_is)
+    (subst (λ (c : Change). Leads (seen_change c (seen rules old) (seen rules made)) (seen rules old) (seen rules made)) same told.2)
+
+same_but_source : (sheet : Sheet) (called : Place → NodeRef) (parameters : Parameters) (old new : Document ℕ)
+    → SameButSource (world_of sheet called parameters old) (world_of sheet called parameters new)
+same_but_source sheet called parameters old new = record { sheet = refl; called = refl; parameters = refl }
+
+pub edit_comes : (sheet : Sheet) (called : Place → NodeRef) (parameters : Parameters) (rules : List SpaceRule) (asking : List (Option Expanded))
+    (edit : Edit) (old new : Document ℕ) → IsSound old → IsEdit edit old new → (change : Change) → change_of edit old new ≡ Some change
+    → AreAsking asking sheet.rules.rules
+    → ComesTo (SourceEdited (seen_change change (seen rules old) (seen rules new)) asking) (world_of sheet called parameters (seen rules old))
+    (world_of sheet called parameters (seen rules new))
+edit_comes sheet called parameters rules asking edit old new sound q change told asks =
+    by_edit rules edit old new sound q change told refl refl asks (same_but_source sheet called parameters (seen rules old) (seen rules new))
+
+pub move_comes : (sheet : Sheet) (called : Place → NodeRef) (parameters : Parameters) (asking : List (Option Expanded))
+    (path other : List ℕ) (old new : Document ℕ) → IsSound old → IsMove path other old new → (change : MoveChange)
+    → move_change path other old new ≡ Some change → AreAsking asking sheet.rules.rules
+    → ComesTo (SourceMoved change asking) (world_of sheet called parameters old) (world_of sheet called parameters new)
+move_comes sheet called parameters asking path other old new sound q change told asks =
+    by_move path other sound q told asks (same_but_source sheet called parameters old new)
 
 -- ---- Modules and parameters
 
 pub modules_come : (sheet other : Sheet) (called named : Place → NodeRef) (parameters : Parameters) (old new : Document ℕ) → new ≡ old
-    → ComesTo (ModulesChanged true) (world_of sheet called parameters old) (world_of other named parameters new)
-modules_come sheet other called named parameters old new e = by_module e refl
+    → ComesTo ModulesChanged (world_of sheet called parameters old) (world_of other named parameters new)
+modules_come sheet other called named parameters old new e = by_modules_alone e refl
 
 other_way : (a b : List ℕ) → bytes_eq a b ≡ false → bytes_eq b a ≡ false
 other_way a b h = not_true (bytes_eq b a) (λ e. true_false (sym ((bytes_eq-Decides a b).1 (sym ((bytes_eq-Decides b a).0 e))) ∙ h))
@@ -138,35 +170,68 @@ pub alike : Answering → (change : WorldChange) (old new : World) → ComesTo c
     → ((q : Question NodeRef) → before q ≡ answers old q) → ((q : Question NodeRef) → after q ≡ answers new q) → AreAlike change before after
 alike answering change old new comes before after was is = λ q unmarked. was q ∙ answering change old new comes q unmarked ∙ sym (is q)
 
-module _ (made : Marks) (before after : Ask) (same : AreAlike (marked_by made) before after) where
-  asks_spared : (es : List (Event NodeRef)) → AsksHold before es → AsksSpared after (Some made) es
+-- what is marked neither before nor by the change is what is not marked after it
+neither : (q : Question NodeRef) (change : WorldChange) (changes : List WorldChange) → any_marks (changes ++ change ∷ []) q ≡ false
+    → (any_marks changes q ≡ false) × (marks change q ≡ false)
+neither q change [] h = (refl, neither-first (marks change q) false h)
+neither q change (c ∷ cs) h =
+    let rest = neither q change cs (neither-second (marks c q) (any_marks (cs ++ change ∷ []) q) h) in
+    let first = neither-first (marks c q) (any_marks (cs ++ change ∷ []) q) h in
+    (ap (λ b. b || any_marks cs q) first ∙ rest.0, rest.1)
+
+unmarked : (q : Question NodeRef) (change : WorldChange) (changes : List WorldChange) → any_marks (remembered changes change) q ≡ false
+    → (any_marks changes q ≡ false) × (marks change q ≡ false)
+unmarked q change changes h = by (nat_lt (length changes) most_remembered) h
+  where
+    by : (b : Bool) → any_marks (cond b (changes ++ change ∷ []) (Anything ∷ [])) q ≡ false → (any_marks changes q ≡ false) × (marks change q ≡ false)
+    by true h = neither q change changes h
+    by false h = absurd (true_false h)
+
+module _ (changes : List WorldChange) (change : WorldChange) (before after : Ask) (same : AreAlike change before after) where
+  asks_spared : (es : List (Event NodeRef)) → AsksSpared before changes es → AsksSpared after (remembered changes change) es
   asks_spared [] h = tt
-  asks_spared (Asked question answer ∷ es) h = (λ unmarked. sym (same question unmarked) ∙ h.0, asks_spared es h.1)
+  asks_spared (Asked question answer ∷ es) h =
+      (λ u. (let both = unmarked question change changes u in sym (same question both.1) ∙ h.0 both.0), asks_spared es h.1)
   asks_spared (Saw wanted depth place supplied ∷ es) h = asks_spared es h
   asks_spared (Entered call depth ∷ es) h = asks_spared es h
   asks_spared (Held first contents ∷ es) h = asks_spared es h
 
-  pub all_spared : (rs : List (Rc Record Global)) → AllHold before rs → AllSpared after (Some made) rs
+  all_spared : (rs : List (Rc Record Global)) → AllSpared before changes rs → AllSpared after (remembered changes change) rs
   all_spared [] h = tt
   all_spared (r ∷ rs) h = (asks_spared (kept_in r.value).trace h.0, all_spared rs h.1)
 
-pub pool_spared : (made : Marks) (change : WorldChange) → marked_by made ≡ change → (before after : Ask) → AreAlike change before after → (pool : Pool)
-    → AreAnswered before pool → Spares after pool (Some made)
-pool_spared made change e before after same pool =
-    all_spared made before after (subst (λ (c : WorldChange). AreAlike c before after) (sym e) same) pool.records.items
+-- what was spared by the changes so far is spared by one more, where what that does not mark has its answers
+pub spared_after : (changes : List WorldChange) (change : WorldChange) (before after : Ask) → AreAlike change before after → (pool : Pool)
+    → Spares before pool changes → Spares after pool (remembered changes change)
+spared_after changes change before after same pool h = all_spared changes change before after same pool.records.items h
 
--- where all is marked
 module _ (ask : Ask) where
-  none_spared_of : (es : List (Event NodeRef)) → AsksSpared ask None es
+  -- where anything may be another
+  none_spared_of : (es : List (Event NodeRef)) → AsksSpared ask (Anything ∷ []) es
   none_spared_of [] = tt
   none_spared_of (Asked question answer ∷ es) = (λ e. absurd (true_false e), none_spared_of es)
   none_spared_of (Saw wanted depth place supplied ∷ es) = none_spared_of es
   none_spared_of (Entered call depth ∷ es) = none_spared_of es
   none_spared_of (Held first contents ∷ es) = none_spared_of es
 
-  none_spared_among : (rs : List (Rc Record Global)) → AllSpared ask None rs
+  none_spared_among : (rs : List (Rc Record Global)) → AllSpared ask (Anything ∷ []) rs
   none_spared_among [] = tt
   none_spared_among (r ∷ rs) = (none_spared_of (kept_in r.value).trace, none_spared_among rs)
 
-  pub none_spared : (pool : Pool) → Spares ask pool None
+  pub none_spared : (pool : Pool) → Spares ask pool (Anything ∷ [])
   none_spared pool = none_spared_among pool.records.items
+
+  -- where all has its answers
+  held_spared_of : (changes : List WorldChange) (es : List (Event NodeRef)) → AsksHold ask es → AsksSpared ask changes es
+  held_spared_of changes [] h = tt
+  held_spared_of changes (Asked question answer ∷ es) h = (λ e. h.0, held_spared_of changes es h.1)
+  held_spared_of changes (Saw wanted depth place supplied ∷ es) h = held_spared_of changes es h
+  held_spared_of changes (Entered call depth ∷ es) h = held_spared_of changes es h
+  held_spared_of changes (Held first contents ∷ es) h = held_spared_of changes es h
+
+  held_spared_among : (changes : List WorldChange) (rs : List (Rc Record Global)) → AllHold ask rs → AllSpared ask changes rs
+  held_spared_among changes [] h = tt
+  held_spared_among changes (r ∷ rs) h = (held_spared_of changes (kept_in r.value).trace h.0, held_spared_among changes rs h.1)
+
+  pub held_spared : (changes : List WorldChange) (pool : Pool) → AreAnswered ask pool → Spares ask pool changes
+  held_spared changes pool h = held_spared_among changes pool.records.items h

@@ -1,5 +1,5 @@
 -- What outcomes stand for, and what goes with them.
-use Rattle.std.specs.Prelude.{ℕ, ◌≡◌, Bool, true, false, Option}
+use Rattle.std.specs.Prelude.{ℕ, ◌≡◌, Bool, true, false, List, [], Option, None, Some}
 use Rattle.std.specs.Option.{is_some, option_map}
 use Rattle.spec_document.specs.Forest.{Plain, Document}
 use Rattle.spec_expression.specs.declared.code.Code.{Code}
@@ -7,6 +7,8 @@ use Rattle.spec_expression.specs.declared.code.Code.TheVariants.{Static, Dynamic
 use Rattle.spec_run.specs.Outcome as spec
 use Rattle.xt_syntax.specs.PartView.{place_of}
 use Rattle.xt_import.specs.View.{plain_of}
+use Rattle.spec_touch.specs.Marks.{WorldChange}
+use Rattle.xt_record.specs.declared.pool.Pool.{Pool}
 use Rattle.xt_record.specs.declared.reuse.Steps.{Steps}
 use Rattle.xt_held.specs.declared.outcome.Came.{Came}
 use Rattle.xt_held.specs.declared.outcome.Outcome.{Outcome}
@@ -44,3 +46,8 @@ IsFreeFor (spec.Failed why messages) steps = IsFreeAt why.code steps
 pub record Fits (came : Came) : Type 0 where
   pub kept : is_some came.kept ≡ is_done (outcome_of came.outcome)
   pub steps : IsFreeFor (outcome_of came.outcome) came.steps
+
+-- what changed since the last run that ended with a result: nothing after such a run
+abbrev pub since_after : (kept : Option Pool) → List WorldChange → List WorldChange
+since_after None changes = changes
+since_after (Some pool) changes = []

@@ -1,26 +1,31 @@
 -- What a run of what modules are is told, and what is known of what the last run kept. None of this bears on what is held of an outcome: it tells which
 -- questions need not be asked again.
-use Rattle.std.specs.Prelude.{ℕ, ◌≡◌, true, List, [], Option, None, Some}
-use Rattle.spec_document.specs.Forest.{Document}
+use Rattle.std.specs.Prelude.{ℕ, ◌≡◌, true, List, [], Option, None, Some, IfSome}
+use Rattle.spec_document.specs.Forest.{Document, IsNormal}
+use Rattle.spec_edit.specs.Valid.{IsValid}
 use Rattle.spec_seen.specs.Seen.{seen}
 use Rattle.spec_stylesheet.specs.Sheet as plain
 use Rattle.spec_meaning.specs.Question.{Question, Answer}
 use Rattle.spec_run.specs.Documents.{Parameters}
 use Rattle.spec_run.specs.Outcome as spec
 use Rattle.spec_change.specs.Change.{IsEdit}
+use Rattle.spec_move.specs.Changed.{IsMove}
 use Rattle.spec_node.specs.declared.node_ref.NodeRef.{NodeRef}
+use Rattle.spec_touch.specs.Marks.{WorldChange}
 use Rattle.xt_edit.specs.View.{edit_of}
 use Rattle.xt_edit.specs.declared.edit.Edit.{Edit}
 use Rattle.xt_syntax.specs.SheetView.{space_rules_of}
 use Rattle.xt_syntax.specs.declared.space_rules.SpaceRules.{SpaceRules}
 use Rattle.xt_record.specs.Sure.{AreAnswered, Spares}
 use Rattle.xt_record.specs.declared.pool.Pool.{Pool}
-use Rattle.xt_touch.specs.declared.marks.Marks.{Marks}
 use Rattle.xt_world.specs.Answering.{AnswersAs}
-use Rattle.xt_world.specs.ParameterView.{with_value}
 use Rattle.xt_world.specs.View.{truth_in}
 use Rattle.xt_world.specs.declared.stylesheet.Stylesheet as world
 use Rattle.xt_held.specs.OutcomeView.{is_done}
+use Rattle.xt_touch.specs.View.{since_of}
+use Rattle.xt_held.specs.declared.last_run.LastRun.{LastRun}
+use Rattle.xt_held.specs.declared.origin.Origin.{Origin}
+use Rattle.xt_held.specs.declared.origin.Origin.TheVariants.{Given, Edited, Moved}
 use Rattle.xt_held.specs.declared.stylesheet.Compiled.{Compiled}
 use Rattle.xt_held.specs.declared.stylesheet.Compiled.TheVariants.{Stylesheet, Refused}
 
@@ -32,26 +37,33 @@ Ask = Question NodeRef → Answer NodeRef
 abbrev pub truth_seen : world.Stylesheet → SpaceRules → Parameters → Document ℕ → Ask
 truth_seen held rules parameters source = truth_in held parameters (seen (space_rules_of rules).rules source)
 
--- this is so of the answers that a run is given, of modules that are this, with these parameters and this source, if there is one
+-- modules that are this, with these parameters and this source, are run, and this is so of the answers that the run is given
+abbrev pub IsRun : (Ask → Type 0) → Option Compiled → Parameters → Option (Document ℕ) → Type 0
+IsRun P None parameters source = ⊥
+IsRun P (Some (Refused why)) parameters source = ⊥
+IsRun P (Some (Stylesheet held rules method)) parameters None = ⊥
+IsRun P (Some (Stylesheet held rules method)) parameters (Some source) = P (truth_seen held rules parameters source)
+
+-- this is so where they are run
 abbrev pub IfRun : (Ask → Type 0) → Option Compiled → Parameters → Option (Document ℕ) → Type 0
 IfRun P None parameters source = Unit {0}
 IfRun P (Some (Refused why)) parameters source = Unit {0}
 IfRun P (Some (Stylesheet held rules method)) parameters None = Unit {0}
 IfRun P (Some (Stylesheet held rules method)) parameters (Some source) = P (truth_seen held rules parameters source)
 
--- the questions of all that was kept have their answers in that run
+-- they are run, and the questions of all that was kept have their answers in that run
 abbrev pub KeptHolds : Option Compiled → Parameters → Option (Document ℕ) → Pool → Type 0
-KeptHolds compiled parameters source pool = IfRun (λ ask. AreAnswered ask pool) compiled parameters source
+KeptHolds compiled parameters source pool = IsRun (λ ask. AreAnswered ask pool) compiled parameters source
 
--- those of them have that are not marked
-abbrev pub KeptSpared : Option Compiled → Parameters → Option (Document ℕ) → Pool → Option Marks → Type 0
-KeptSpared compiled parameters source pool marks = IfRun (λ ask. Spares ask pool marks) compiled parameters source
+-- where they are run, those of them have that none of these changes marks
+abbrev pub KeptSpared : Option Compiled → Parameters → Option (Document ℕ) → Pool → List WorldChange → Type 0
+KeptSpared compiled parameters source pool changes = IfRun (λ ask. Spares ask pool changes) compiled parameters source
 
--- where the outcome is a result
-abbrev pub LastHolds : spec.Outcome → Option Compiled → Parameters → Option (Document ℕ) → Pool → Type 0
-LastHolds outcome compiled parameters source pool = is_done outcome ≡ true → KeptHolds compiled parameters source pool
-
--- ---- What changes
+-- what modules are where they are a stylesheet, and else what they were when they were one
+abbrev pub last_known : (compiled before : Option Compiled) → Option Compiled
+last_known None before = before
+last_known (Some (Refused why)) before = before
+last_known (Some (Stylesheet held rules method)) before = Some (Stylesheet held rules method)
 
 -- it answers as some stylesheet does, where it is one
 abbrev pub AnswersAsSome : Option Compiled → Type 0
@@ -59,25 +71,49 @@ AnswersAsSome None = Unit {0}
 AnswersAsSome (Some (Refused why)) = Unit {0}
 AnswersAsSome (Some (Stylesheet held rules method)) = (sheet : plain.Sheet) × AnswersAs held sheet
 
+-- it has no fault, only elements have something below them, no text is empty, and no two stand side by side
+pub record IsFaultless (document : Document ℕ) : Type 0 where
+  pub valid : IsValid document.nodes
+  pub normal : IsNormal document.nodes
+
+-- what is known of what the last run that ended with a result left
+pub record LastHolds (outcome : spec.Outcome) (compiled : Option Compiled) (parameters : Parameters) (source : Option (Document ℕ)) (last : LastRun) : Type 0 where
+  -- where there is a result, it is that of this run, and the questions of what it kept are answered so in it
+  pub done : is_done outcome ≡ true → KeptHolds compiled parameters source last.kept
+  -- else those are that no change since then marks, were the stylesheet run that was there last
+  pub spared : KeptSpared (last_known compiled last.before) parameters source last.kept (since_of last.since)
+  pub answers : AnswersAsSome (last_known compiled last.before)
+  -- what an edit of the source changes can be told
+  pub faultless : IfSome source IsFaultless
+
+-- ---- What changes
+
 -- no rule for white space is there, so that all of a source is seen
-abbrev pub SeesAll : Option Compiled → Type 0
-SeesAll None = Unit {0}
-SeesAll (Some (Refused why)) = Unit {0}
-SeesAll (Some (Stylesheet held rules method)) = (space_rules_of rules).rules ≡ []
+abbrev pub SeesAll : SpaceRules → Type 0
+SeesAll rules = (space_rules_of rules).rules ≡ []
 
 -- both are stylesheets, with the same rules for white space
 abbrev pub SeeAlike : Option Compiled → Option Compiled → Type 0
 SeeAlike (Some (Stylesheet held rules method)) (Some (Stylesheet other others another)) = space_rules_of others ≡ space_rules_of rules
 SeeAlike _ _ = ⊥
 
--- where an edit is told, and there is a document, the new one is what the edit makes of it
-abbrev pub IsMadeBy : Option Edit → Option (Document ℕ) → Document ℕ → Type 0
-IsMadeBy None old new = Unit {0}
-IsMadeBy (Some edit) None new = Unit {0}
-IsMadeBy (Some edit) (Some old) new = IsEdit (edit_of edit) old new
+-- where there is a document, this edit or this move makes the new one of it
+abbrev pub IsMadeByEdit : Edit → Option (Document ℕ) → Document ℕ → Type 0
+IsMadeByEdit edit None new = Unit {0}
+IsMadeByEdit edit (Some old) new = IsEdit (edit_of edit) old new
 
--- of what was kept these marks leave out only what has its answers still where the parameter of this name is given another value
-abbrev pub SparesWithValue : (name : List ℕ) → Option Marks → Type 0
-SparesWithValue name marks =
-    (compiled : Option Compiled) (parameters : Parameters) (value : List ℕ) (source : Option (Document ℕ)) (pool : Pool) → AnswersAsSome compiled
-    → KeptHolds compiled parameters source pool → KeptSpared compiled (with_value name value parameters) source pool marks
+abbrev pub IsMadeByMove : (path other : List ℕ) → Option (Document ℕ) → Document ℕ → Type 0
+IsMadeByMove path other None new = Unit {0}
+IsMadeByMove path other (Some old) new = IsMove path other old new
+
+abbrev pub IsMadeBy : Origin → Option (Document ℕ) → Document ℕ → Type 0
+IsMadeBy Given old new = Unit {0}
+IsMadeBy (Edited edit) old new = IsMadeByEdit edit.now old new
+IsMadeBy (Moved path other) old new = IsMadeByMove path.now other.now old new
+
+-- What was kept is spared by these changes, where it was by those before: the source, the parameters or the modules have changed, and of the modules it
+-- counts what they were last when they were a stylesheet
+abbrev pub StaysSpared : (old new : Option Compiled) → (before after : Parameters) → (was is : Option (Document ℕ)) → (changes others : List WorldChange)
+    → Type 0
+StaysSpared old new before after was is changes others =
+    (pool : Pool) → AnswersAsSome old → AnswersAsSome new → KeptSpared old before was pool changes → KeptSpared new after is pool others

@@ -29,6 +29,12 @@ Holds (Stylesheet held rules method) result =
     (sheet : plain.Sheet) × (result ≡ Ok sheet) × AnswersAs held sheet × (space_rules_of rules ≡ sheet.space_rules) × (method ≡ sheet.method)
 Holds (Refused why) result = result ≡ Err (refusal_in why)
 
+-- it can be run
+abbrev pub IsStylesheet : Option Compiled → Type 0
+IsStylesheet None = ⊥
+IsStylesheet (Some (Refused why)) = ⊥
+IsStylesheet (Some (Stylesheet held rules method)) = Unit {0}
+
 -- it is what modules are
 pub record IsCompiledFrom (modules : Modules) (compiled : Compiled) : Type 0 where
   pub result : Result plain.Sheet compile.Refusal

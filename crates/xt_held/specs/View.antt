@@ -20,13 +20,13 @@ use Rattle.xt_edit.specs.View.{AreBelow}
 use Rattle.xt_edit.specs.declared.fault.EditFault.{EditFault}
 use Rattle.xt_edit.specs.declared.fault.EditFault.TheVariants as faults
 use Rattle.xt_import.specs.View.{is_name, modules_in, plain_of}
-use Rattle.xt_record.specs.declared.pool.Pool.{Pool}
 use Rattle.xt_record.specs.declared.reuse.Steps.{Steps}
 use Rattle.xt_world.specs.ParameterView.{HasRoomForOne, parameters_of}
 use Rattle.xt_held.specs.OutcomeView.{Fits, outcome_of}
-use Rattle.xt_held.specs.RunView.{AnswersAsSome, LastHolds}
+use Rattle.xt_held.specs.RunView.{IsFaultless, LastHolds, last_known}
 use Rattle.xt_held.specs.StylesheetView.{AreCompiled, IsThere}
 use Rattle.xt_held.specs.declared.held.Held.{Held}
+use Rattle.xt_held.specs.declared.last_run.LastRun.{LastRun}
 use Rattle.xt_held.specs.declared.name.DocName.{DocName}
 use Rattle.xt_held.specs.declared.name.DocName.TheVariants as names
 use Rattle.xt_held.specs.declared.outcome.Came.{Came}
@@ -34,6 +34,7 @@ use Rattle.xt_held.specs.declared.ready.Change.{Change}
 use Rattle.xt_held.specs.declared.ready.Change.TheVariants as changes
 use Rattle.xt_held.specs.declared.ready.Ready.{Ready}
 use Rattle.xt_held.specs.declared.stylesheet.Compiled.{Compiled}
+use Rattle.xt_held.specs.declared.stylesheet.Compiled.TheVariants.{Stylesheet, Refused}
 
 -- the documents that are held, how many nodes were made so far, and the outcome that is told
 abbrev pub documents_of : Held → Documents
@@ -49,11 +50,11 @@ made_of held = held.next.number
 abbrev pub outcome_in : Held → spec.Outcome
 outcome_in held = outcome_of held.outcome
 
--- what the last change took, and what the last run that ended with a result kept
+-- what the last change took, and what the last run that ended with a result left
 abbrev pub steps_in : Held → Steps
 steps_in held = held.steps
 
-abbrev pub last_in : Held → Pool
+abbrev pub last_in : Held → LastRun
 last_in held = held.last
 
 -- all numbers of these documents are below this one: of a source, and of the modules of all names
@@ -65,16 +66,16 @@ abbrev pub HasBelow : ℕ → Held → Type 0
 HasBelow first held = AreAllBelow first held.source held.modules.entries
 
 -- the outcome that is told is that of the documents that are held, the modules are what is held of that, and the next number is that of no node. Where
--- there is a result, the questions of what its run kept have their answers in a run of what is held
+-- there is a result, the questions of what its run kept have their answers in a run of what is held; else those of the last result that no change
+-- since then marks
 pub record IsCurrent (held : Held) : Type 0 where
   pub outcome : IsOutcome (documents_of held) (outcome_in held)
   pub compiled : AreCompiled (documents_of held).modules held.compiled
   pub below : HasBelow (made_of held) held
   pub last : LastHolds (outcome_in held) held.compiled (parameters_of held.parameters) held.source held.last
 
--- what is known of what the last run kept while a change is made ready
+-- what is known of what the last run left while a change is made ready
 pub record IsKnown (held : Held) : Type 0 where
-  pub answers : AnswersAsSome held.compiled
   pub last : LastHolds (outcome_in held) held.compiled (parameters_of held.parameters) held.source held.last
 
 -- nothing of what is told has changed
@@ -94,6 +95,11 @@ document_named (names.Module name) documents = documents.modules name.now
 abbrev pub numbered_document : DocName → Held → Option (Document ℕ)
 numbered_document names.Source held = held.source
 numbered_document (names.Module name) held = lookup (is_name name.now) held.modules.entries
+
+-- where it is to be the source, it is without faults
+abbrev pub IsFaultlessAs : DocName → Document ℕ → Type 0
+IsFaultlessAs names.Source document = IsFaultless document
+IsFaultlessAs (names.Module name) document = Unit {0}
 
 -- this document in place of the one of this name
 abbrev pub with_document : DocName → Plain → Documents → Documents
@@ -140,13 +146,28 @@ next_outcome ready = outcome_of ready.came.outcome
 abbrev pub next_steps : Ready → Steps
 next_steps ready = ready.came.steps
 
+-- what the modules were when they last were a stylesheet, where they are none from now on, by what they were until now
+abbrev pub before_by : (compiled was before : Option Compiled) → Option Compiled
+before_by None was before = last_known was before
+before_by (Some (Refused why)) was before = last_known was before
+before_by (Some (Stylesheet stylesheet rules method)) was before = None
+
+abbrev pub next_before : Change → Held → Option Compiled
+next_before (changes.Source document) held = held.last.before
+next_before (changes.Module name document compiled) held = before_by compiled held.compiled held.last.before
+next_before (changes.Dropped name compiled) held = before_by compiled held.compiled held.last.before
+next_before (changes.Parameter name value) held = held.last.before
+
 -- where the new run kept nothing, what the last one kept stays
-abbrev pub next_last : Ready → Held → Pool
-next_last ready held = unwrap_or ready.came.kept held.last
+abbrev pub left_by : Came → (before : Option Compiled) → LastRun → LastRun
+left_by came before last = record { kept = unwrap_or came.kept last.kept; since = came.since; before = before }
+
+abbrev pub next_last : Ready → Held → LastRun
+next_last ready held = left_by ready.came (next_before ready.change held) held.last
 
 -- with what came in place of what came before
 abbrev pub with_came : Came → Held → Held
-with_came came held = record held { outcome = came.outcome; steps = came.steps; last = unwrap_or came.kept held.last }
+with_came came held = record held { outcome = came.outcome; steps = came.steps; last = left_by came held.last.before held.last }
 
 -- there is room for it, so that no memory is taken
 abbrev pub HasRoom : Change → Held → Type 0

@@ -15,22 +15,27 @@ ghost use Rattle.xt_edit.specs.View.{AreBelow, EditsPlain, edit_of};
 ghost use Rattle.spec_structure.specs.Modules.{Modules};
 ghost use Rattle.spec_run.specs.Outcome.{Comes};
 ghost use Rattle.xt_world.specs.ParameterView.{HasRoomForOne, parameters_of, with_value};
-ghost use Rattle.xt_held.specs.RunView.{AnswersAsSome, IsMadeBy, KeptHolds, KeptSpared};
+ghost use Rattle.xt_touch.specs.View.{since_of};
+ghost use Rattle.xt_held.specs.RunView.{AnswersAsSome, IsFaultless, IsMadeBy, IsMadeByEdit, IsMadeByMove, LastHolds, StaysSpared, last_known};
 ghost use Rattle.xt_held.specs.StylesheetView.{AreCompiled};
 ghost use Rattle.xt_import.specs.View.{is_name, plain_of};
 ghost use Rattle.xt_held.specs.OutcomeView.{Fits, no_steps, outcome_of, plain_in};
-ghost use Rattle.xt_held.specs.View.{HasBelow, HasRoom, IsBelow, IsCurrent, IsKept, IsKnown, IsMadeFrom, IsReady, Prepares, PreparesDrop, PreparesEdit, PreparesMove, PreparesParameter, changed_by, document_named, documents_of, edit_fault_of, last_in, made_of, next_compiled, next_documents, next_last, next_made, next_outcome, next_source, next_steps, numbered_document, outcome_in, steps_in, with_came, with_document};
+ghost use Rattle.xt_held.specs.View.{HasBelow, HasRoom, IsBelow, IsCurrent, IsKept, IsKnown, IsMadeFrom, IsReady, IsFaultlessAs, Prepares, PreparesDrop, PreparesEdit, PreparesMove, PreparesParameter, before_by, changed_by, document_named, documents_of, edit_fault_of, last_in, left_by, made_of, next_before, next_compiled, next_documents, next_last, next_made, next_outcome, next_source, next_steps, numbered_document, outcome_in, steps_in, with_came, with_document};
 
-use crate::marking::{edit_marks, module_marks, parameter_marks};
+use crate::last_run::LastRun;
+use crate::marking::{since_edit, since_modules, since_move, since_parameter};
 use crate::name::DocName;
+use crate::origin::Origin;
 use crate::outcome::{Came, Outcome, at_no_element, no_steps, outcome_of};
 use crate::parameter::{TriedParameter, outcome_with, parameter_fault};
 use crate::ready::{Change, Ready};
-use crate::stylesheet::Compiled;
+use crate::stylesheet::{Compiled, is_stylesheet, last_known};
 use crate::tried::{Tried, compiled_with, compiled_without};
 use crate::unread::unread_line;
 use indexmap::IndexMap;
+use spec_edit::{documents_begin_well, documents_stay_normal, documents_stay_valid};
 use spec_expression::StaticCode;
+use spec_move::{moves_keep_documents_normal, moves_keep_documents_valid};
 use std::alloc::Global;
 use std::mem;
 use xt_base::EditCode;
@@ -40,13 +45,13 @@ use xt_io::Line;
 use xt_names::Scope;
 use xt_record::{Pool, Steps};
 use xt_text::{Memory, Path, Text};
-use xt_touch::Marks;
+use xt_touch::Since;
 use xt_tree::{Doc, NodeId};
 use xt_world::Parameters;
 
 /// The documents that are held, what the modules are, the values that parameters are given, the number of the next
 /// node, and the outcome of the transformation, which is that of all these; and what the last run that ended with a
-/// result kept for the next, and what the last change took.
+/// result left to the next, and what the last change took.
 #[derive(Drop)]
 pub struct Held {
     source: Option<Doc>,
@@ -55,7 +60,7 @@ pub struct Held {
     parameters: Parameters,
     next: NodeId,
     outcome: Outcome,
-    last: Pool,
+    last: LastRun,
     steps: Steps,
 }
 
@@ -74,7 +79,11 @@ impl Held {
             parameters: Parameters::new(alloc),
             next: NodeId { number: 0 },
             outcome: at_no_element(alloc, StaticCode::NoMain),
-            last: Pool::new(alloc),
+            last: LastRun {
+                kept: Pool::new(alloc),
+                since: Since::nothing(alloc),
+                before: None,
+            },
             steps: no_steps(),
         }
     }
@@ -86,7 +95,9 @@ impl Held {
         ensures { Prepares with_source self.now (document_of root_scope (made_of self.now) body.now) result }
     {
         match self.built(alloc, body) {
-            Ok(Built { document, next }) => Ok(self.source_ready(alloc, None, document, next)?),
+            Ok(Built { document, next }) => {
+                Ok(self.source_ready(alloc, Origin::Given, document, next)?)
+            }
             Err(fault) => Err(edit_fault(fault)),
         }
     }
@@ -145,7 +156,7 @@ impl Held {
             }),
             None => {
                 let Edited { document, next } = self.edited(alloc, name, edit)?;
-                Ok(self.document_ready(alloc, name, Some(edit), document, next)?)
+                Ok(self.document_ready(alloc, name, Origin::Edited(edit), document, next)?)
             }
         }
     }
@@ -166,7 +177,7 @@ impl Held {
         ensures kept { IsKept self.old self.new }
     {
         let Edited { document, next } = self.relocated(alloc, name, path, other)?;
-        Ok(self.document_ready(alloc, name, None, document, next)?)
+        Ok(self.document_ready(alloc, name, Origin::Moved(path, other), document, next)?)
     }
 
     /// Makes ready that the parameter of this name is given this value (XSLT 1.0, section 11.4): 8 where the value has
@@ -212,11 +223,13 @@ impl Held {
             outcome,
             kept,
             steps,
+            since,
         } = came;
         drop(mem::replace(&mut self.outcome, outcome));
+        drop(mem::replace(&mut self.last.since, since));
         self.steps = steps;
         match kept {
-            Some(kept) => drop(mem::replace(&mut self.last, kept)),
+            Some(kept) => drop(mem::replace(&mut self.last.kept, kept)),
             None => {}
         }
     }
@@ -264,7 +277,9 @@ impl Held {
         ensures answer { Builds document_in result (document_of root_scope (made_of self.now) body.now) }
         ensures next { IfOk result (λ built. built.next.number ≡ made_of self.now + 1 + size built.document.nodes) }
         ensures below { IfOk result (λ built. AreBelow built.next.number built.document) }
+        ensures faultless { IfOk result (λ built. IsFaultless built.document) }
     {
+        documents_begin_well();
         let scope = Scope::root(alloc)?;
         build(alloc, body, &scope, self.next)
     }
@@ -273,9 +288,12 @@ impl Held {
     fn edited(&self, alloc: Global, name: DocName<'_>, edit: &Edit) -> Result<Edited, EditFault>
         requires { IsCurrent self.now }
         ensures answer { EditsPlain (made_of self.now) result (edited_or_missing (made_of self.now) (edit_of edit.now) (document_named name.entry (documents_of self.now))) }
-        ensures edit { IfOk result (λ edited. IsMadeBy (Some edit.now) (numbered_document name.entry self.now) edited.document) }
+        ensures edit { IfOk result (λ edited. IsMadeByEdit edit.now (numbered_document name.entry self.now) edited.document) }
+        ensures faultless { IfOk result (λ edited. IsFaultlessAs name.entry edited.document) }
         ensures below { IfOk result (λ edited. AreBelow edited.next.number edited.document) }
     {
+        documents_stay_valid();
+        documents_stay_normal();
         match self.found(name) {
             Some(document) => apply(alloc, document, edit, self.next),
             None => Err(EditFault::Refused {
@@ -295,8 +313,12 @@ impl Held {
     ) -> Result<Edited, EditFault>
         requires { IsCurrent self.now }
         ensures answer { EditsPlain (made_of self.now) result (moved_document (made_of self.now) path.now other.now (document_named name.entry (documents_of self.now))) }
+        ensures moved { IfOk result (λ edited. IsMadeByMove path.now other.now (numbered_document name.entry self.now) edited.document) }
+        ensures faultless { IfOk result (λ edited. IsFaultlessAs name.entry edited.document) }
         ensures below { IfOk result (λ edited. AreBelow edited.next.number edited.document) }
     {
+        moves_keep_documents_valid();
+        moves_keep_documents_normal();
         match self.found(name) {
             Some(document) => relocate(alloc, document, path, other, self.next),
             None => Err(EditFault::Refused {
@@ -306,25 +328,26 @@ impl Held {
         }
     }
 
-    // Makes ready that this document is that of this name, after which the next node has this number. Where it was made by
-    // an edit of the present one, that tells what need not be asked again.
+    // Makes ready that this document is that of this name, after which the next node has this number. How it was made of the
+    // present one tells what need not be asked again.
     fn document_ready(
         &mut self,
         alloc: Global,
         name: DocName<'_>,
-        edit: Option<&Edit>,
+        origin: Origin<'_>,
         document: Doc,
         next: NodeId,
     ) -> Result<Ready, Memory>
         requires current { IsCurrent self.old }
-        requires edit { IsMadeBy (option_copied edit) (numbered_document name self.old) document }
+        requires made { IsMadeBy origin (numbered_document name self.old) document }
+        requires faultless { IsFaultlessAs name document }
         requires grows { made_of self.old ≤ next.number }
         requires below { AreBelow next.number document }
         ensures ok { IfOk result (λ ready. IsReady (with_document name.entry (plain_of document)) next.number self.new ready) }
         ensures kept { IsKept self.old self.new }
     {
         match name {
-            DocName::Source => self.source_ready(alloc, edit, document, next),
+            DocName::Source => self.source_ready(alloc, origin, document, next),
             DocName::Module(name) => self.module_ready(alloc, name, document, next),
         }
     }
@@ -333,17 +356,18 @@ impl Held {
     fn source_ready(
         &self,
         alloc: Global,
-        edit: Option<&Edit>,
+        origin: Origin<'_>,
         document: Doc,
         next: NodeId,
     ) -> Result<Ready, Memory>
         requires current { IsCurrent self.now }
-        requires edit { IsMadeBy (option_copied edit) self.now.source document }
+        requires made { IsMadeBy origin self.now.source document }
+        requires faultless { IsFaultless document }
         requires grows { made_of self.now ≤ next.number }
         requires below { AreBelow next.number document }
         ensures { IfOk result (λ ready. IsReady (with_source (plain_of document)) next.number self.now ready) }
     {
-        let Ok(came) = self.outcome_with_source(alloc, edit, &document) else {
+        let Ok(came) = self.outcome_with_source(alloc, origin, &document) else {
             drop(document);
             return Err(Memory);
         };
@@ -354,55 +378,51 @@ impl Held {
         })
     }
 
-    // The outcome with this source, which the edit, where there is one, makes of the present one.
+    // The outcome with this source.
     fn outcome_with_source(
         &self,
         alloc: Global,
-        edit: Option<&Edit>,
+        origin: Origin<'_>,
         document: &Doc,
     ) -> Result<Came, Memory>
         requires known { IsKnown self.now }
-        requires edit { IsMadeBy (option_copied edit) self.now.source document.now }
+        requires made { IsMadeBy origin self.now.source document.now }
+        requires faultless { IsFaultless document.now }
         ensures outcome { (modules : Modules) → AreCompiled modules self.now.compiled
             → IfOk result (λ came. Comes modules (parameters_of self.now.parameters) (modules main_name) (Some (plain_of document.now)) (outcome_of came.outcome)) }
         ensures fits { IfOk result (λ came. Fits came) }
-        ensures last { IfOk result (λ came. IfSome came.kept (KeptHolds self.now.compiled (parameters_of self.now.parameters) (Some document.now))) }
+        ensures last { IfOk result (λ came. LastHolds (outcome_of came.outcome) self.now.compiled (parameters_of self.now.parameters) (Some document.now)
+            (left_by came self.now.last.before self.now.last)) }
     {
-        let marks = self.source_marks(alloc, edit, document)?;
+        let since = self.since_source(alloc, origin, document)?;
         let compiled = self.compiled.as_ref();
         let parameters = &self.parameters;
-        let marked = marks.as_ref();
-        let came = outcome_of(
-            alloc,
-            compiled,
-            parameters,
-            Some(document),
-            &self.last,
-            marked,
-        );
-        drop(marks);
-        came
+        let kept = &self.last.kept;
+        outcome_of(alloc, compiled, parameters, Some(document), kept, since)
     }
 
-    // What the edit marks, by which this document was made of the present source. Where nothing is known, all is marked.
-    fn source_marks(
+    // What changed since the last run with a result, where this is the source from now on.
+    fn since_source(
         &self,
         alloc: Global,
-        edit: Option<&Edit>,
+        origin: Origin<'_>,
         document: &Doc,
-    ) -> Result<Option<Marks>, Memory>
+    ) -> Result<Since, Memory>
         requires known { IsKnown self.now }
-        requires edit { IsMadeBy (option_copied edit) self.now.source document.now }
-        ensures { IfOk result (λ marks. KeptSpared self.now.compiled (parameters_of self.now.parameters) (Some document.now) self.now.last marks) }
+        requires made { IsMadeBy origin self.now.source document.now }
+        ensures { let known = last_known self.now.compiled self.now.last.before in let given = parameters_of self.now.parameters in
+            IfOk result (λ since. StaysSpared known known given given self.now.source (Some document.now) (since_of self.now.last.since) (since_of since)) }
     {
-        if !self.outcome.is_done() {
-            return Ok(None);
-        }
-        match edit {
-            None => Ok(None),
-            Some(edit) => match &self.source {
-                None => Ok(None),
-                Some(old) => edit_marks(alloc, self.compiled.as_ref(), old, edit, document),
+        let known = last_known(&self.compiled, &self.last.before);
+        let since = &self.last.since;
+        match &self.source {
+            None => Since::anything(alloc),
+            Some(old) => match origin {
+                Origin::Given => Since::anything(alloc),
+                Origin::Edited(edit) => since_edit(alloc, known, since, old, edit, document),
+                Origin::Moved(path, other) => {
+                    since_move(alloc, known, since, old, path, other, document)
+                }
             },
         }
     }
@@ -473,31 +493,15 @@ impl Held {
         ensures outcome { (modules : Modules) → AreCompiled modules (option_copied compiled.entry)
             → IfOk result (λ came. Comes modules (parameters_of self.now.parameters) (modules main_name) (documents_of self.now).source (outcome_of came.outcome)) }
         ensures fits { IfOk result (λ came. Fits came) }
-        ensures last { IfOk result (λ came. IfSome came.kept (KeptHolds (option_copied compiled.entry) (parameters_of self.now.parameters) self.now.source)) }
+        ensures last { IfOk result (λ came. LastHolds (outcome_of came.outcome) (option_copied compiled.entry) (parameters_of self.now.parameters) self.now.source
+            (left_by came (before_by (option_copied compiled.entry) self.now.compiled self.now.last.before) self.now.last)) }
     {
-        let marks = self.marks_of_modules(alloc, compiled)?;
+        let known = last_known(&self.compiled, &self.last.before);
+        let since = since_modules(alloc, known, &self.last.since, compiled)?;
         let source = self.source.as_ref();
         let parameters = &self.parameters;
-        let marked = marks.as_ref();
-        let came = outcome_of(alloc, compiled, parameters, source, &self.last, marked);
-        drop(marks);
-        came
-    }
-
-    // What is marked where modules are this from now on. Where nothing is known, all is.
-    fn marks_of_modules(
-        &self,
-        alloc: Global,
-        compiled: Option<&Compiled>,
-    ) -> Result<Option<Marks>, Memory>
-        requires known { IsKnown self.now }
-        requires answers { AnswersAsSome (option_copied compiled) }
-        ensures { IfOk result (λ marks. KeptSpared (option_copied compiled.entry) (parameters_of self.now.parameters) self.now.source self.now.last marks) }
-    {
-        if !self.outcome.is_done() {
-            return Ok(None);
-        }
-        module_marks(alloc, self.compiled.as_ref(), compiled)
+        let kept = &self.last.kept;
+        outcome_of(alloc, compiled, parameters, source, kept, since)
     }
 
     // There is room for one parameter more afterwards, so that `adopt` takes no memory.
@@ -506,10 +510,9 @@ impl Held {
         ensures ok { IfOk result (λ ready. IsReady (with_parameter name.now value.now) (made_of self.new) self.new ready) }
         ensures kept { IsKept self.old self.new }
     {
-        let marks = self.marks_of_parameter(alloc, name)?;
+        let since = since_parameter(alloc, &self.last.since, name)?;
         let compiled = self.compiled.as_ref();
         let source = self.source.as_ref();
-        let marked = marks.as_ref();
         let tried = outcome_with(
             alloc,
             compiled,
@@ -517,11 +520,9 @@ impl Held {
             name,
             value,
             source,
-            &self.last,
-            marked,
-        );
-        drop(marks);
-        let tried = tried?;
+            &self.last.kept,
+            since,
+        )?;
         let TriedParameter { name, value, came } = tried;
         Ok(Ready {
             change: Change::Parameter(name, value),
@@ -530,23 +531,12 @@ impl Held {
         })
     }
 
-    // What is marked where the parameter of this name is given another value. Where nothing is known, all is.
-    fn marks_of_parameter(&self, alloc: Global, name: &Text) -> Result<Option<Marks>, Memory>
-        requires { IsKnown self.now }
-        ensures { (value : List ℕ) → IfOk result (λ marks. KeptSpared self.now.compiled (with_value name.now value (parameters_of self.now.parameters)) self.now.source self.now.last marks) }
-    {
-        if !self.outcome.is_done() {
-            return Ok(None);
-        }
-        parameter_marks(alloc, name)
-    }
-
     fn put(&mut self, change: Change)
         requires { HasRoom change self.old }
         ensures documents { documents_of self.new ≡ changed_by change (documents_of self.old) }
         ensures compiled { self.new.compiled ≡ next_compiled change self.old }
         ensures source { self.new.source ≡ next_source change self.old }
-        ensures last { last_in self.new ≡ last_in self.old }
+        ensures last { last_in self.new ≡ record (last_in self.old) { before = next_before change self.old } }
         ensures below { (first : ℕ) → HasBelow first self.old → IsBelow first change → HasBelow first self.new }
     {
         match change {
@@ -573,22 +563,38 @@ impl Held {
         ensures source { self.new.source ≡ self.old.source }
         ensures documents { documents_of self.new ≡ with_module (chars (string_bytes name)) (plain_of document) (documents_of self.old) }
         ensures compiled { self.new.compiled ≡ compiled }
-        ensures last { last_in self.new ≡ last_in self.old }
+        ensures last { last_in self.new ≡ record (last_in self.old) { before = before_by compiled self.old.compiled self.old.last.before } }
         ensures below { (first : ℕ) → HasBelow first self.old → AreBelow first document → HasBelow first self.new }
     {
         drop(self.modules.insert(name, document));
-        drop(mem::replace(&mut self.compiled, compiled));
+        self.put_compiled(compiled);
     }
 
     fn take_module(&mut self, name: &Text, compiled: Option<Compiled>)
         ensures source { self.new.source ≡ self.old.source }
         ensures documents { documents_of self.new ≡ without_module name.now (documents_of self.old) }
         ensures compiled { self.new.compiled ≡ compiled }
-        ensures last { last_in self.new ≡ last_in self.old }
+        ensures last { last_in self.new ≡ record (last_in self.old) { before = before_by compiled self.old.compiled self.old.last.before } }
         ensures below { (first : ℕ) → HasBelow first self.old → HasBelow first self.new }
     {
         drop(self.modules.shift_remove(name.as_str()));
-        drop(mem::replace(&mut self.compiled, compiled));
+        self.put_compiled(compiled);
+    }
+
+    // What the modules were stays where they were a stylesheet and are none.
+    fn put_compiled(&mut self, compiled: Option<Compiled>)
+        ensures { self.new ≡ record self.old { compiled = compiled; last = record (last_in self.old) { before = before_by compiled self.old.compiled self.old.last.before } } }
+    {
+        let is_run = is_stylesheet(&compiled);
+        let was = mem::replace(&mut self.compiled, compiled);
+        if is_run {
+            drop(was);
+            drop(mem::replace(&mut self.last.before, None));
+        } else if is_stylesheet(&was) {
+            drop(mem::replace(&mut self.last.before, was));
+        } else {
+            drop(was);
+        }
     }
 
     // There is room, so that no memory is taken.

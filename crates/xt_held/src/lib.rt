@@ -4,7 +4,8 @@
 //! with `edit`, or a node of it moves with `relocate`.
 //!
 //! What the last run that ended with a result kept stays, and the run of a change takes from it what still holds, so that it
-//! comes to what a run from nothing would. `stats` tells what that took. The modules are compiled again where one changes.
+//! comes to what a run from nothing would; of its questions those alone are asked again that some change since then marks, also
+//! where refusals came between. `stats` tells what that took. The modules are compiled again where one changes.
 //!
 //! ```text
 //! let mut held = Held::new(alloc);                   // S01 -
@@ -20,8 +21,10 @@
 #![tactic(auto)]
 
 mod held;
+mod last_run;
 mod marking;
 mod name;
+mod origin;
 mod outcome;
 mod parameter;
 mod ready;

@@ -1,98 +1,242 @@
-// What a change marks of what the last run asked.
-ghost use Rattle.std.specs.Prelude.{◌≡◌, ℕ, Option, IfOk, Some, true};
+// What changed since the last run that ended with a result, after one change more.
+ghost use Rattle.std.specs.Prelude.{◌≡◌, ℕ, List, Option, IfOk, Some, true};
 ghost use Rattle.std.specs.Option.{option_copied};
 ghost use Rattle.spec_document.specs.Forest.{Document};
+ghost use Rattle.spec_document.specs.Name.{Expanded};
 ghost use Rattle.spec_run.specs.Documents.{Parameters};
 ghost use Rattle.spec_change.specs.Change.{IsEdit};
+ghost use Rattle.spec_move.specs.Changed.{IsMove};
+ghost use Rattle.spec_seen.specs.Seen as sight;
+ghost use Rattle.spec_stylesheet.specs.declared.method.Method.{Method};
+ghost use Rattle.spec_touch.specs.Leads as leads;
+ghost use Rattle.spec_touch.specs.Leads.{Leads};
+ghost use Rattle.xt_edit.specs.Telling.{change_in};
 ghost use Rattle.xt_edit.specs.View.{edit_of};
-ghost use Rattle.xt_record.specs.declared.pool.Pool.{Pool};
-ghost use Rattle.xt_held.specs.RunView.{AnswersAsSome, KeptHolds, KeptSpared, SeeAlike, SeesAll, SparesWithValue};
+ghost use Rattle.xt_syntax.specs.SheetView.{space_rules_of};
+ghost use Rattle.xt_syntax.specs.declared.space_rules.SpaceRules.{SpaceRules as Rules};
+ghost use Rattle.xt_touch.specs.View.{since_of};
+ghost use Rattle.xt_world.specs.ParameterView.{with_value};
+ghost use Rattle.xt_world.specs.declared.stylesheet.Stylesheet as world;
+ghost use Rattle.xt_held.specs.RunView.{IsFaultless, SeeAlike, SeesAll, StaysSpared, last_known};
+ghost use Rattle.xt_held.specs.declared.stylesheet.Compiled.{Compiled as What};
+ghost use Rattle.xt_held.specs.declared.stylesheet.Compiled.TheVariants as compiled;
 
 use crate::stylesheet::Compiled;
-use spec_touch::{edits_lead, unmarked_questions_keep_their_answers_in_worlds};
+use spec_touch::{
+    edits_keep_space, edits_lead_as_they_are_seen, unmarked_questions_keep_their_answers_in_worlds,
+};
 use std::alloc::Global;
-use xt_edit::{Edit, change_of};
-use xt_text::{Memory, Text};
-use xt_touch::{Marks, WorldChange};
+use xt_edit::{Change, Edit, change_of, move_change_of};
+use xt_strip::seen;
+use xt_syntax::SpaceRules;
+use xt_text::{Memory, Path, Text};
+use xt_touch::{Modes, Since, WorldChange, seen_change};
 use xt_tree::Doc;
+use xt_world::Stylesheet;
 
-/// What the edit marks that made the new source of the old one, where the run saw all of it. Else all is marked.
-pub(crate) fn edit_marks(
+/// After this edit, which makes the new source of the old one.
+pub(crate) fn since_edit(
     alloc: Global,
-    compiled: Option<&Compiled>,
+    known: Option<&Compiled>,
+    since: &Since,
     old: &Doc,
     edit: &Edit,
     new: &Doc,
-) -> Result<Option<Marks>, Memory>
-    requires { IsEdit (edit_of edit.now) old.now new.now }
-    ensures { (parameters : Parameters) (pool : Pool) → AnswersAsSome (option_copied compiled.entry)
-        → KeptHolds (option_copied compiled.entry) parameters (Some old.now) pool
-        → IfOk result (λ marks. KeptSpared (option_copied compiled.entry) parameters (Some new.now) pool marks) }
+) -> Result<Since, Memory>
+    requires edit { IsEdit (edit_of edit.now) old.now new.now }
+    requires faultless { IsFaultless old.now }
+    ensures { (parameters : Parameters) → IfOk result (λ next. let what = option_copied known.entry in
+        StaysSpared what what parameters parameters (Some old.now) (Some new.now) (since_of since.now) (since_of next)) }
 {
-    unmarked_questions_keep_their_answers_in_worlds();
-    edits_lead();
-    old.distinct_numbers();
-    if !sees_all(compiled) {
-        return Ok(None);
-    }
-    let change = change_of(alloc, old, edit, new)?;
-    let marks = Marks::new(alloc, WorldChange::SourceEdited(change))?;
-    Ok(Some(marks))
-}
-
-// Whether there is no rule that might strip white space.
-fn sees_all(compiled: Option<&Compiled>) -> bool
-    ensures { result ≡ true → SeesAll (option_copied compiled.entry) }
-{
-    match compiled {
-        None => false,
-        Some(Compiled::Refused(_)) => false,
-        Some(Compiled::Stylesheet(_, space_rules, _)) => space_rules.rules.is_empty(),
-    }
-}
-
-/// What is marked where modules were the old ones and are the new ones, if by both the source is seen alike. Else all is marked.
-pub(crate) fn module_marks(
-    alloc: Global,
-    old: Option<&Compiled>,
-    new: Option<&Compiled>,
-) -> Result<Option<Marks>, Memory>
-    ensures { (parameters : Parameters) (source : Option (Document ℕ)) (pool : Pool) → AnswersAsSome (option_copied old.entry) → AnswersAsSome (option_copied new.entry)
-        → KeptHolds (option_copied old.entry) parameters source pool
-        → IfOk result (λ marks. KeptSpared (option_copied new.entry) parameters source pool marks) }
-{
-    unmarked_questions_keep_their_answers_in_worlds();
-    if !see_alike(old, new) {
-        return Ok(None);
-    }
-    let change = WorldChange::ModulesChanged {
-        is_seen_as_before: true,
-    };
-    let marks = Marks::new(alloc, change)?;
-    Ok(Some(marks))
-}
-
-// Whether both are stylesheets with the same rules for white space.
-fn see_alike(old: Option<&Compiled>, new: Option<&Compiled>) -> bool
-    ensures { result ≡ true → SeeAlike (option_copied old.entry) (option_copied new.entry) }
-{
-    match old {
-        None => false,
-        Some(Compiled::Refused(_)) => false,
-        Some(Compiled::Stylesheet(_, old_rules, _)) => match new {
-            None => false,
-            Some(Compiled::Refused(_)) => false,
-            Some(Compiled::Stylesheet(_, new_rules, _)) => new_rules.same(old_rules),
+    match known {
+        None => Since::anything(alloc),
+        Some(known) => match known {
+            Compiled::Refused(_) => Since::anything(alloc),
+            Compiled::Stylesheet(stylesheet, space_rules, _) => {
+                since_edit_of(alloc, stylesheet, space_rules, since, old, edit, new)
+            }
         },
     }
 }
 
-/// What is marked where the parameter of this name is given another value.
-pub(crate) fn parameter_marks(alloc: Global, name: &Text) -> Result<Option<Marks>, Memory>
-    ensures { IfOk result (SparesWithValue name.now) }
+// The same with this stylesheet.
+fn since_edit_of(
+    alloc: Global,
+    stylesheet: &Stylesheet,
+    space_rules: &SpaceRules,
+    since: &Since,
+    old: &Doc,
+    edit: &Edit,
+    new: &Doc,
+) -> Result<Since, Memory>
+    requires edit { IsEdit (edit_of edit.now) old.now new.now }
+    requires faultless { IsFaultless old.now }
+    ensures { (method : Option (Method Expanded)) (parameters : Parameters) → IfOk result (λ next.
+        let what = Some (compiled.Stylesheet stylesheet.now space_rules.now method) in
+        StaysSpared what what parameters parameters (Some old.now) (Some new.now) (since_of since.now) (since_of next)) }
+{
+    unmarked_questions_keep_their_answers_in_worlds();
+    edits_lead_as_they_are_seen();
+    edits_keep_space();
+    old.distinct_numbers();
+    let told = change_of(alloc, old, edit, new)?;
+    let change = change_seen(alloc, space_rules, told, old, new)?;
+    let Ok(asking) = Modes::asking(alloc, stylesheet.rules.rules.as_slice()) else {
+        drop(change);
+        return Err(Memory);
+    };
+    since.and(alloc, WorldChange::SourceEdited { change, asking })
+}
+
+// The change as these rules for white space let it be seen.
+fn change_seen(
+    alloc: Global,
+    space_rules: &SpaceRules,
+    change: Change,
+    old: &Doc,
+    new: &Doc,
+) -> Result<Change, Memory>
+    ensures { IfOk result (λ told. let rules = (space_rules_of space_rules.now).rules in
+        let is = leads.seen_change (change_in change) (sight.seen rules old.now) (sight.seen rules new.now) in
+        Leads is (sight.seen rules old.now) (sight.seen rules new.now) → change_in told ≡ is) }
+{
+    let Ok(old) = seen(alloc, old, space_rules.rules.as_slice()) else {
+        drop(change);
+        return Err(Memory);
+    };
+    let Ok(new) = seen(alloc, new, space_rules.rules.as_slice()) else {
+        drop(old);
+        drop(change);
+        return Err(Memory);
+    };
+    let told = seen_change(alloc, &change, &old, &new);
+    drop(new);
+    drop(old);
+    drop(change);
+    told
+}
+
+/// After the move of the node at the first path before what is at the second, which makes the new source of the old one.
+/// Where rules strip white space, anything may be another.
+pub(crate) fn since_move(
+    alloc: Global,
+    known: Option<&Compiled>,
+    since: &Since,
+    old: &Doc,
+    path: &Path,
+    other: &Path,
+    new: &Doc,
+) -> Result<Since, Memory>
+    requires moved { IsMove path.now other.now old.now new.now }
+    requires faultless { IsFaultless old.now }
+    ensures { (parameters : Parameters) → IfOk result (λ next. let what = option_copied known.entry in
+        StaysSpared what what parameters parameters (Some old.now) (Some new.now) (since_of since.now) (since_of next)) }
+{
+    match known {
+        None => Since::anything(alloc),
+        Some(known) => match known {
+            Compiled::Refused(_) => Since::anything(alloc),
+            Compiled::Stylesheet(stylesheet, space_rules, _) => {
+                if !sees_all(space_rules) {
+                    return Since::anything(alloc);
+                }
+                since_move_of(alloc, stylesheet, since, old, path, other, new)
+            }
+        },
+    }
+}
+
+// Whether there is no rule that might strip white space.
+fn sees_all(space_rules: &SpaceRules) -> bool
+    ensures { result ≡ true → SeesAll space_rules.now }
+{
+    space_rules.rules.is_empty()
+}
+
+// The same with this stylesheet, where all is seen.
+fn since_move_of(
+    alloc: Global,
+    stylesheet: &Stylesheet,
+    since: &Since,
+    old: &Doc,
+    path: &Path,
+    other: &Path,
+    new: &Doc,
+) -> Result<Since, Memory>
+    requires moved { IsMove path.now other.now old.now new.now }
+    requires faultless { IsFaultless old.now }
+    ensures { (rules : Rules) (method : Option (Method Expanded)) (parameters : Parameters) → SeesAll rules → IfOk result (λ next.
+        let what = Some (compiled.Stylesheet stylesheet.now rules method) in
+        StaysSpared what what parameters parameters (Some old.now) (Some new.now) (since_of since.now) (since_of next)) }
+{
+    unmarked_questions_keep_their_answers_in_worlds();
+    old.distinct_numbers();
+    match move_change_of(alloc, old, path, other, new)? {
+        None => Since::anything(alloc),
+        Some(change) => {
+            let Ok(asking) = Modes::asking(alloc, stylesheet.rules.rules.as_slice()) else {
+                drop(change);
+                return Err(Memory);
+            };
+            since.and(alloc, WorldChange::SourceMoved { change, asking })
+        }
+    }
+}
+
+/// After a change of modules, which are this from then on.
+pub(crate) fn since_modules(
+    alloc: Global,
+    known: Option<&Compiled>,
+    since: &Since,
+    new: Option<&Compiled>,
+) -> Result<Since, Memory>
+    ensures { (parameters : Parameters) (source : Option (Document ℕ)) → IfOk result (λ next. let what = option_copied known.entry in
+        StaysSpared what (last_known (option_copied new.entry) what) parameters parameters source source (since_of since.now) (since_of next)) }
+{
+    match new {
+        None => since.copy(alloc),
+        Some(new) => match new {
+            Compiled::Refused(_) => since.copy(alloc),
+            Compiled::Stylesheet(_, space_rules, _) => {
+                since_stylesheet(alloc, known, since, space_rules)
+            }
+        },
+    }
+}
+
+// After a change of modules, which are a stylesheet with these rules for white space from then on. Where the source is seen
+// otherwise, anything may be another.
+fn since_stylesheet(
+    alloc: Global,
+    known: Option<&Compiled>,
+    since: &Since,
+    space_rules: &SpaceRules,
+) -> Result<Since, Memory>
+    ensures { (stylesheet : world.Stylesheet) (method : Option (Method Expanded)) (parameters : Parameters) (source : Option (Document ℕ)) → IfOk result (λ next.
+        StaysSpared (option_copied known.entry) (Some (compiled.Stylesheet stylesheet space_rules.now method)) parameters parameters source source
+        (since_of since.now) (since_of next)) }
+{
+    unmarked_questions_keep_their_answers_in_worlds();
+    match known {
+        None => Since::anything(alloc),
+        Some(known) => match known {
+            Compiled::Refused(_) => Since::anything(alloc),
+            Compiled::Stylesheet(_, rules, _) => {
+                if !space_rules.same(rules) {
+                    return Since::anything(alloc);
+                }
+                since.and(alloc, WorldChange::ModulesChanged)
+            }
+        },
+    }
+}
+
+/// After the parameter of this name was given another value.
+pub(crate) fn since_parameter(alloc: Global, since: &Since, name: &Text) -> Result<Since, Memory>
+    ensures { (known : Option What) (parameters : Parameters) (value : List ℕ) (source : Option (Document ℕ)) → IfOk result (λ next.
+        StaysSpared known known parameters (with_value name.now value parameters) source source (since_of since.now) (since_of next)) }
 {
     unmarked_questions_keep_their_answers_in_worlds();
     let name = name.copy(alloc)?;
-    let marks = Marks::new(alloc, WorldChange::ParameterGiven(name))?;
-    Ok(Some(marks))
+    since.and(alloc, WorldChange::ParameterGiven(name))
 }

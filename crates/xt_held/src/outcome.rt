@@ -20,7 +20,8 @@ ghost use Rattle.xt_import.specs.View.{plain_of};
 ghost use Rattle.xt_record.specs.Sure.{AreAnswered, IsSure, Spares};
 ghost use Rattle.xt_world.specs.ParameterView.{parameters_of};
 ghost use Rattle.xt_world.specs.View.{truth_in};
-ghost use Rattle.xt_held.specs.OutcomeView.{Fits, is_done, no_steps, outcome_of, plain_in};
+ghost use Rattle.xt_touch.specs.View.{since_of};
+ghost use Rattle.xt_held.specs.OutcomeView.{Fits, no_steps, outcome_of, plain_in, since_after};
 ghost use Rattle.xt_held.specs.RunView.{Ask, KeptHolds, KeptSpared, truth_seen};
 ghost use Rattle.xt_held.specs.StylesheetView.{AnswersAs, AreCompiled, IsCompiledFrom};
 
@@ -39,7 +40,7 @@ use xt_runner::Runner;
 use xt_strip::seen;
 use xt_syntax::{Method, SpaceRules};
 use xt_text::{Memory, Path, Text};
-use xt_touch::Marks;
+use xt_touch::Since;
 use xt_tree::{Doc, NodeRef};
 use xt_world::{Parameters, SheetWorld, Stylesheet, same_run};
 
@@ -65,18 +66,6 @@ pub enum Outcome {
     },
 }
 
-impl Outcome {
-    /// Whether there is a result. Takes no memory.
-    pub(crate) fn is_done(&self) -> bool
-        ensures { result ≡ is_done (outcome_of self.now) }
-    {
-        match self {
-            Outcome::Done { .. } => true,
-            Outcome::Refused { .. } => false,
-        }
-    }
-}
-
 /// An outcome, with what its run leaves to the next and what it took.
 #[derive(Drop)]
 pub(crate) struct Came {
@@ -85,44 +74,49 @@ pub(crate) struct Came {
     pub kept: Option<Pool>,
     /// What the run took, where there was one.
     pub steps: Steps,
+    /// What changed since the last run that ended with a result, which may be this one.
+    pub since: Since,
 }
 
 /// The outcome of modules that are this on this source with these parameters: `S01` without a module `main`, else `S02` without a source,
 /// else the first static refusal of the modules, else the first dynamic refusal of the run, else the result. The run takes what still
-/// holds from what the last one kept, and asks again only what is marked. Where there are no marks, all is.
+/// holds from what the last one kept, and asks again only what is marked by the changes since then.
 pub(crate) fn outcome_of(
     alloc: Global,
     compiled: Option<&Compiled>,
     parameters: &Parameters,
     source: Option<&Doc>,
     last: &Pool,
-    marks: Option<&Marks>,
+    since: Since,
 ) -> Result<Came, Memory>
-    requires { KeptSpared (option_copied compiled) (parameters_of parameters.now) (option_copied source) last.now (option_copied marks) }
+    requires { KeptSpared (option_copied compiled) (parameters_of parameters.now) (option_copied source) last.now (since_of since) }
     ensures outcome { (modules : Modules) → AreCompiled modules (option_copied compiled.entry)
         → IfOk result (λ came. Comes modules (parameters_of parameters.now) (modules main_name) (plain_in source.entry) (outcome_of came.outcome)) }
     ensures fits { IfOk result (λ came. Fits came) }
     ensures last { IfOk result (λ came. IfSome came.kept (KeptHolds (option_copied compiled.entry) (parameters_of parameters.now) (option_copied source.entry))) }
+    ensures since { IfOk result (λ came. since_of came.since ≡ since_after came.kept (since_of since)) }
 {
     match compiled {
-        None => Ok(with_no_run(at_no_element(alloc, StaticCode::NoMain))),
+        None => Ok(with_no_run(at_no_element(alloc, StaticCode::NoMain), since)),
         Some(compiled) => match source {
-            None => Ok(with_no_run(at_no_element(alloc, StaticCode::NoSource))),
-            Some(source) => transformed(alloc, compiled, parameters, source, last, marks),
+            None => Ok(with_no_run(at_no_element(alloc, StaticCode::NoSource), since)),
+            Some(source) => transformed(alloc, compiled, parameters, source, last, since),
         },
     }
 }
 
 // The outcome where nothing is run.
-fn with_no_run(outcome: Outcome) -> Came
+fn with_no_run(outcome: Outcome, since: Since) -> Came
     ensures outcome { result.outcome ≡ outcome }
     ensures kept { result.kept ≡ None }
     ensures steps { result.steps ≡ no_steps }
+    ensures since { result.since ≡ since }
 {
     Came {
         outcome,
         kept: None,
         steps: no_steps(),
+        since,
     }
 }
 
@@ -154,13 +148,14 @@ fn transformed(
     parameters: &Parameters,
     source: &Doc,
     last: &Pool,
-    marks: Option<&Marks>,
+    since: Since,
 ) -> Result<Came, Memory>
-    requires { KeptSpared (Some compiled.now) (parameters_of parameters.now) (Some source.now) last.now (option_copied marks) }
+    requires { KeptSpared (Some compiled.now) (parameters_of parameters.now) (Some source.now) last.now (since_of since) }
     ensures outcome { (modules : Modules) (main : Plain) → IsCompiledFrom modules compiled.now
         → IfOk result (λ came. Comes modules (parameters_of parameters.now) (Some main) (Some (plain_of source.now)) (outcome_of came.outcome)) }
     ensures fits { IfOk result (λ came. Fits came) }
     ensures last { IfOk result (λ came. IfSome came.kept (KeptHolds (Some compiled.now) (parameters_of parameters.now) (Some source.now))) }
+    ensures since { IfOk result (λ came. since_of came.since ≡ since_after came.kept (since_of since)) }
 {
     match compiled {
         Compiled::Stylesheet(stylesheet, space_rules, method) => {
@@ -171,30 +166,36 @@ fn transformed(
                 parameters,
                 source,
                 last,
-                marks,
+                &since,
             )?;
             let Ok(method) = copy_method(alloc, method) else {
                 drop(over);
+                drop(since);
                 return Err(Memory);
             };
-            ended(method, over)
+            ended(alloc, method, over, since)
         }
-        Compiled::Refused(refusal) => refused(alloc, refusal),
+        Compiled::Refused(refusal) => refused(alloc, refusal, since),
     }
 }
 
 // The outcome of modules with this static refusal.
-fn refused(alloc: Global, refusal: &StaticRefusal) -> Result<Came, Memory>
+fn refused(alloc: Global, refusal: &StaticRefusal, since: Since) -> Result<Came, Memory>
     ensures outcome { IfOk result (λ came. outcome_of came.outcome ≡ spec.Failed (refused_static (refusal_in refusal.now)) []) }
     ensures fits { IfOk result (λ came. Fits came) }
     ensures kept { IfOk result (λ came. came.kept ≡ None) }
+    ensures since { IfOk result (λ came. came.since ≡ since) }
 {
-    let place = copy_place(alloc, &refusal.place)?;
-    Ok(with_no_run(Outcome::Refused {
+    let Ok(place) = copy_place(alloc, &refusal.place) else {
+        drop(since);
+        return Err(Memory);
+    };
+    let outcome = Outcome::Refused {
         code: Code::Static(refusal.code),
         place,
         messages: Vec::new(alloc),
-    }))
+    };
+    Ok(with_no_run(outcome, since))
 }
 
 // A run that is over, with what it kept and what it took.
@@ -213,16 +214,16 @@ fn whole_of_seen(
     parameters: &Parameters,
     source: &Doc,
     last: &Pool,
-    marks: Option<&Marks>,
+    since: &Since,
 ) -> Result<Over, Memory>
-    requires { Spares (truth_seen stylesheet.now space_rules.now (parameters_of parameters.now) source.now) last.now (option_copied marks) }
+    requires { Spares (truth_seen stylesheet.now space_rules.now (parameters_of parameters.now) source.now) last.now (since_of since.now) }
     ensures run { (sheet : plain.Sheet) → AnswersAs stylesheet.now sheet → space_rules_of space_rules.now ≡ sheet.space_rules
         → IfOk result (λ over. whole_of over.whole ≡ run_of (setting_of sheet (parameters_of parameters.now) (seen_of sheet.space_rules.rules (document_of (plain_of source.now))))) }
     ensures kept { IfOk result (λ over. AreAnswered (truth_seen stylesheet.now space_rules.now (parameters_of parameters.now) source.now) over.kept) }
 {
     labels_do_not_matter();
     let seen = seen(alloc, source, space_rules.rules.as_slice())?;
-    whole(alloc, stylesheet, parameters, &seen, last, marks)
+    whole(alloc, stylesheet, parameters, &seen, last, since)
 }
 
 // The run of the stylesheet on this source, in a world of its own.
@@ -232,9 +233,9 @@ fn whole(
     parameters: &Parameters,
     source: &Doc,
     last: &Pool,
-    marks: Option<&Marks>,
+    since: &Since,
 ) -> Result<Over, Memory>
-    requires { Spares (truth_in stylesheet.now (parameters_of parameters.now) source.now) last.now (option_copied marks) }
+    requires { Spares (truth_in stylesheet.now (parameters_of parameters.now) source.now) last.now (since_of since.now) }
     ensures run { (sheet : plain.Sheet) → AnswersAs stylesheet.now sheet
         → IfOk result (λ over. whole_of over.whole ≡ run_of (setting_of sheet (parameters_of parameters.now) (document_of (plain_of source.now)))) }
     ensures kept { IfOk result (λ over. AreAnswered (truth_in stylesheet.now (parameters_of parameters.now) source.now) over.kept) }
@@ -242,7 +243,7 @@ fn whole(
     same_run();
     source.distinct_numbers();
     let root = NodeRef::of(source.root());
-    let mut reuse = Reuse::new(alloc, last, marks)?;
+    let mut reuse = Reuse::new(alloc, last, since)?;
     let mut world = SheetWorld::new(alloc, source, stylesheet, parameters);
     let mut engine = Runner::new();
     let whole = run(
@@ -273,11 +274,12 @@ fn with_kept(whole: Result<Whole, Memory>, reuse: Reuse<'_>) -> Result<Over, Mem
     }
 }
 
-// The outcome of a run of a stylesheet with this output method.
-fn ended(method: Option<Method>, over: Over) -> Result<Came, Memory>
+// The outcome of a run of a stylesheet with this output method, after these changes.
+fn ended(alloc: Global, method: Option<Method>, over: Over, since: Since) -> Result<Came, Memory>
     ensures outcome { IfOk result (λ came. outcome_of came.outcome ≡ outcome_by method (whole_of over.whole)) }
     ensures fits { IfOk result (λ came. Fits came) }
     ensures kept { IfOk result (λ came. IfSome came.kept (λ kept. kept ≡ over.kept)) }
+    ensures since { IfOk result (λ came. since_of came.since ≡ since_after came.kept (since_of since)) }
 {
     let Over { whole, kept, steps } = over;
     let Whole {
@@ -286,35 +288,40 @@ fn ended(method: Option<Method>, over: Over) -> Result<Came, Memory>
         refusal,
     } = whole;
     match refusal {
-        None => match shape(&content) {
-            Ok(result) => Ok(Came {
-                outcome: Outcome::Done {
-                    result,
-                    method,
-                    messages,
-                },
-                kept: Some(kept),
-                steps,
-            }),
-            Err(_) => {
-                drop(method);
-                drop(kept);
-                Err(Memory)
+        None => {
+            drop(since);
+            match shape(&content) {
+                Ok(result) => Ok(Came {
+                    outcome: Outcome::Done {
+                        result,
+                        method,
+                        messages,
+                    },
+                    kept: Some(kept),
+                    steps,
+                    since: Since::nothing(alloc),
+                }),
+                Err(_) => {
+                    drop(method);
+                    drop(kept);
+                    Err(Memory)
+                }
             }
-        },
+        }
         Some(why) => {
             drop(method);
             drop(kept);
-            Ok(refused_in_run(why, messages, steps))
+            Ok(refused_in_run(why, messages, steps, since))
         }
     }
 }
 
 // The outcome of a run that was refused, of which nothing is kept.
-fn refused_in_run(why: Refused, messages: Vec<Text>, steps: Steps) -> Came
+fn refused_in_run(why: Refused, messages: Vec<Text>, steps: Steps, since: Since) -> Came
     ensures outcome { outcome_of result.outcome ≡ spec.Failed (refused_dynamic (refused_of why)) messages.items }
     ensures fits { Fits result }
     ensures kept { result.kept ≡ None }
+    ensures since { result.since ≡ since }
 {
     Came {
         outcome: Outcome::Refused {
@@ -324,5 +331,6 @@ fn refused_in_run(why: Refused, messages: Vec<Text>, steps: Steps) -> Came
         },
         kept: None,
         steps,
+        since,
     }
 }

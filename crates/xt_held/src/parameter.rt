@@ -9,7 +9,8 @@ ghost use Rattle.spec_run.specs.Documents.{main_name, parameter_fault};
 ghost use Rattle.spec_run.specs.Outcome.{Comes};
 ghost use Rattle.xt_base.specs.Code.{edit_number};
 ghost use Rattle.xt_world.specs.ParameterView.{HasRoomForOne, parameters_of, with_value};
-ghost use Rattle.xt_held.specs.OutcomeView.{Fits, outcome_of, plain_in};
+ghost use Rattle.xt_touch.specs.View.{since_of};
+ghost use Rattle.xt_held.specs.OutcomeView.{Fits, outcome_of, plain_in, since_after};
 ghost use Rattle.xt_held.specs.RunView.{KeptHolds, KeptSpared};
 ghost use Rattle.xt_held.specs.StylesheetView.{AreCompiled};
 
@@ -20,7 +21,7 @@ use xt_base::EditCode;
 use xt_names::{is_char, is_ncname};
 use xt_record::Pool;
 use xt_text::{Memory, Text};
-use xt_touch::Marks;
+use xt_touch::Since;
 use xt_tree::Doc;
 use xt_world::Parameters;
 
@@ -64,13 +65,14 @@ pub(crate) fn outcome_with(
     value: &Text,
     source: Option<&Doc>,
     last: &Pool,
-    marks: Option<&Marks>,
+    since: Since,
 ) -> Result<TriedParameter, Memory>
-    requires { KeptSpared (option_copied compiled) (with_value name.now value.now (parameters_of parameters.now)) (option_copied source) last.now (option_copied marks) }
+    requires { KeptSpared (option_copied compiled) (with_value name.now value.now (parameters_of parameters.now)) (option_copied source) last.now (since_of since) }
     ensures outcome { (modules : Modules) → AreCompiled modules (option_copied compiled.entry)
         → IfOk result (λ tried. Comes modules (with_value name.now value.now (parameters_of parameters.old)) (modules main_name) (plain_in source.entry) (outcome_of tried.came.outcome)) }
     ensures fits { IfOk result (λ tried. Fits tried.came) }
     ensures last { IfOk result (λ tried. IfSome tried.came.kept (KeptHolds (option_copied compiled.entry) (with_value name.now value.now (parameters_of parameters.old)) (option_copied source.entry))) }
+    ensures since { IfOk result (λ tried. since_of tried.came.since ≡ since_after tried.came.kept (since_of since)) }
     ensures name { IfOk result (λ tried. chars (string_bytes tried.name) ≡ name.now) }
     ensures value { IfOk result (λ tried. tried.value ≡ value.now) }
     ensures room { OnOk result (HasRoomForOne parameters.new) }
@@ -79,7 +81,7 @@ pub(crate) fn outcome_with(
     let key = String::from_str(alloc, name.as_str())?;
     let kept = value.copy(alloc)?;
     let before = parameters.give(alloc, name, value)?;
-    let came = outcome_of(alloc, compiled, parameters, source, last, marks);
+    let came = outcome_of(alloc, compiled, parameters, source, last, since);
     parameters.take_back(before);
     let came = came?;
     let Ok(()) = parameters.reserve() else {

@@ -1,10 +1,13 @@
 // The stylesheet that modules are.
 ghost use Rattle.std.specs.Prelude.{◌≡◌, IfOk, Ok};
+ghost use Rattle.std.specs.Bool.{Decides};
+ghost use Rattle.std.specs.Option.{option_copied};
 ghost use Rattle.spec_run.specs.Documents.{main_name};
 ghost use Rattle.xt_syntax.specs.SheetView.{sheet_of};
 ghost use Rattle.xt_compile.specs.View.{IsCompiled};
 ghost use Rattle.xt_import.specs.View.{modules_in};
-ghost use Rattle.xt_held.specs.StylesheetView.{AreCompiled, Holds, IsCompiledFrom, IsThere};
+ghost use Rattle.xt_held.specs.RunView.{last_known};
+ghost use Rattle.xt_held.specs.StylesheetView.{AreCompiled, Holds, IsCompiledFrom, IsStylesheet, IsThere};
 
 use indexmap::IndexMap;
 use std::alloc::Global;
@@ -26,6 +29,31 @@ pub(crate) enum Compiled {
     Stylesheet(Stylesheet, SpaceRules, Option<Method>),
     /// None: this is their first static refusal.
     Refused(StaticRefusal),
+}
+
+/// Whether it is a stylesheet.
+pub(crate) fn is_stylesheet(compiled: &Option<Compiled>) -> bool
+    ensures { Decides result (IsStylesheet compiled.now) }
+{
+    match compiled {
+        None => false,
+        Some(Compiled::Refused(_)) => false,
+        Some(Compiled::Stylesheet(_, _, _)) => true,
+    }
+}
+
+/// What modules are where they are a stylesheet, and else what they were when they were one.
+pub(crate) fn last_known<'a>(
+    compiled: &'a Option<Compiled>,
+    before: &'a Option<Compiled>,
+) -> Option<&'a Compiled>
+    ensures { option_copied result ≡ last_known compiled.now before.now }
+{
+    match compiled {
+        None => before.as_ref(),
+        Some(Compiled::Refused(_)) => before.as_ref(),
+        Some(Compiled::Stylesheet(_, _, _)) => compiled.as_ref(),
+    }
 }
 
 /// What the modules are, where there is a module `main`.

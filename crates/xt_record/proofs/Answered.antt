@@ -1,5 +1,5 @@
 -- What is asked, one question after the other.
-use Rattle.std.proofs.Common.{◌≡◌, ℕ, zero, suc, ◌<◌, List, [], ◌∷◌, Option, map, take, length, get_or, sym, subst, arith}
+use Rattle.std.proofs.Common.{◌≡◌, ℕ, zero, suc, ◌<◌, List, [], ◌∷◌, map, take, length, get_or, sym, subst, arith}
 use Rattle.spec_meaning.specs.Question.{Question, Answer}
 use Rattle.spec_run.specs.Going.{Event, Asked, Saw, Entered, Held}
 use Rattle.spec_node.specs.declared.node_ref.NodeRef.{NodeRef}
@@ -7,7 +7,7 @@ use Rattle.xt_engine.specs.View.{event_of}
 use Rattle.xt_engine.specs.declared.event.Event.{Event as CodeEvent}
 use Rattle.xt_record.specs.View.{AsksHold}
 use Rattle.xt_record.specs.Sure.{AsksSpared}
-use Rattle.xt_touch.specs.declared.marks.Marks.{Marks}
+use Rattle.spec_touch.specs.Marks.{WorldChange}
 
 module _ (ask : Question NodeRef → Answer NodeRef) where
   first_answered : (e : Event NodeRef) (es : List (Event NodeRef)) → AsksHold ask (e ∷ es) → AsksHold ask (e ∷ [])
@@ -39,22 +39,22 @@ module _ (ask : Question NodeRef → Answer NodeRef) where
       (answered_more es i e (omega arith) at k (others_answered (event_of x) before h))
 
 -- what is not marked among all, at each place
-module _ (ask : Question NodeRef → Answer NodeRef) (marks : Option Marks) where
-  first_spared : (e : Event NodeRef) (es : List (Event NodeRef)) → AsksSpared ask marks (e ∷ es) → AsksSpared ask marks (e ∷ [])
+module _ (ask : Question NodeRef → Answer NodeRef) (changes : List WorldChange) where
+  first_spared : (e : Event NodeRef) (es : List (Event NodeRef)) → AsksSpared ask changes (e ∷ es) → AsksSpared ask changes (e ∷ [])
   first_spared (Asked q a) es h = (h.0, tt)
   first_spared (Saw w d l x) es h = tt
   first_spared (Entered c d) es h = tt
   first_spared (Held j xs) es h = tt
 
-  others_spared : (e : Event NodeRef) (es : List (Event NodeRef)) → AsksSpared ask marks (e ∷ es) → AsksSpared ask marks es
+  others_spared : (e : Event NodeRef) (es : List (Event NodeRef)) → AsksSpared ask changes (e ∷ es) → AsksSpared ask changes es
   others_spared (Asked q a) es h = h.1
   others_spared (Saw w d l x) es h = h
   others_spared (Entered c d) es h = h
   others_spared (Held j xs) es h = h
 
-  pub spared_at : (es : List CodeEvent) (i : ℕ) (e : CodeEvent) → i < length es → e ≡ get_or es i e → AsksSpared ask marks (map event_of es)
-      → AsksSpared ask marks (event_of e ∷ [])
+  pub spared_at : (es : List CodeEvent) (i : ℕ) (e : CodeEvent) → i < length es → e ≡ get_or es i e → AsksSpared ask changes (map event_of es)
+      → AsksSpared ask changes (event_of e ∷ [])
   spared_at [] i e lt at h = absurd (omega arith)
   spared_at (x ∷ es) zero e lt at h =
-      let P : CodeEvent → Type 0 = λ y. AsksSpared ask marks (event_of y ∷ []) in subst P (sym at) (first_spared (event_of x) (map event_of es) h)
+      let P : CodeEvent → Type 0 = λ y. AsksSpared ask changes (event_of y ∷ []) in subst P (sym at) (first_spared (event_of x) (map event_of es) h)
   spared_at (x ∷ es) (suc i) e lt at h = spared_at es i e (omega arith) at (others_spared (event_of x) (map event_of es) h)

@@ -1,12 +1,12 @@
 -- What is sure of records that are added, and of those that are judged.
-use Rattle.std.proofs.Common.{◌≡◌, ℕ, zero, suc, ◌<◌, List, [], ◌∷◌, ◌++◌, Option, length, get_or, set, replicate, refl, sym, ap, subst, ◌∙◌, arith}
+use Rattle.std.proofs.Common.{◌≡◌, ℕ, zero, suc, ◌<◌, Bool, true, false, List, [], ◌∷◌, ◌++◌, length, get_or, set, replicate, refl, sym, ap, subst, ◌∙◌, arith}
 use Rattle.std.specs.declared.rc.Rc.{Rc}
 use Rattle.std.specs.declared.alloc.Global.{Global}
 use Rattle.spec_meaning.specs.Question.{Question, Answer}
 use Rattle.spec_node.specs.declared.node_ref.NodeRef.{NodeRef}
 use Rattle.xt_record.specs.View.{kept_in, AsksHold}
-use Rattle.xt_touch.specs.declared.marks.Marks.{Marks}
-use Rattle.xt_record.specs.Sure.{AllHold, AllJudged, AllSpared, AsksSpared}
+use Rattle.spec_touch.specs.Marks.{WorldChange}
+use Rattle.xt_record.specs.Sure.{AllHold, AllJudged, AllSpared, AsksSpared, verdict_of}
 use Rattle.xt_record.specs.declared.record.Record.{Record}
 use Rattle.xt_record.specs.declared.reuse.Verdict.{Verdict}
 use Rattle.xt_record.specs.declared.reuse.Verdict.TheVariants.{Unasked, Holds, Fails}
@@ -61,6 +61,10 @@ module _ (ask : Question NodeRef → Answer NodeRef) where
   judged_now (w ∷ vs) (x ∷ rs) (suc i) v r lr at k h =
       both_judged w (set vs i v) x rs (first_judged w vs x rs h) (judged_now vs rs i v r (omega arith) at k (others_judged w vs x rs h))
 
+pub verdict_holds : (holds : Bool) → verdict_of holds ≡ Holds → holds ≡ true
+verdict_holds true is = refl
+verdict_holds false is = absurd (cc)
+
 -- what is read there is another handle of the same record
 pub read_at : (rs : List (Rc Record Global)) (i : ℕ) (r s : Rc Record Global) → i < length rs → r ≡ get_or rs i r → r.value ≡ s.value
     → s.value ≡ (get_or rs i s).value
@@ -69,11 +73,11 @@ read_at (x ∷ rs) zero r s lt at e = sym e ∙ ap (λ (y : Rc Record Global). y
 read_at (x ∷ rs) (suc i) r s lt at e = read_at rs i r s (omega arith) at e
 
 -- what is not marked of a record among others
-module _ (ask : Question NodeRef → Answer NodeRef) (marks : Option Marks) where
+module _ (ask : Question NodeRef → Answer NodeRef) (changes : List WorldChange) where
   abbrev SparedIn : Record → Type 0
-  SparedIn r = AsksSpared ask marks (kept_in r).trace
+  SparedIn r = AsksSpared ask changes (kept_in r).trace
 
-  pub all_spared_at : (rs : List (Rc Record Global)) (i : ℕ) (r : Rc Record Global) → i < length rs → r.value ≡ (get_or rs i r).value → AllSpared ask marks rs
+  pub all_spared_at : (rs : List (Rc Record Global)) (i : ℕ) (r : Rc Record Global) → i < length rs → r.value ≡ (get_or rs i r).value → AllSpared ask changes rs
       → SparedIn r.value
   all_spared_at [] i r lt at h = absurd (omega arith)
   all_spared_at (x ∷ rs) zero r lt at h = subst SparedIn (sym at) h.0

@@ -4,3 +4,4 @@ pub mod Ok
 pub mod Parameters
 pub mod Answered
 pub mod Judging
+pub mod Counting

@@ -1,4 +1,5 @@
 pub mod Kept
 pub mod View
 pub mod Names
+pub mod Asked
 pub mod Sure

@@ -1,34 +1,36 @@
 // Whether what was asked has its answers.
 ghost use Rattle.std.specs.Prelude.{◌≡◌, ◌∷◌, [], true, IfOk, map};
-ghost use Rattle.std.specs.Option.{option_copied};
 ghost use Rattle.xt_questions.specs.View.{answer_of, question_of};
 ghost use Rattle.xt_engine.specs.View.{event_of};
 ghost use Rattle.xt_record.specs.View.{AsksHold};
-ghost use Rattle.xt_record.specs.Sure.{AsksSpared, is_marked};
+ghost use Rattle.xt_record.specs.Asked.{Asks};
+ghost use Rattle.xt_record.specs.Sure.{AsksSpared};
+ghost use Rattle.xt_touch.specs.View.{since_of};
 
 use crate::Steps;
 use std::alloc::Global;
 use xt_engine::Event;
 use xt_questions::{Answer, Question, World};
 use xt_text::Memory;
-use xt_touch::Marks;
+use xt_touch::Since;
 
 /// Where it says so, each question has its answer: those that are marked are asked up to the first that has another, and
 /// counted. The others have theirs.
 pub(crate) fn asks_hold<W: World>(
     alloc: Global,
     events: &[Event],
-    marks: Option<&Marks>,
+    since: &Since,
     world: &mut W,
     steps: &mut Steps,
 ) -> Result<bool, Memory>
-    requires spared { AsksSpared (W.state world.now).truth (option_copied marks) (map event_of events.now) }
+    requires spared { AsksSpared (W.state world.now).truth (since_of since.now) (map event_of events.now) }
     ensures holds { IfOk result (λ b. b ≡ true → AsksHold (W.state world.old).truth (map event_of events.now)) }
+    ensures steps { Asks (since_of since.now) (map event_of events.now) steps.old steps.new }
     ensures truth { (W.state world.new).truth ≡ (W.state world.old).truth }
     ensures name { W.name world.new ≡ W.name world.old }
 {
     for event in events {
-        if !asks_so(alloc, event, marks, world, steps)? {
+        if !asks_so(alloc, event, since, world, steps)? {
             return Ok(false);
         }
     }
@@ -39,18 +41,19 @@ pub(crate) fn asks_hold<W: World>(
 fn asks_so<W: World>(
     alloc: Global,
     event: &Event,
-    marks: Option<&Marks>,
+    since: &Since,
     world: &mut W,
     steps: &mut Steps,
 ) -> Result<bool, Memory>
-    requires spared { AsksSpared (W.state world.now).truth (option_copied marks) (event_of event.now ∷ []) }
+    requires spared { AsksSpared (W.state world.now).truth (since_of since.now) (event_of event.now ∷ []) }
     ensures holds { IfOk result (λ b. b ≡ true → AsksHold (W.state world.old).truth (event_of event.now ∷ [])) }
+    ensures steps { Asks (since_of since.now) (event_of event.now ∷ []) steps.old steps.new }
     ensures truth { (W.state world.new).truth ≡ (W.state world.old).truth }
     ensures name { W.name world.new ≡ W.name world.old }
 {
     match event {
         Event::Asked(question, answer) => {
-            if !is_marked(marks, question) {
+            if !since.marks(question) {
                 return Ok(true);
             }
             steps.asked = steps.asked.saturating_add(1);
@@ -59,16 +62,6 @@ fn asks_so<W: World>(
         Event::Saw(_, _, _, _) => Ok(true),
         Event::Entered(_, _) => Ok(true),
         Event::Held(_, _) => Ok(true),
-    }
-}
-
-// Whether the question may have another answer than it had.
-fn is_marked(marks: Option<&Marks>, question: &Question) -> bool
-    ensures { result ≡ is_marked (option_copied marks.entry) (question_of question.now) }
-{
-    match marks {
-        None => true,
-        Some(marks) => marks.is_marked(question),
     }
 }
 

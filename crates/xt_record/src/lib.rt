@@ -5,7 +5,7 @@
 //! call, and asks each question of the last run at most once, and none that a change since then does not mark.
 //!
 //! ```text
-//! let mut reuse = Reuse::new(alloc, &last, marks)?;
+//! let mut reuse = Reuse::new(alloc, &last, &since)?;
 //! let found = reuse.find(alloc, &mut world, &call, below, 0)?;     // a record whose questions have their answers
 //! reuse.keep(alloc, record)?;                                      // for calls after this one, and for the next run
 //! let (kept, steps) = reuse.ended();

@@ -1,12 +1,13 @@
 // What a run may reuse.
-ghost use Rattle.std.specs.Prelude.{◌≡◌, ◌<◌, true, length, get_or, IfOk, IfSome, OnOk};
-ghost use Rattle.std.specs.Option.{option_copied};
+ghost use Rattle.std.specs.Prelude.{◌≡◌, ◌<◌, ◌≤◌, ◌+◌, ◌++◌, ◌∷◌, [], true, length, get_or, min, IfOk, IfSome, OnOk};
 ghost use Rattle.spec_meaning.specs.Question.{Question, Answer};
 ghost use Rattle.spec_node.specs.declared.node_ref.NodeRef.{NodeRef};
 ghost use Rattle.xt_engine.specs.View.{call_of};
 ghost use Rattle.xt_record.specs.View.{AsksHold, MayServe, kept_in};
-ghost use Rattle.xt_record.specs.Sure.{AreAnswered, IsSure, Spares};
+ghost use Rattle.xt_record.specs.Asked.{Judges, marked_of};
+ghost use Rattle.xt_record.specs.Sure.{AreAnswered, IsSure, Spares, verdict_of};
 ghost use Rattle.xt_record.specs.declared.reuse.Verdict.TheVariants as Verdict;
+ghost use Rattle.xt_touch.specs.View.{since_of};
 
 use crate::asking::asks_hold;
 use crate::{Pool, Record};
@@ -15,7 +16,7 @@ use std::rc::Rc;
 use xt_engine::Call;
 use xt_questions::World;
 use xt_text::Memory;
-use xt_touch::Marks;
+use xt_touch::Since;
 
 /// What a run cost, as far as it is counted.
 #[derive(Clone, Copy, Debug, PartialEq, Eq)]
@@ -55,8 +56,8 @@ pub struct Found {
 #[derive(Drop)]
 pub struct Reuse<'a> {
     last: &'a Pool,
-    // The questions of the last run that may have other answers now. Where there are none, each may.
-    marks: Option<&'a Marks>,
+    // What changed since: it marks the questions that may have other answers now.
+    since: &'a Since,
     // One for each record of the last run.
     verdicts: Vec<Verdict>,
     kept: Pool,
@@ -66,12 +67,17 @@ pub struct Reuse<'a> {
 impl<'a> Reuse<'a> {
     /// Nothing is kept yet and nothing counted, and no question of the last run was asked. Those that are not marked have
     /// the answers that they had.
-    pub fn new(alloc: Global, last: &'a Pool, marks: Option<&'a Marks>) -> Result<Reuse<'a>, Memory>
-        ensures { IfOk result (λ reuse. (ask : Question NodeRef → Answer NodeRef) → Spares ask last.now (option_copied marks.entry) → IsSure ask reuse) }
+    pub fn new(alloc: Global, last: &'a Pool, since: &'a Since) -> Result<Reuse<'a>, Memory>
+        ensures sure { IfOk result (λ reuse. (ask : Question NodeRef → Answer NodeRef) → Spares ask last.now (since_of since.now) → IsSure ask reuse) }
+        ensures last { IfOk result (λ reuse. reuse.last.now ≡ last.now) }
+        ensures since { IfOk result (λ reuse. reuse.since.now ≡ since.now) }
+        ensures kept { IfOk result (λ reuse. reuse.kept.records.items ≡ []) }
+        ensures ran { IfOk result (λ reuse. reuse.steps.ran ≡ 0) }
+        ensures asked { IfOk result (λ reuse. reuse.steps.asked ≡ 0) }
     {
         Ok(Reuse {
             last,
-            marks,
+            since,
             verdicts: vec![in alloc; Verdict::Unasked; last.count()]?,
             kept: Pool::new(alloc),
             steps: Steps { ran: 0, asked: 0 },
@@ -94,6 +100,7 @@ impl<'a> Reuse<'a> {
         ensures sure { OnOk result (IsSure (W.state world.old).truth self.new) }
         ensures serves { IfOk result (λ o. IfSome o (λ f. MayServe (W.state world.old).truth (call_of call.now) below (kept_in f.record.value))) }
         ensures next { IfOk result (λ o. IfSome o (λ f. from < f.next)) }
+        ensures judges { Judges self.old self.new }
         ensures truth { (W.state world.new).truth ≡ (W.state world.old).truth }
         ensures name { W.name world.new ≡ W.name world.old }
     {
@@ -162,6 +169,7 @@ impl<'a> Reuse<'a> {
         ensures sure { OnOk result (IsSure (W.state world.old).truth self.new) }
         ensures serves { IfOk result (λ o. IfSome o (λ f. MayServe (W.state world.old).truth (call_of call.now) below (kept_in f.record.value))) }
         ensures next { IfOk result (λ o. IfSome o (λ f. from < f.next)) }
+        ensures judges { Judges self.old self.new }
         ensures truth { (W.state world.new).truth ≡ (W.state world.old).truth }
         ensures name { W.name world.new ≡ W.name world.old }
     {
@@ -190,7 +198,7 @@ impl<'a> Reuse<'a> {
         requires sure { IsSure (W.state world.now).truth self.now }
         ensures sure { OnOk result (IsSure (W.state world.old).truth self.new) }
         ensures serves { IfOk result (λ o. IfSome o (λ r. MayServe (W.state world.old).truth (call_of call.now) below (kept_in r.value))) }
-        ensures last { self.new.last ≡ self.old.last }
+        ensures judges { Judges self.old self.new }
         ensures truth { (W.state world.new).truth ≡ (W.state world.old).truth }
         ensures name { W.name world.new ≡ W.name world.old }
     {
@@ -217,7 +225,7 @@ impl<'a> Reuse<'a> {
         requires at { kept.now.value ≡ (get_or self.now.last.now.records.items turn kept.now).value }
         ensures sure { OnOk result (IsSure (W.state world.old).truth self.new) }
         ensures holds { IfOk result (λ b. b ≡ true → AsksHold (W.state world.old).truth (kept_in kept.now.value).trace) }
-        ensures last { self.new.last ≡ self.old.last }
+        ensures judges { Judges self.old self.new }
         ensures truth { (W.state world.new).truth ≡ (W.state world.old).truth }
         ensures name { W.name world.new ≡ W.name world.old }
     {
@@ -228,55 +236,48 @@ impl<'a> Reuse<'a> {
         match verdict {
             Verdict::Holds => Ok(true),
             Verdict::Fails => Ok(false),
-            Verdict::Unasked => self.judge(alloc, world, turn, kept),
+            Verdict::Unasked => {
+                let events = kept.ran.events.as_slice();
+                let holds = asks_hold(alloc, events, self.since, world, &mut self.steps)?;
+                self.verdicts[turn] = verdict_of(holds);
+                Ok(holds)
+            }
         }
-    }
-
-    // Asks the questions of this record of the last run, and keeps what comes of it.
-    fn judge<W: World>(
-        &mut self,
-        alloc: Global,
-        world: &mut W,
-        turn: usize,
-        kept: &Rc<Record>,
-    ) -> Result<bool, Memory>
-        requires sure { IsSure (W.state world.now).truth self.now }
-        requires within { turn < length self.now.last.now.records.items }
-        requires at { kept.now.value ≡ (get_or self.now.last.now.records.items turn kept.now).value }
-        requires judged { turn < length self.now.verdicts.items }
-        ensures sure { OnOk result (IsSure (W.state world.old).truth self.new) }
-        ensures holds { IfOk result (λ b. b ≡ true → AsksHold (W.state world.old).truth (kept_in kept.now.value).trace) }
-        ensures last { self.new.last ≡ self.old.last }
-        ensures truth { (W.state world.new).truth ≡ (W.state world.old).truth }
-        ensures name { W.name world.new ≡ W.name world.old }
-    {
-        let events = kept.ran.events.as_slice();
-        let holds = asks_hold(alloc, events, self.marks, world, &mut self.steps)?;
-        self.verdicts[turn] = verdict_of(holds);
-        Ok(holds)
     }
 
     /// Keeps a record whose questions have their answers, for calls after this one and for the next run.
     pub fn keep(&mut self, alloc: Global, kept: Rc<Record>) -> Result<(), Memory>
-        ensures { OnOk result ((ask : Question NodeRef → Answer NodeRef) → IsSure ask self.old → AsksHold ask (kept_in kept.value).trace → IsSure ask self.new) }
+        ensures sure { OnOk result ((ask : Question NodeRef → Answer NodeRef) → IsSure ask self.old → AsksHold ask (kept_in kept.value).trace → IsSure ask self.new) }
+        ensures kept { OnOk result (self.new.kept.records.items ≡ self.old.kept.records.items ++ kept ∷ []) }
+        ensures last { self.new.last ≡ self.old.last }
+        ensures since { self.new.since ≡ self.old.since }
+        ensures steps { self.new.steps ≡ self.old.steps }
     {
         self.kept.add(alloc, kept)
     }
 
     /// Counts an instantiation that is run.
     pub fn count_run(&mut self)
-        ensures { (ask : Question NodeRef → Answer NodeRef) → IsSure ask self.old → IsSure ask self.new }
+        ensures sure { (ask : Question NodeRef → Answer NodeRef) → IsSure ask self.old → IsSure ask self.new }
+        ensures last { self.new.last ≡ self.old.last }
+        ensures since { self.new.since ≡ self.old.since }
+        ensures kept { self.new.kept ≡ self.old.kept }
+        ensures ran { self.new.steps.ran ≡ min (self.old.steps.ran + 1) u64.MAX }
+        ensures asked { self.new.steps.asked ≡ self.old.steps.asked }
     {
         self.steps.ran = self.steps.ran.saturating_add(1);
     }
 
     /// What the run kept, whose questions have their answers, and what it cost.
     pub fn ended(self) -> (Pool, Steps)
-        ensures { (ask : Question NodeRef → Answer NodeRef) → IsSure ask self.entry → AreAnswered ask result.0 }
+        ensures kept { result.0 ≡ self.entry.kept }
+        ensures steps { result.1 ≡ self.entry.steps }
+        ensures answered { (ask : Question NodeRef → Answer NodeRef) → IsSure ask self.entry → AreAnswered ask result.0 }
+        ensures asked { (ask : Question NodeRef → Answer NodeRef) → IsSure ask self.entry → result.1.asked ≤ marked_of (since_of self.entry.since.now) self.entry.last.now }
     {
         let Reuse {
             last,
-            marks,
+            since,
             verdicts,
             kept,
             steps,
@@ -287,7 +288,7 @@ impl<'a> Reuse<'a> {
 }
 
 fn verdict_of(holds: bool) -> Verdict
-    ensures { result ≡ Verdict.Holds → holds ≡ true }
+    ensures { result ≡ verdict_of holds }
 {
     if holds {
         Verdict::Holds

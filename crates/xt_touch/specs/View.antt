@@ -1,24 +1,49 @@
 -- What the types of this crate stand for.
+use Rattle.std.specs.Prelude.{ℕ, List, [], ◌∷◌, ◌++◌, length, map, nat_lt, if◌then◌else◌}
+use Rattle.spec_move.specs.Changed.{MoveChange, in_order, between}
 use Rattle.spec_touch.specs.Marks as spec
+use Rattle.xt_edit.specs.MoveTelling.{move_change_in}
 use Rattle.xt_edit.specs.Telling.{change_in}
 use Rattle.xt_touch.specs.declared.marks.Cause.{Cause}
 use Rattle.xt_touch.specs.declared.marks.Cause.TheVariants as cause
 use Rattle.xt_touch.specs.declared.marks.Marks.{Marks}
+use Rattle.xt_touch.specs.declared.moved.MoveMarks.{MoveMarks}
+use Rattle.xt_touch.specs.declared.moved.MoveMarks.TheVariants as moves
+use Rattle.xt_touch.specs.declared.since.Since.{Since}
 use Rattle.xt_touch.specs.declared.world_change.WorldChange.{WorldChange}
 use Rattle.xt_touch.specs.declared.world_change.WorldChange.TheVariants as code
 
 abbrev pub world_change_of : WorldChange → spec.WorldChange
-world_change_of (code.SourceEdited change) = spec.SourceEdited (change_in change)
-world_change_of code.SourceGiven = spec.SourceGiven
-world_change_of (code.ModulesChanged is_seen_as_before) = spec.ModulesChanged is_seen_as_before
+world_change_of (code.SourceEdited change asking) = spec.SourceEdited (change_in change) asking
+world_change_of (code.SourceMoved change asking) = spec.SourceMoved (move_change_in change) asking
+world_change_of code.ModulesChanged = spec.ModulesChanged
 world_change_of (code.ParameterGiven name) = spec.ParameterGiven name
+world_change_of code.Anything = spec.Anything
+
+abbrev pub moved_by : MoveMarks → MoveChange
+moved_by (moves.InOrder change) = in_order change
+moved_by (moves.Between left entered) = between left entered
 
 abbrev pub caused_by : Cause → spec.WorldChange
-caused_by (cause.Edit change) = spec.SourceEdited change
-caused_by cause.Source = spec.SourceGiven
-caused_by (cause.Modules is_seen_as_before) = spec.ModulesChanged is_seen_as_before
+caused_by (cause.Edit change asking) = spec.SourceEdited change asking
+caused_by (cause.Move marks asking) = spec.SourceMoved (moved_by marks) asking
+caused_by cause.Modules = spec.ModulesChanged
 caused_by (cause.Parameter name) = spec.ParameterGiven name
+caused_by cause.Anything = spec.Anything
 
 -- the change whose marks these are
 abbrev pub marked_by : Marks → spec.WorldChange
 marked_by marks = caused_by marks.cause
+
+-- ---- Changes one after the other
+
+abbrev pub since_of : Since → List spec.WorldChange
+since_of since = map (λ marks. marked_by marks.value) since.changes.items
+
+-- as many are remembered
+abbrev pub most_remembered : ℕ
+most_remembered = 256
+
+-- one more; where there are too many, anything may be another
+abbrev pub remembered : List spec.WorldChange → spec.WorldChange → List spec.WorldChange
+remembered changes change = if nat_lt (length changes) most_remembered then changes ++ change ∷ [] else spec.Anything ∷ []

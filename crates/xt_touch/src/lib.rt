@@ -3,17 +3,23 @@
 //!
 //! ```text
 //! let change = seen_change(alloc, &change, &old, &new)?;      // of the source as it is seen
-//! let marks = Marks::new(alloc, WorldChange::SourceEdited(change))?;
-//! marks.is_marked(&question)                                  // a few look-ups, however much the change holds
+//! let asking = Modes::asking(alloc, &rules)?;
+//! let since = since.and(alloc, WorldChange::SourceEdited { change, asking })?;
+//! since.marks(&question)                                      // a few look-ups a change, however much it holds
 //! ```
 #![tactic(auto)]
 
 mod marks;
+mod modes;
+mod moved;
 mod numbers;
 mod sight;
+mod since;
 mod source;
 mod world_change;
 
 pub use marks::Marks;
+pub use modes::Modes;
 pub use sight::seen_change;
+pub use since::Since;
 pub use world_change::WorldChange;

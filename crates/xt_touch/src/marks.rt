@@ -4,8 +4,9 @@ ghost use Rattle.spec_touch.specs.Marks as spec;
 ghost use Rattle.xt_questions.specs.View.{question_of};
 ghost use Rattle.xt_touch.specs.View.{marked_by, world_change_of};
 
-use crate::WorldChange;
+use crate::moved::MoveMarks;
 use crate::source::SourceMarks;
+use crate::{Modes, WorldChange};
 use std::alloc::Global;
 use xt_questions::Question;
 use xt_text::{Memory, Text};
@@ -20,13 +21,15 @@ pub struct Marks {
 #[derive(Drop)]
 enum Cause {
     // The source, by an edit.
-    Edit(SourceMarks),
-    // The source, for another one.
-    Source,
+    Edit { source: SourceMarks, asking: Modes },
+    // The source, by a move.
+    Move { moved: MoveMarks, asking: Modes },
     // Modules.
-    Modules { is_seen_as_before: bool },
+    Modules,
     // The parameter of this name.
     Parameter(Text),
+    // Perhaps anything.
+    Anything,
 }
 
 impl Marks {
@@ -35,12 +38,17 @@ impl Marks {
         ensures { IfOk result (λ marks. marked_by marks ≡ world_change_of change) }
     {
         let cause = match change {
-            WorldChange::SourceEdited(change) => Cause::Edit(SourceMarks::new(alloc, change)?),
-            WorldChange::SourceGiven => Cause::Source,
-            WorldChange::ModulesChanged { is_seen_as_before } => Cause::Modules {
-                is_seen_as_before,
+            WorldChange::SourceEdited { change, asking } => Cause::Edit {
+                source: SourceMarks::new(alloc, change)?,
+                asking,
             },
+            WorldChange::SourceMoved { change, asking } => Cause::Move {
+                moved: MoveMarks::new(alloc, change)?,
+                asking,
+            },
+            WorldChange::ModulesChanged => Cause::Modules,
             WorldChange::ParameterGiven(name) => Cause::Parameter(name),
+            WorldChange::Anything => Cause::Anything,
         };
         Ok(Marks { cause })
     }
@@ -50,21 +58,16 @@ impl Marks {
         ensures { result ≡ spec.marks (marked_by self.now) (question_of question.now) }
     {
         match &self.cause {
-            Cause::Edit(source) => source.touches(question),
-            Cause::Source => true,
-            Cause::Modules { is_seen_as_before } => marked_by_modules(*is_seen_as_before, question),
+            Cause::Edit { source, asking } => {
+                source.touches(question) && !source.spares(asking, question)
+            }
+            Cause::Move { moved, asking } => {
+                moved.touches(question) && !moved.spares(asking, question)
+            }
+            Cause::Modules => by_modules(question),
             Cause::Parameter(name) => by_parameter(name, question),
+            Cause::Anything => true,
         }
-    }
-}
-
-fn marked_by_modules(is_seen_as_before: bool, question: &Question) -> bool
-    ensures { result ≡ spec.marks (spec.ModulesChanged is_seen_as_before) (question_of question.now) }
-{
-    if is_seen_as_before {
-        by_modules(question)
-    } else {
-        true
     }
 }
 

@@ -1,11 +1,13 @@
 // Which questions an edit of the source marks.
 ghost use Rattle.std.specs.Prelude.{◌≡◌, ◌++◌, IfOk};
 ghost use Rattle.std.specs.List.{list_any};
+ghost use Rattle.spec_touch.specs.Plain as plain;
 ghost use Rattle.spec_touch.specs.Touched as spec;
 ghost use Rattle.xt_edit.specs.Telling.{change_in, numbers_in};
 ghost use Rattle.xt_questions.specs.View.{question_of};
 ghost use Rattle.xt_touch.specs.Sets.{AreSame, is_changed_attribute};
 
+use crate::Modes;
 use crate::numbers::Numbers;
 use spec_document::Axis;
 use std::alloc::Global;
@@ -63,6 +65,24 @@ impl SourceMarks {
             self.touches_by_attributes(question)
         } else {
             self.touches_by_children(question)
+        }
+    }
+
+    /// Whether it spares this question, a choice of a rule in none of these modes. Takes no memory.
+    pub(crate) fn spares(&self, asking: &Modes, question: &Question) -> bool
+        ensures { result ≡ plain.spared asking.now self.now (question_of question.now) }
+    {
+        match question {
+            Question::Step(_, _, _) => false,
+            Question::Text(_) => false,
+            Question::Name(_) => false,
+            Question::Place(_) => false,
+            Question::Order(_) => false,
+            Question::Key(_, _) => false,
+            Question::Choice(node, mode, _) => !self.goes_or_comes(*node) && !asking.has(mode),
+            Question::Copy(_) => false,
+            Question::Unit(_) => false,
+            Question::External(_) => false,
         }
     }
 

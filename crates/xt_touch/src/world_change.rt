@@ -1,17 +1,27 @@
 // Changes of a world.
-use xt_edit::Change;
+use crate::Modes;
+use xt_edit::{Change, MoveChange};
 use xt_text::Text;
 
 /// What changed of a world, which is a stylesheet, parameters and a source as it is seen.
 #[derive(Drop)]
 pub enum WorldChange {
     /// The source is edited.
-    SourceEdited(Change),
-    /// Another source is given.
-    SourceGiven,
-    /// Modules come, go or are edited. By the rules for white space the source is seen as before, or it may be
-    /// seen otherwise.
-    ModulesChanged { is_seen_as_before: bool },
+    SourceEdited {
+        change: Change,
+        /// The modes that have a rule whose pattern has a predicate or key(): each choice in such a mode is marked.
+        asking: Modes,
+    },
+    /// A node of the source is moved.
+    SourceMoved {
+        change: MoveChange,
+        /// As for an edit.
+        asking: Modes,
+    },
+    /// Modules come, go or are edited, and by the rules for white space the source is seen as before.
+    ModulesChanged,
     /// The parameter of this name is given, with another value than before or for the first time.
     ParameterGiven(Text),
+    /// Anything may be another, as where another source is given, or where the source is seen otherwise.
+    Anything,
 }

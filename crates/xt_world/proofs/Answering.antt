@@ -143,6 +143,7 @@ answers_as sheet parts aliases us one other made =
           (record { rules = sheet.rules; units = parts.units; elements = parts.elements; turns = parts.turns; globals = parts.globals })
           (record { elements = h.elements; units = h.units; turns = h.turns; rules = refl });
       globals = h.globals;
+      rules = refl;
     }
 
 -- what the source answers, among the questions of the program

@@ -969,7 +969,7 @@ run_call-loop-standing-init g t c =
     record {
       stands = subst Q (sym (ap streams_of c.in_ok-standing.ensures.parts)) (subst P (sym (ap gift_of c.in_ok-standing.ensures.given)) (stands_begun l p refl c.in_ok-standing.ensures.started));
       onward = onward_begun l all begun.spare p (gift_of begun.given) refl c.requires.remembers c.in_ok-standing.ensures.started (ap gift_of c.in_ok-standing.ensures.given);
-      sure = c.count_run.ensures truth c.requires.sure;
+      sure = c.count_run.ensures.sure truth c.requires.sure;
       truth = refl;
       name = refl;
     }

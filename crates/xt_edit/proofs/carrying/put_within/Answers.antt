@@ -1,8 +1,7 @@
-use Rattle.std.proofs.Common.{ℕ, ◌≡◌, ◌≢◌, ◌+◌, ◌-◌, sym, ap, subst, ◌∙◌, arith}
+use Rattle.std.proofs.Common.{ℕ, ◌≡◌, ◌+◌, ◌-◌, sym, ap, subst, ◌∙◌, arith}
 use Rattle.std.specs.Prelude.{IfOk}
 use Rattle.spec_document.specs.Forest.{Document}
 use Rattle.xt_edit.specs.Changed.{with_children}
-use Rattle.xt_edit.specs.Moving.{moved_within}
 use Rattle.xt_edit.specs.Seam.{put_in}
 use Rattle.xt_edit.specs.Site.{spot_in}
 use Rattle.xt_edit.specs.Standing.{Stands}

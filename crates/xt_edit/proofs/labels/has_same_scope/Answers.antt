@@ -1,5 +1,3 @@
-use Rattle.std.proofs.Common.{◌≡◌, ap, ◌∙◌}
-use Rattle.std.specs.Prelude.{Decides}
 use Rattle.spec_document.specs.Place.{scope_at}
 use Rattle.xt_edit.proofs.Preserved.{same_scope-is}
 use Rattle.xt_edit.proofs.labels.has_same_scope.Goals as goal

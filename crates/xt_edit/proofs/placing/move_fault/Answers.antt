@@ -1,4 +1,4 @@
-use Rattle.std.proofs.Common.{◌≡◌, ◌+◌, ◌++◌, [], map, sym, ap, ◌∙◌, length, arith, if◌then◌else◌}
+use Rattle.std.proofs.Common.{◌≡◌, ◌+◌, [], map, sym, ap, ◌∙◌, length, if◌then◌else◌}
 use Rattle.spec_document.specs.Document.{elements_beside}
 use Rattle.spec_document.specs.Fault.{fault_if, least}
 use Rattle.spec_document.specs.Forest.{height, labels}
@@ -10,9 +10,9 @@ use Rattle.std.specs.Prelude.{nat_lt}
 use Rattle.spec_edit.specs.Edit.{depth_of, without_lines}
 use Rattle.spec_move.specs.Move.{height_faults}
 use Rattle.xt_build.specs.Least.{merged}
-use Rattle.xt_tree.specs.View.{content_of, tree_of}
+use Rattle.xt_tree.specs.View.{tree_of}
 use Rattle.xt_edit.specs.Moving.{new_parent, tree_in}
-use Rattle.xt_edit.specs.Placing.{branch_faults_in, leaf}
+use Rattle.xt_edit.specs.Placing.{leaf}
 use Rattle.xt_edit.specs.Site.{spot_in}
 use Rattle.xt_edit.proofs.Judged.{all_least, top_leaf}
 use Rattle.xt_edit.proofs.Moves.{parent-depth}

@@ -5,6 +5,7 @@ use Rattle.spec_document.specs.Forest.{Document, Plain}
 use Rattle.spec_run.specs.Documents.{main_name}
 use Rattle.spec_run.specs.Outcome.{Comes}
 use Rattle.xt_import.specs.View.{plain_of}
+use Rattle.xt_touch.specs.View.{since_of}
 use Rattle.xt_world.specs.ParameterView.{parameters_of}
 use Rattle.xt_held.specs.OutcomeView.{outcome_of, plain_in}
 use Rattle.xt_held.specs.RunView.{KeptHolds, KeptSpared}
@@ -27,8 +28,8 @@ returns-in-Some-source-clause-outcome c modules are =
 pub transformed-requires : goal.transformed-requires
 transformed-requires c =
     let given = parameters_of c.args.parameters.now in
-    subst (λ (s : Option (Bor (Document ℕ))). KeptSpared (Some c.in-Some.compiled.now) given (option_copied s) c.args.last.now (option_copied c.args.marks)) c.in-Some-source.is
-    (subst (λ (o : Option (Bor Compiled)). KeptSpared (option_copied o) given (option_copied c.args.source) c.args.last.now (option_copied c.args.marks)) c.in-Some.is c.requires)
+    subst (λ (s : Option (Bor (Document ℕ))). KeptSpared (Some c.in-Some.compiled.now) given (option_copied s) c.args.last.now (since_of c.args.since)) c.in-Some-source.is
+    (subst (λ (o : Option (Bor Compiled)). KeptSpared (option_copied o) given (option_copied c.args.source) c.args.last.now (since_of c.args.since)) c.in-Some.is c.requires)
 
 pub returns-in-Some-source-clause-last : goal.returns-in-Some-source-clause-last
 returns-in-Some-source-clause-last c =

@@ -1,8 +1,8 @@
 use Rattle.std.proofs.Common.{Some, subst, sym}
 use Rattle.std.specs.Prelude.{IfOk, IfSome}
-use Rattle.std.specs.Option.{option_copied}
 use Rattle.xt_driver.specs.View.{whole_of}
 use Rattle.xt_import.specs.View.{plain_of}
+use Rattle.xt_touch.specs.View.{since_of}
 use Rattle.xt_world.specs.ParameterView.{parameters_of}
 use Rattle.xt_record.specs.declared.pool.Pool.{Pool}
 use Rattle.xt_held.specs.RunView.{KeptHolds, KeptSpared}
@@ -19,7 +19,7 @@ returns-in-Ok-clause-outcome c modules main h =
 
 pub whole_of_seen-requires : goal.whole_of_seen-requires
 whole_of_seen-requires c =
-    subst (λ (compiled : Compiled). KeptSpared (Some compiled) (parameters_of c.args.parameters.now) (Some c.args.source.now) c.args.last.now (option_copied c.args.marks))
+    subst (λ (compiled : Compiled). KeptSpared (Some compiled) (parameters_of c.args.parameters.now) (Some c.args.source.now) c.args.last.now (since_of c.args.since))
     c.in-Stylesheet.is c.requires
 
 pub returns-in-Ok-clause-last : goal.returns-in-Ok-clause-last

@@ -12,7 +12,7 @@ use Rattle.xt_held.proofs.outcome.whole.Goals as goal
 pub run-whole-requires : goal.run-whole-requires
 run-whole-requires c =
     subst (λ (ask : Ask). IsSure ask c.in_ok-reuse.reuse) (sym c.new-world.ensures)
-    (c.in_ok-reuse.ensures (truth_in c.args.stylesheet.now (parameters_of c.args.parameters.now) c.args.source.now) c.requires)
+    (c.in_ok-reuse.ensures.sure (truth_in c.args.stylesheet.now (parameters_of c.args.parameters.now) c.args.source.now) c.requires)
 
 pub returns-clause-run : goal.returns-clause-run
 returns-clause-run c = λ sheet answers.

@@ -1,12 +1,12 @@
 use Rattle.std.proofs.Common.{ℕ, List, map, ap, subst, sym, ◌∙◌}
 use Rattle.std.specs.Prelude.{IfOk}
-use Rattle.std.specs.Option.{option_copied}
 use Rattle.spec_document.specs.Forest.{Document}
 use Rattle.spec_seen.specs.Seen.{seen}
 use Rattle.spec_stylesheet.specs.Sheet as plain
 use Rattle.xt_syntax.specs.SheetView.{space_rule_of}
 use Rattle.xt_syntax.specs.declared.space_rules.SpaceRule.{SpaceRule}
 use Rattle.xt_record.specs.Sure.{AreAnswered, Spares}
+use Rattle.xt_touch.specs.View.{since_of}
 use Rattle.xt_world.specs.ParameterView.{parameters_of}
 use Rattle.xt_world.specs.View.{truth_in}
 use Rattle.xt_held.proofs.Coming.{seen_so}
@@ -14,7 +14,7 @@ use Rattle.xt_held.proofs.outcome.whole_of_seen.Goals as goal
 
 pub whole-requires : goal.whole-requires
 whole-requires c =
-    subst (λ (source : Document ℕ). Spares (truth_in c.args.stylesheet.now (parameters_of c.args.parameters.now) source) c.args.last.now (option_copied c.args.marks))
+    subst (λ (source : Document ℕ). Spares (truth_in c.args.stylesheet.now (parameters_of c.args.parameters.now) source) c.args.last.now (since_of c.args.since.now))
     (sym (c.in_ok-seen.ensures ∙ ap (λ (rs : List SpaceRule). seen (map space_rule_of rs) c.args.source.now) c.as_slice.ensures.value)) c.requires
 
 pub returns-clause-run : goal.returns-clause-run

@@ -3,6 +3,7 @@ use Rattle.std.specs.Prelude.{IfSome}
 use Rattle.std.specs.Option.{option_copied}
 use Rattle.spec_run.specs.Documents.{Parameters, main_name}
 use Rattle.spec_run.specs.Outcome.{Comes}
+use Rattle.xt_touch.specs.View.{since_of}
 use Rattle.xt_held.specs.OutcomeView.{outcome_of, plain_in}
 use Rattle.xt_held.specs.RunView.{KeptHolds, KeptSpared}
 use Rattle.xt_held.proofs.parameter.outcome_with.Goals as goal
@@ -14,7 +15,7 @@ returns-clause-outcome c = λ modules are.
 
 pub outcome_of-came-requires : goal.outcome_of-came-requires
 outcome_of-came-requires c =
-    subst (λ (parameters : Parameters). KeptSpared (option_copied c.args.compiled) parameters (option_copied c.args.source) c.args.last.now (option_copied c.args.marks))
+    subst (λ (parameters : Parameters). KeptSpared (option_copied c.args.compiled) parameters (option_copied c.args.source) c.args.last.now (since_of c.args.since))
     (sym c.in_ok-before.ensures.given) c.requires
 
 pub returns-clause-last : goal.returns-clause-last

@@ -1,8 +1,9 @@
 use Rattle.std.proofs.Common.{Option, refl, subst, sym}
-use Rattle.std.specs.Prelude.{IfSome}
 use Rattle.xt_import.specs.View.{modules_in}
 use Rattle.xt_world.specs.ParameterView.{parameters_of}
-use Rattle.xt_held.specs.RunView.{AnswersAsSome, KeptHolds}
+use Rattle.xt_held.specs.OutcomeView.{outcome_of}
+use Rattle.xt_held.specs.RunView.{AnswersAsSome, LastHolds}
+use Rattle.xt_held.specs.View.{before_by, left_by}
 use Rattle.xt_held.specs.StylesheetView.{AreCompiled, without_one}
 use Rattle.xt_held.specs.declared.stylesheet.Compiled.{Compiled}
 use Rattle.xt_held.proofs.Dropped.{kept_so, ready_so}
@@ -23,7 +24,7 @@ returns-clause-kept c =
 
 pub outcome_with_modules-requires-clause-known : goal.outcome_with_modules-requires-clause-known
 outcome_with_modules-requires-clause-known c =
-    let known = known_of c.args.self.now c.requires in record { answers = known.answers; last = known.last }
+    let known = known_of c.args.self.now c.requires in record { last = known.last }
 
 pub outcome_with_modules-requires-clause-answers : goal.outcome_with_modules-requires-clause-answers
 outcome_with_modules-requires-clause-answers c =
@@ -39,7 +40,8 @@ returns-clause-ok c =
     let came = c.in-Ok.came in
     let modules = without_one name (modules_in held.modules.entries) in
     let are = subst (λ (o : Option Compiled). AreCompiled modules o) (sym c.as_ref.ensures.value) c.in_ok-compiled.ensures.compiled in
-    let holds = subst (λ (o : Option Compiled). IfSome came.kept (KeptHolds o (parameters_of held.parameters) held.source)) c.as_ref.ensures.value c.in-Ok.ensures.last in
+    let holds = subst (λ (o : Option Compiled). LastHolds (outcome_of came.outcome) o (parameters_of held.parameters) held.source
+    (left_by came (before_by o held.compiled held.last.before) held.last)) c.as_ref.ensures.value c.in-Ok.ensures.last in
     ready_so held _ (record { modules = c.in_ok-compiled.ensures.kept; source = refl; compiled = refl; parameters = refl; made = refl; outcome = refl; steps = refl; last = refl })
     name c.in_ok-dropped.dropped c.in_ok-dropped.ensures compiled came held.next refl c.in_ok-compiled.ensures.compiled (c.in-Ok.ensures.outcome modules are)
     c.in-Ok.ensures.fits holds c.requires

@@ -1,5 +1,4 @@
 use Rattle.std.proofs.Common.{◌≡◌, List, ℕ, Option, refl, ap, sym, subst, string_bytes, ◌∙◌}
-use Rattle.std.specs.Prelude.{IfSome}
 use Rattle.std.specs.Option.{option_copied, option_map}
 use Rattle.std.specs.Str.{chars}
 use Rattle.std.specs.declared.alloc.Global.{Global}
@@ -12,17 +11,17 @@ use Rattle.xt_edit.specs.View.{AreBelow}
 use Rattle.xt_import.specs.View.{modules_in, plain_of}
 use Rattle.xt_world.specs.ParameterView.{parameters_of}
 use Rattle.xt_held.specs.OutcomeView.{outcome_of}
-use Rattle.xt_held.specs.RunView.{AnswersAsSome, KeptHolds}
+use Rattle.xt_held.specs.RunView.{AnswersAsSome, LastHolds}
 use Rattle.xt_held.specs.StylesheetView.{AreCompiled, with_one}
-use Rattle.xt_held.specs.View.{AreAllBelow, made_of}
+use Rattle.xt_held.specs.View.{AreAllBelow, before_by, left_by, made_of}
 use Rattle.xt_held.specs.declared.stylesheet.Compiled.{Compiled}
 use Rattle.xt_held.proofs.Keeping.{all_raised, kept_by}
-use Rattle.xt_held.proofs.Marked.{adopted_last, answers_as_some, known_of}
+use Rattle.xt_held.proofs.Marked.{answers_as_some, known_of}
 use Rattle.xt_held.proofs.held.Held.module_ready.Goals as goal
 
 pub outcome_with_modules-requires-clause-known : goal.outcome_with_modules-requires-clause-known
 outcome_with_modules-requires-clause-known c =
-    let known = known_of c.args.self.now c.requires.current in record { answers = known.answers; last = known.last }
+    let known = known_of c.args.self.now c.requires.current in record { last = known.last }
 
 pub outcome_with_modules-requires-clause-answers : goal.outcome_with_modules-requires-clause-answers
 outcome_with_modules-requires-clause-answers c =
@@ -59,8 +58,8 @@ returns-clause-ok c =
         others = subst (λ (es : List (String Global × Document ℕ)). AreAllBelow c.args.next.number held.source es) (sym entries)
             (all_raised (made_of held) c.args.next.number held c.requires.grows c.requires.current.below);
         below = subst (λ (d : Document ℕ). AreBelow c.args.next.number d) (sym same) c.requires.below;
-        last = adopted_last came.came held.last (KeptHolds compiled (parameters_of held.parameters) held.source) came.ensures.fits
-            (subst (λ (o : Option Compiled). IfSome came.came.kept (KeptHolds o (parameters_of held.parameters) held.source)) c.as_ref.ensures.value came.ensures.last);
+        last = subst (λ (o : Option Compiled). LastHolds (outcome_of came.came.outcome) o (parameters_of held.parameters) held.source
+            (left_by came.came (before_by o held.compiled held.last.before) held.last)) c.as_ref.ensures.value came.ensures.last;
       };
     }
 

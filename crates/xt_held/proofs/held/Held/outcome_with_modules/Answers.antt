@@ -5,30 +5,51 @@ use Rattle.spec_document.specs.Forest.{Document, Plain}
 use Rattle.spec_run.specs.Documents.{main_name}
 use Rattle.spec_run.specs.Outcome.{Comes}
 use Rattle.xt_import.specs.View.{plain_of}
-use Rattle.xt_touch.specs.declared.marks.Marks.{Marks}
+use Rattle.xt_touch.specs.View.{since_of}
 use Rattle.xt_world.specs.ParameterView.{parameters_of}
 use Rattle.xt_held.specs.OutcomeView.{outcome_of}
-use Rattle.xt_held.specs.RunView.{KeptHolds, KeptSpared}
+use Rattle.xt_held.specs.RunView.{AnswersAsSome, KeptHolds, KeptSpared, StaysSpared, last_known}
+use Rattle.xt_held.specs.View.{before_by}
+use Rattle.xt_held.specs.declared.stylesheet.Compiled.{Compiled}
 use Rattle.xt_held.proofs.Keys.{map-copied}
+use Rattle.xt_held.proofs.Left.{known_answers, known_before, left_so, run_spared}
 use Rattle.xt_held.proofs.held.Held.outcome_with_modules.Goals as goal
 
-pub outcome_of-came-requires : goal.outcome_of-came-requires
-outcome_of-came-requires c =
+pub outcome_of-requires : goal.outcome_of-requires
+outcome_of-requires c =
     let held = c.args.self.now in
     let given = parameters_of held.parameters in
     let compiled = option_copied c.args.compiled in
-    subst (λ (s : Option (Document ℕ)). KeptSpared compiled given s held.last (option_copied c.as_ref-marked.result)) (sym c.as_ref-source.ensures.value)
-    (subst (λ (m : Option Marks). KeptSpared compiled given held.source held.last m) (sym c.as_ref-marked.ensures.value) c.in_ok-marks.ensures)
+    let before = last_known held.compiled held.last.before in
+    let known = c.requires.known.last in
+    let changes = since_of c.in_ok-since.since in
+    let stays = subst (λ (what : Option Compiled). StaysSpared what (last_known compiled what) given given held.source held.source
+    (since_of held.last.since) changes) c.last_known-known.ensures (c.in_ok-since.ensures given held.source) in
+    subst (λ (s : Option (Document ℕ)). KeptSpared compiled given s held.last.kept changes) (sym c.as_ref-source.ensures.value)
+    (run_spared compiled before given held.source held.last.kept changes
+    (stays held.last.kept known.answers (known_answers compiled before c.requires.answers known.answers) known.spared))
 
 pub returns-clause-outcome : goal.returns-clause-outcome
 returns-clause-outcome c = λ modules are.
     let given = parameters_of c.args.self.now.parameters in
-    subst (λ (s : Option Plain). IfOk c.outcome_of-came.result (λ came. Comes modules given (modules main_name) s (outcome_of came.outcome)))
-    (map-copied plain_of c.as_ref-source.result ∙ ap (option_map plain_of) c.as_ref-source.ensures.value) (c.outcome_of-came.ensures.outcome modules are)
+    subst (λ (s : Option Plain). IfOk c.outcome_of.result (λ came. Comes modules given (modules main_name) s (outcome_of came.outcome)))
+    (map-copied plain_of c.as_ref-source.result ∙ ap (option_map plain_of) c.as_ref-source.ensures.value) (c.outcome_of.ensures.outcome modules are)
 
 pub returns-clause-last : goal.returns-clause-last
 returns-clause-last c =
-    let given = parameters_of c.args.self.now.parameters in
+    let held = c.args.self.now in
+    let given = parameters_of held.parameters in
     let compiled = option_copied c.args.compiled in
-    subst (λ (s : Option (Document ℕ)). IfOk c.outcome_of-came.result (λ came. IfSome came.kept (KeptHolds compiled given s))) c.as_ref-source.ensures.value
-    c.outcome_of-came.ensures.last
+    let before = last_known held.compiled held.last.before in
+    let known = c.requires.known.last in
+    let changes = since_of c.in_ok-since.since in
+    let stays = subst (λ (what : Option Compiled). StaysSpared what (last_known compiled what) given given held.source held.source
+    (since_of held.last.since) changes) c.last_known-known.ensures (c.in_ok-since.ensures given held.source) in
+    let answers = known_answers compiled before c.requires.answers known.answers in
+    let is = sym (known_before compiled held.compiled held.last.before) in
+    left_so compiled (before_by compiled held.compiled held.last.before) given held.source held.last changes c.outcome_of.result c.outcome_of.ensures.fits
+    (subst (λ (s : Option (Document ℕ)). IfOk c.outcome_of.result (λ came. IfSome came.kept (KeptHolds compiled given s))) c.as_ref-source.ensures.value
+    c.outcome_of.ensures.last)
+    c.outcome_of.ensures.since
+    (subst (λ (o : Option Compiled). KeptSpared o given held.source held.last.kept changes) is (stays held.last.kept known.answers answers known.spared))
+    (subst (λ (o : Option Compiled). AnswersAsSome o) is answers) known.faultless

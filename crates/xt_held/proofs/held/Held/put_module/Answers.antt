@@ -4,7 +4,8 @@ use Rattle.std.specs.declared.string.String.{String}
 use Rattle.spec_document.specs.Forest.{Document}
 use Rattle.spec_structure.specs.Modules.{Modules}
 use Rattle.xt_import.specs.View.{modules_in}
-use Rattle.xt_held.specs.View.{AreAllBelow, documents_of}
+use Rattle.xt_held.specs.View.{AreAllBelow, HasBelow, documents_of}
+use Rattle.xt_held.specs.declared.held.Held.{Held}
 use Rattle.xt_world.proofs.Keys.{ok_of}
 use Rattle.xt_held.proofs.Keeping.{inserted_below}
 use Rattle.xt_held.proofs.Keys.{modules-insert}
@@ -14,12 +15,14 @@ pub returns-clause-documents : goal.returns-clause-documents
 returns-clause-documents c =
     let old = c.args.self.now in
     let entries = ok_of c.insert.result (c.insert.ensures.succeeds c.requires) c.insert.ensures.entries in
-    ap (λ (modules : Modules). record { source = (documents_of old).source; modules = modules; parameters = (documents_of old).parameters })
+    ap documents_of c.put_compiled.ensures
+    ∙ ap (λ (modules : Modules). record { source = (documents_of old).source; modules = modules; parameters = (documents_of old).parameters })
     (ap modules_in entries ∙ modules-insert c.args.name c.args.document old.modules.entries)
 
 pub returns-clause-below : goal.returns-clause-below
 returns-clause-below c = λ first below it.
     let old = c.args.self.now in
     let entries = ok_of c.insert.result (c.insert.ensures.succeeds c.requires) c.insert.ensures.entries in
-    subst (λ (es : List (String Global × Document ℕ)). AreAllBelow first old.source es) (sym entries)
-    (inserted_below first c.args.name c.args.document old.source old.modules.entries below it)
+    subst (λ (held : Held). HasBelow first held) (sym c.put_compiled.ensures)
+    (subst (λ (es : List (String Global × Document ℕ)). AreAllBelow first old.source es) (sym entries)
+    (inserted_below first c.args.name c.args.document old.source old.modules.entries below it))

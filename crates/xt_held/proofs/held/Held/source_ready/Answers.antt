@@ -1,9 +1,7 @@
-use Rattle.std.proofs.Common.{Some, refl}
-use Rattle.xt_world.specs.ParameterView.{parameters_of}
-use Rattle.xt_held.specs.RunView.{KeptHolds}
+use Rattle.std.proofs.Common.{refl}
 use Rattle.xt_held.specs.View.{documents_of, made_of}
 use Rattle.xt_held.proofs.Keeping.{all_raised}
-use Rattle.xt_held.proofs.Marked.{adopted_last, known_of}
+use Rattle.xt_held.proofs.Marked.{known_of}
 use Rattle.xt_held.proofs.held.Held.source_ready.Goals as goal
 
 pub outcome_with_source-requires-clause-known : goal.outcome_with_source-requires-clause-known
@@ -23,7 +21,6 @@ returns c =
         room = tt;
         others = all_raised (made_of c.args.self.now) c.args.next.number c.args.self.now c.requires.grows c.requires.current.below;
         below = c.requires.below;
-        last = adopted_last c.in-Ok.came held.last (KeptHolds held.compiled (parameters_of held.parameters) (Some c.args.document)) c.in-Ok.ensures.fits
-            c.in-Ok.ensures.last;
+        last = c.in-Ok.ensures.last;
       };
     }

@@ -1,0 +1,25 @@
+use Rattle.std.proofs.Common.{Some, sym, ap, ◌∙◌}
+use Rattle.std.specs.Option.{option_map}
+use Rattle.spec_move.specs.Changed.{in_order}
+use Rattle.xt_tree.specs.View.{forest_of}
+use Rattle.xt_edit.specs.Telling.{numbers_in, way_in}
+use Rattle.xt_edit.proofs.MoveTold.{no-old, no-new, reordered-is}
+use Rattle.xt_edit.proofs.move_change.in_order.Goals as goal
+
+pub returns-in-None : goal.returns-in-None
+returns-in-None c =
+    ap (option_map in_order)
+    (no-old c.args.old.now c.args.new.now c.args.parent.now (ap (option_map way_in) (sym c.in-None.is) ∙ c.in_ok-way_to.ensures))
+
+pub returns-in-None-children_at : goal.returns-in-None-children_at
+returns-in-None-children_at c =
+    ap (option_map in_order) (no-new c.args.old.now c.args.new.now c.args.parent.now c.in-None-children_at.ensures)
+
+pub returns-in_ok-change-in-Some-children_at : goal.returns-in_ok-change-in-Some-children_at
+returns-in_ok-change-in-Some-children_at c =
+    let way = c.in-Some.way in
+    ap (λ x. Some (in_order x)) c.in_ok-change-in-Some-children_at.ensures
+    ∙ sym (ap (option_map in_order)
+    (reordered-is c.args.old.now c.args.new.now c.args.parent.now c.args.moved.number c.requires way.node.number (numbers_in way.above.items)
+    (forest_of way.children.now) (forest_of c.in-Some-children_at.after.now)
+    (ap (option_map way_in) (sym c.in-Some.is) ∙ c.in_ok-way_to.ensures) c.in-Some-children_at.ensures))

@@ -1,0 +1,64 @@
+-- How many questions of the last run a run asks again.
+--     marked_in   those that changes mark among what was done
+--     marked_of   those of all that a run kept
+--     marked_left those of the records that were not judged yet
+--     Asks        what asking some of them counts
+--     Judges      what a run that judges records leaves as it was
+use Rattle.std.specs.Prelude.{◌≡◌, ℕ, ◌+◌, ◌≤◌, Bool, true, false, List, [], ◌∷◌}
+use Rattle.std.specs.declared.rc.Rc.{Rc}
+use Rattle.std.specs.declared.alloc.Global.{Global}
+use Rattle.spec_run.specs.Going.{Event, Asked, Saw, Entered, Held}
+use Rattle.spec_node.specs.declared.node_ref.NodeRef.{NodeRef}
+use Rattle.spec_touch.specs.Marks.{WorldChange, any_marks}
+use Rattle.xt_record.specs.View.{kept_in}
+use Rattle.xt_record.specs.declared.pool.Pool.{Pool}
+use Rattle.xt_record.specs.declared.record.Record.{Record}
+use Rattle.xt_record.specs.declared.reuse.Reuse.{Reuse}
+use Rattle.xt_record.specs.declared.reuse.Steps.{Steps}
+use Rattle.xt_record.specs.declared.reuse.Verdict.{Verdict}
+use Rattle.xt_record.specs.declared.reuse.Verdict.TheVariants.{Unasked, Holds, Fails}
+
+-- one where it is so
+abbrev pub one_if : Bool → ℕ
+one_if true = 1
+one_if false = 0
+
+-- the questions among what was done that one of these changes marks
+abbrev pub marked_in : List WorldChange → List (Event NodeRef) → ℕ
+marked_in changes [] = 0
+marked_in changes (Asked question answer ∷ es) = one_if (any_marks changes question) + marked_in changes es
+marked_in changes (Saw wanted depth place supplied ∷ es) = marked_in changes es
+marked_in changes (Entered call depth ∷ es) = marked_in changes es
+marked_in changes (Held first contents ∷ es) = marked_in changes es
+
+abbrev pub marked_among : List WorldChange → List (Rc Record Global) → ℕ
+marked_among changes [] = 0
+marked_among changes (r ∷ rs) = marked_in changes (kept_in r.value).trace + marked_among changes rs
+
+-- those of all that a run kept
+abbrev pub marked_of : List WorldChange → Pool → ℕ
+marked_of changes pool = marked_among changes pool.records.items
+
+-- those of each of these records whose verdict is that it was not judged yet
+abbrev pub marked_left : List WorldChange → List Verdict → List (Rc Record Global) → ℕ
+marked_left changes [] rs = 0
+marked_left changes (v ∷ vs) [] = 0
+marked_left changes (Unasked ∷ vs) (r ∷ rs) = marked_in changes (kept_in r.value).trace + marked_left changes vs rs
+marked_left changes (Holds ∷ vs) (r ∷ rs) = marked_left changes vs rs
+marked_left changes (Fails ∷ vs) (r ∷ rs) = marked_left changes vs rs
+
+-- ---- What was asked in between
+
+-- some questions that were marked among what was done, none of them twice. Nothing else is counted
+pub record Asks (changes : List WorldChange) (trace : List (Event NodeRef)) (before after : Steps) : Type 0 where
+  pub ran : after.ran ≡ before.ran
+  pub asked : before.asked ≤ after.asked
+  pub most : after.asked ≤ before.asked + marked_in changes trace
+
+-- records of the last run were judged, and nothing else was done
+pub record Judges (before after : Reuse) : Type 0 where
+  pub last : after.last ≡ before.last
+  pub since : after.since ≡ before.since
+  pub kept : after.kept ≡ before.kept
+  pub ran : after.steps.ran ≡ before.steps.ran
+  pub asked : before.steps.asked ≤ after.steps.asked
