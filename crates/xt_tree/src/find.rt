@@ -10,7 +10,7 @@ ghost use Rattle.xt_tree.specs.Keys.{Rises, key_by, keys_of, has_number};
 ghost use Rattle.xt_tree.specs.Step.{IsStep};
 ghost use Rattle.xt_tree.specs.View.{forest_of, tree_of, content_of, first_tree, way_to, tree_at};
 
-use crate::keys::key_of;
+use crate::keys::{GAP, key_of};
 use crate::table::Table;
 use crate::{Content, Node, NodeId};
 use std::rc::Rc;
@@ -24,15 +24,60 @@ fn reached(keys: &Table, siblings: &[Rc<Node>], key: u128) -> usize
 {
     let mut low = 0;
     let mut high = siblings.len();
+    let mut near = guessed(siblings, key);
+    let mut guesses = GUESSES;
     while low < high {
-        let middle = low + (high - low) / 2;
+        let middle = tried(low, high, near, guesses > 0);
+        guesses = guesses.saturating_sub(1);
         if key_of(keys, siblings[middle].id) <= key {
             low = middle + 1;
+            near = low;
         } else {
             high = middle;
+            near = middle.saturating_sub(1);
         }
     }
     low
+}
+
+// How often a place that was guessed is tried, or one beside it, before what is left is halved.
+const GUESSES: u8 = 3;
+
+// The index that is tried next of those from the first on and below the second: that which is guessed, or the nearest one
+// to it; and where nothing is guessed any more, the one in the middle.
+fn tried(low: usize, high: usize, near: usize, is_guessed: bool) -> usize
+    requires { low < high }
+    ensures low { low ≤ result }
+    ensures high { result < high }
+{
+    if !is_guessed {
+        low + (high - low) / 2
+    } else if near < low {
+        low
+    } else if near >= high {
+        high - 1
+    } else {
+        near
+    }
+}
+
+// Where the last sibling whose key is no higher than this would stand, were the numbers of the siblings at equal distances,
+// and their keys those of a document as it is read. So it is in most tables, whose rows are alike.
+fn guessed(siblings: &[Rc<Node>], key: u128) -> usize {
+    let count = siblings.len();
+    if count == 0 {
+        return 0;
+    }
+    let first = siblings[0].id.number;
+    let last = siblings[count - 1].id.number;
+    let number = u64::try_from(key / GAP)
+        .unwrap_or(u64::MAX)
+        .saturating_sub(1);
+    if number <= first || last <= first {
+        return 0;
+    }
+    let ahead = (number - first).saturating_mul(count as u64 - 1);
+    usize::try_from(ahead / (last - first)).unwrap_or(0)
 }
 
 /// The sibling at this index, from 0.

@@ -8,13 +8,13 @@ pub loop-low-preserved-then-key_of-key : goal.loop-low-preserved-then-key_of-key
 loop-low-preserved-then-key_of-key c =
     let key = key_by c.args.keys.now in
     let xs = c.args.siblings.now in
-    let m = c.loop-low.low + (c.loop-low.high - c.loop-low.low) / 2 in
-    let within : m < length xs = omega arith in
+    let m = c.tried-middle.result in
+    let within : m < length xs = omega (arith, c.tried-middle.ensures.high, c.loop-low.invariant.within) in
     let at = key-at key xs m c.index-siblings-middle.result within ∙ ap (λ x. key (tree_of x.value).number) (sym c.index-siblings-middle.is)
     ∙ ap (λ t. key t.number) (ap tree_of (sym c.deref.ensures) ∙ view-Node c.deref.result.now) ∙ sym c.key_of.ensures in
     let same : m + 1 - 1 ≡ m = omega arith in
     record {
-      bound = omega arith;
+      bound = omega (arith, c.tried-middle.ensures.high);
       within = c.loop-low.invariant.within;
       before = λ _. rw (same, at) c.if-key_of-key.true;
       behind = c.loop-low.invariant.behind;
@@ -24,13 +24,13 @@ pub loop-low-preserved : goal.loop-low-preserved
 loop-low-preserved c =
     let key = key_by c.args.keys.now in
     let xs = c.args.siblings.now in
-    let m = c.loop-low.low + (c.loop-low.high - c.loop-low.low) / 2 in
-    let within : m < length xs = omega arith in
+    let m = c.tried-middle.result in
+    let within : m < length xs = omega (arith, c.tried-middle.ensures.high, c.loop-low.invariant.within) in
     let at = key-at key xs m c.index-siblings-middle.result within ∙ ap (λ x. key (tree_of x.value).number) (sym c.index-siblings-middle.is)
     ∙ ap (λ t. key t.number) (ap tree_of (sym c.deref.ensures) ∙ view-Node c.deref.result.now) ∙ sym c.key_of.ensures in
     record {
-      bound = omega arith;
-      within = omega arith;
+      bound = c.tried-middle.ensures.low;
+      within = omega (arith, c.tried-middle.ensures.high, c.loop-low.invariant.within);
       before = c.loop-low.invariant.before;
       behind = λ _. rw at c.if-key_of-key.false;
     }
