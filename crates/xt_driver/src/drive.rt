@@ -56,6 +56,8 @@ pub fn first_means<E: Engine, W: World>(
     ensures sure { OnOk result (IsSure (W.state world.old).truth reuse.new) }
     ensures truth { (W.state world.new).truth ≡ (W.state world.old).truth }
     ensures name { W.name world.new ≡ W.name world.old }
+    ensures last { reuse.new.last ≡ reuse.old.last }
+    ensures since { reuse.new.since ≡ reuse.old.since }
 {
     if levels == 0 {
         return too_deep(alloc, call);
@@ -93,6 +95,8 @@ fn means<E: Engine, W: World>(
     ensures sure { OnOk result (IsSure (W.state world.old).truth reuse.new) }
     ensures truth { (W.state world.new).truth ≡ (W.state world.old).truth }
     ensures name { W.name world.new ≡ W.name world.old }
+    ensures last { reuse.new.last ≡ reuse.old.last }
+    ensures since { reuse.new.since ≡ reuse.old.since }
 {
     if levels == 0 {
         return too_deep(alloc, call);
@@ -128,6 +132,8 @@ fn serve<E: Engine, W: World>(
     ensures sure { OnOk result (IsSure (W.state world.old).truth reuse.new) }
     ensures truth { (W.state world.new).truth ≡ (W.state world.old).truth }
     ensures name { W.name world.new ≡ W.name world.old }
+    ensures last { reuse.new.last ≡ reuse.old.last }
+    ensures since { reuse.new.since ≡ reuse.old.since }
 {
     let mut from = 0;
     loop {
@@ -177,6 +183,8 @@ fn follow<E: Engine, W: World>(
     ensures sure { OnOk result (IsSure (W.state world.old).truth reuse.new) }
     ensures truth { (W.state world.new).truth ≡ (W.state world.old).truth }
     ensures name { W.name world.new ≡ W.name world.old }
+    ensures last { reuse.new.last ≡ reuse.old.last }
+    ensures since { reuse.new.since ≡ reuse.old.since }
 {
     a_record_lasts(kept);
     let events = kept.ran.events.as_slice();
@@ -218,6 +226,8 @@ fn go_on<E: Engine, W: World>(
     ensures sure { OnOk result (IsSure (W.state world.old).truth reuse.new) }
     ensures truth { (W.state world.new).truth ≡ (W.state world.old).truth }
     ensures name { W.name world.new ≡ W.name world.old }
+    ensures last { reuse.new.last ≡ reuse.old.last }
+    ensures since { reuse.new.since ≡ reuse.old.since }
 {
     match next_done(alloc, event, call, below, way.parts.as_slice())? {
         Next::Holds => Ok(Gone::On),
@@ -258,6 +268,8 @@ fn run_call<E: Engine, W: World>(
     ensures sure { OnOk result (IsSure (W.state world.old).truth reuse.new) }
     ensures truth { (W.state world.new).truth ≡ (W.state world.old).truth }
     ensures name { W.name world.new ≡ W.name world.old }
+    ensures last { reuse.new.last ≡ reuse.old.last }
+    ensures since { reuse.new.since ≡ reuse.old.since }
 {
     let mut standing = begin(alloc, engine, call, below)?;
     reuse.count_run();
@@ -315,6 +327,8 @@ fn need<E: Engine, W: World>(
     ensures sure { OnOk result (IsSure (W.state world.old).truth reuse.new) }
     ensures truth { (W.state world.new).truth ≡ (W.state world.old).truth }
     ensures name { W.name world.new ≡ W.name world.old }
+    ensures last { reuse.new.last ≡ reuse.old.last }
+    ensures since { reuse.new.since ≡ reuse.old.since }
 {
     match regained_reference(alloc, lost, needed, levels)? {
         Some(referred) => Ok(referred),
@@ -341,6 +355,8 @@ fn refer<E: Engine, W: World>(
     ensures sure { OnOk result (IsSure (W.state world.old).truth reuse.new) }
     ensures truth { (W.state world.new).truth ≡ (W.state world.old).truth }
     ensures name { W.name world.new ≡ W.name world.old }
+    ensures last { reuse.new.last ≡ reuse.old.last }
+    ensures since { reuse.new.since ≡ reuse.old.since }
 {
     match look_up(alloc, globals, memo, &needed.name, levels)? {
         Reference::Given(given) => Ok(given),

@@ -30,6 +30,8 @@ pub fn keep_ended(
     requires { IsMade (call_of call.now) ended.ran }
     ensures outcome { IfOk result (λ o. o ≡ ended.outcome) }
     ensures sure { OnOk result ((ask : Question NodeRef → Answer NodeRef) → IsSure ask reuse.old → MadeHolds ask ended.ran → IsSure ask reuse.new) }
+    ensures last { reuse.new.last ≡ reuse.old.last }
+    ensures since { reuse.new.since ≡ reuse.old.since }
 {
     let Ended { outcome, ran } = ended;
     match ran {
@@ -44,7 +46,9 @@ pub fn keep_ended(
 // Keeps what the engine made of a call that came to its end.
 fn keep_run(alloc: Global, reuse: &mut Reuse<'_>, call: &Call, ran: Box<Ran>) -> Result<(), Memory>
     requires { IsTrue same_ref (kept_with (call_of call.now) (ran_of ran.value)) }
-    ensures { OnOk result ((ask : Question NodeRef → Answer NodeRef) → IsSure ask reuse.old → AsksHold ask (ran_of ran.value).trace → IsSure ask reuse.new) }
+    ensures sure { OnOk result ((ask : Question NodeRef → Answer NodeRef) → IsSure ask reuse.old → AsksHold ask (ran_of ran.value).trace → IsSure ask reuse.new) }
+    ensures last { reuse.new.last ≡ reuse.old.last }
+    ensures since { reuse.new.since ≡ reuse.old.since }
 {
     let call = call.copy(alloc)?;
     let ran = Box::into_inner(ran);
@@ -61,6 +65,8 @@ pub fn tried(
     served: Result<Served, Memory>,
 ) -> Result<Option<Served>, Memory>
     ensures sure { OnOk result ((ask : Question NodeRef → Answer NodeRef) → IsSure ask reuse.old → AsksHold ask (kept_in found.record.value).trace → IsSure ask reuse.new) }
+    ensures last { reuse.new.last ≡ reuse.old.last }
+    ensures since { reuse.new.since ≡ reuse.old.since }
     ensures came { OnOk result (IsOk served) }
     ensures served { IfOk result (λ o. IfSome o (λ s. served ≡ Ok s)) }
 {
@@ -84,7 +90,9 @@ pub fn next_turn(found: &Found) -> u64
 
 // Keeps it, if this run does not yet.
 fn keep_found(alloc: Global, reuse: &mut Reuse<'_>, found: Found) -> Result<(), Memory>
-    ensures { OnOk result ((ask : Question NodeRef → Answer NodeRef) → IsSure ask reuse.old → AsksHold ask (kept_in found.record.value).trace → IsSure ask reuse.new) }
+    ensures sure { OnOk result ((ask : Question NodeRef → Answer NodeRef) → IsSure ask reuse.old → AsksHold ask (kept_in found.record.value).trace → IsSure ask reuse.new) }
+    ensures last { reuse.new.last ≡ reuse.old.last }
+    ensures since { reuse.new.since ≡ reuse.old.since }
 {
     if found.is_kept {
         return Ok(());

@@ -74,6 +74,8 @@ fn evaluated_at_turn<E: Engine, W: World>(
     ensures sure { OnOk result (IsSure (W.state world.old).truth reuse.new) }
     ensures truth { (W.state world.new).truth ≡ (W.state world.old).truth }
     ensures name { W.name world.new ≡ W.name world.old }
+    ensures last { reuse.new.last ≡ reuse.old.last }
+    ensures since { reuse.new.since ≡ reuse.old.since }
 {
     let name = copy_name(alloc, &global.name)?;
     let under_way = with_name(alloc, name, globals.under_way)?;
@@ -117,6 +119,8 @@ fn turn<E: Engine, W: World>(
     ensures sure { OnOk result (IsSure (W.state world.old).truth reuse.new) }
     ensures truth { (W.state world.new).truth ≡ (W.state world.old).truth }
     ensures name { W.name world.new ≡ W.name world.old }
+    ensures last { reuse.new.last ≡ reuse.old.last }
+    ensures since { reuse.new.since ≡ reuse.old.since }
 {
     let known = recall_turn(alloc, memo.entries.as_slice(), global, levels)?;
     match known {
@@ -240,6 +244,8 @@ fn run_in<E: Engine, W: World>(
     ensures sure { OnOk result (IsSure (W.state world.old).truth reuse.new) }
     ensures truth { (W.state world.new).truth ≡ (W.state world.old).truth }
     ensures name { W.name world.new ≡ W.name world.old }
+    ensures last { reuse.new.last ≡ reuse.old.last }
+    ensures since { reuse.new.since ≡ reuse.old.since }
 {
     let mut values: Vec<HeldGlobal> = Vec::new(alloc);
     let mut told: Vec<Text> = Vec::new(alloc);
@@ -294,6 +300,8 @@ pub fn run<E: Engine, W: World>(
     ensures sure { OnOk result (IsSure (W.state world.old).truth reuse.new) }
     ensures truth { (W.state world.new).truth ≡ (W.state world.old).truth }
     ensures name { W.name world.new ≡ W.name world.old }
+    ensures last { reuse.new.last ≡ reuse.old.last }
+    ensures since { reuse.new.since ≡ reuse.old.since }
 {
     run_in(
         alloc,

@@ -110,6 +110,8 @@ run_call-loop-standing-preserved-in-Continue-branch-4 g t c =
       sure = sure_there resumed (of_streamed next.given ss (streams_of next.parts.items) c.means-came.result streamed c.means-came.ensures.sure);
       truth = c.means-came.ensures.truth ∙ resumed;
       name = c.means-came.ensures.name ∙ c.advance.ensures.name ∙ inv.name;
+      last = c.means-came.ensures.last ∙ inv.last;
+      since = c.means-came.ensures.since ∙ inv.since;
     }
 
 pub run_call-loop-standing-smaller : goal.run_call-loop-standing-smaller
@@ -177,6 +179,8 @@ run_call-loop-standing-preserved g t c =
       sure = sure_there resumed (of_taken next.given c.need-came.result c.in_ok-take_global-in-Refer.ensures.taken c.need-came.ensures.sure);
       truth = c.need-came.ensures.truth ∙ resumed;
       name = c.need-came.ensures.name ∙ c.advance.ensures.name ∙ inv.name;
+      last = c.need-came.ensures.last ∙ inv.last;
+      since = c.need-came.ensures.since ∙ inv.since;
     }
 
 pub run_call-done-requires : goal.run_call-done-requires
@@ -357,7 +361,7 @@ follow-loop-event-init g t c =
     let ss = streams_of way.parts.items in
     let P : List (Event NodeRef) → Type 0 = λ es. IsFollowed s i first first way.spare k ss es in
     let begun = followed_begun s i first way.spare k c.requires.remembers c.requires.serves.asks c.a_record_lasts.ensures (ap streams_of c.in_ok-way.ensures) in
-    record { followed = subst P (rest_all c.as_slice-events.result.now c.as_slice-events.ensures.value) begun; sure = c.requires.sure; truth = refl; name = refl }
+    record { followed = subst P (rest_all c.as_slice-events.result.now c.as_slice-events.ensures.value) begun; sure = c.requires.sure; truth = refl; name = refl; last = refl; since = refl }
 
 pub follow-go_on-requires : goal.follow-go_on-requires
 follow-go_on-requires g t c =
@@ -392,6 +396,8 @@ follow-loop-event-preserved g t c =
       sure = sure_there inv.truth c.in_ok-go_on.ensures.sure;
       truth = c.go_on.ensures.truth ∙ inv.truth;
       name = c.go_on.ensures.name ∙ inv.name;
+      last = c.go_on.ensures.last ∙ inv.last;
+      since = c.go_on.ensures.since ∙ inv.since;
     }
 
 pub follow-returns-in-Not-clause-keeps : goal.follow-returns-in-Not-clause-keeps
@@ -662,7 +668,7 @@ go_on-returns-in-Refer-clause-sure g t c =
 
 pub serve-loop-found-init : goal.serve-loop-found-init
 serve-loop-found-init g t c =
-    record { keeps = keeps_all c.requires.remembers; sure = c.requires.sure; truth = refl; name = refl }
+    record { keeps = keeps_all c.requires.remembers; sure = c.requires.sure; truth = refl; name = refl; last = refl; since = refl }
 
 pub serve-find-requires : goal.serve-find-requires
 serve-find-requires g t c =
@@ -720,6 +726,8 @@ serve-loop-found-preserved g t c =
       sure = sure_there inv.truth (c.in_ok-tried-in-Some.ensures.sure there (sure_there c.find.ensures.truth (on_is c.follow-served.result c.in_ok-tried-in-Some.ensures.came c.follow-served.ensures.sure)) may.asks);
       truth = c.follow-served.ensures.truth ∙ here;
       name = c.follow-served.ensures.name ∙ c.find.ensures.name ∙ inv.name;
+      last = c.in_ok-tried-in-Some.ensures.last ∙ c.follow-served.ensures.last ∙ c.find.ensures.judges.last ∙ inv.last;
+      since = c.in_ok-tried-in-Some.ensures.since ∙ c.follow-served.ensures.since ∙ c.find.ensures.judges.since ∙ inv.since;
     }
 
 pub serve-returns-in-Some-2-clause-keeps : goal.serve-returns-in-Some-2-clause-keeps
@@ -972,6 +980,8 @@ run_call-loop-standing-init g t c =
       sure = c.count_run.ensures.sure truth c.requires.sure;
       truth = refl;
       name = refl;
+      last = c.count_run.ensures.last;
+      since = c.count_run.ensures.since;
     }
 
 pub run_call-returns-in-Failed-clause-lasts : goal.run_call-returns-in-Failed-clause-lasts

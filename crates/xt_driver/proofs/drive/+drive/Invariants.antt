@@ -43,6 +43,8 @@ invariant-serve-loop-found g l =
       sure : IsSure truth l.reuse;
       truth : (g.W.World.state l.world).truth ≡ truth;
       name : g.W.World.name l.world ≡ g.W.World.name l.fn.world;
+      last : l.reuse.last ≡ l.fn.reuse.last;
+      since : l.reuse.since ≡ l.fn.reuse.since;
     }
 
 abbrev pub decreases-serve-loop-found : goal.decreases-serve-loop-found
@@ -59,6 +61,8 @@ invariant-follow-loop-event g l =
       sure : IsSure truth l.reuse;
       truth : (g.W.World.state l.world).truth ≡ truth;
       name : g.W.World.name l.world ≡ g.W.World.name l.fn.world;
+      last : l.reuse.last ≡ l.fn.reuse.last;
+      since : l.reuse.since ≡ l.fn.reuse.since;
     }
 
 abbrev pub invariant-run_call-loop-standing : goal.invariant-run_call-loop-standing
@@ -71,6 +75,8 @@ invariant-run_call-loop-standing g l =
       sure : IsSure truth l.reuse;
       truth : (g.W.World.state l.world).truth ≡ truth;
       name : g.W.World.name l.world ≡ g.W.World.name l.fn.world;
+      last : l.reuse.last ≡ l.fn.reuse.last;
+      since : l.reuse.since ≡ l.fn.reuse.since;
     }
 
 abbrev pub decreases-run_call-loop-standing : goal.decreases-run_call-loop-standing

@@ -8,4 +8,4 @@ use Rattle.xt_driver.proofs.keep.keep_ended.Goals as goal
 pub returns-in_ok-keep_run-in-Some-clause-sure : goal.returns-in_ok-keep_run-in-Some-clause-sure
 returns-in_ok-keep_run-in-Some-clause-sure c = λ ask before asks.
     let P : Option (Box Ran Global) → Type 0 = λ r. MadeHolds ask r in
-    c.in_ok-keep_run-in-Some.ensures ask before (subst P c.in-Some.is asks)
+    c.in_ok-keep_run-in-Some.ensures.sure ask before (subst P c.in-Some.is asks)

@@ -9,8 +9,8 @@ use Rattle.xt_record.specs.View.{kept_in, AsksHold}
 use Rattle.xt_driver.proofs.Coming.{on_all}
 use Rattle.xt_driver.proofs.keep.keep_run.Goals as goal
 
-pub returns : goal.returns
-returns c =
+pub returns-clause-sure : goal.returns-clause-sure
+returns-clause-sure c =
     let same = ap kept_in c.in_ok-shared.ensures.ok ∙ c.new-kept.ensures ∙ ap (λ k. kept_with k (ran_of c.into_inner-ran.result)) c.in_ok-call.ensures
     ∙ ap (λ r. kept_with (call_of c.args.call.now) (ran_of r)) c.into_inner-ran.ensures in
     on_all c.keep.result c.keep.ensures.sure (λ sure ask before asks.

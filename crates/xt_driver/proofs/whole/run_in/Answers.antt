@@ -21,6 +21,8 @@ loop-global-init g c =
       sure = c.requires;
       truth = refl;
       name = refl;
+      last = refl;
+      since = refl;
     }
 
 pub turn-requires-clause-sure : goal.turn-requires-clause-sure
@@ -61,6 +63,8 @@ loop-global-preserved g c =
       sure = sure_there inv.truth c.in_ok-turned.ensures.sure;
       truth = c.turn.ensures.truth ∙ inv.truth;
       name = c.turn.ensures.name ∙ inv.name;
+      last = c.in_ok-turned.ensures.last ∙ inv.last;
+      since = c.in_ok-turned.ensures.since ∙ inv.since;
     }
 
 pub returns-in-Some-clause-run : goal.returns-in-Some-clause-run
