@@ -1,13 +1,13 @@
 -- How many marked questions there are among what was done, and how many are left.
-use Rattle.std.proofs.Common.{◌≡◌, ℕ, zero, suc, ◌+◌, ◌<◌, ◌≤◌, Bool, true, false, List, [], ◌∷◌, map, take, length, get_or, set, replicate, refl, sym, ap, subst, ◌∙◌, arith}
+use Rattle.std.proofs.Common.{◌≡◌, ℕ, zero, suc, ◌+◌, ◌<◌, ◌≤◌, Bool, true, false, List, [], ◌∷◌, map, take, length, get_or, set, replicate, refl, sym, ap, ◌∙◌, arith}
 use Rattle.std.specs.declared.rc.Rc.{Rc}
 use Rattle.std.specs.declared.alloc.Global.{Global}
 use Rattle.spec_run.specs.Going.{Event, Asked, Saw, Entered, Held}
 use Rattle.spec_node.specs.declared.node_ref.NodeRef.{NodeRef}
-use Rattle.spec_touch.specs.Marks.{WorldChange, any_marks}
+use Rattle.spec_touch.specs.Marks.{WorldChange}
 use Rattle.xt_engine.specs.View.{event_of}
 use Rattle.xt_engine.specs.declared.event.Event.{Event as CodeEvent}
-use Rattle.xt_record.specs.Asked.{marked_in, marked_among, marked_left, one_if, Asks}
+use Rattle.xt_record.specs.Asked.{marked_in, marked_among, marked_left, Asks}
 use Rattle.xt_record.specs.Sure.{verdict_of}
 use Rattle.xt_record.specs.View.{kept_in}
 use Rattle.xt_record.specs.declared.record.Record.{Record}

@@ -18,8 +18,11 @@ use xt_tree::Part;
 pub struct Pool {
     // In the order in which they were kept.
     records: Vec<Rc<Record>>,
-    // Where to look for those of a call. It is a hint: what is found there is looked at.
-    turns: IndexMap<Key, Vec<usize>>,
+    // The turn of the latest of each key, and of each record that of the one before it with the same key; its own where it
+    // is the first. Both are hints: what is found there is looked at. A key has no list of its own, which would be memory
+    // taken and given back for nearly each record.
+    latest: IndexMap<Key, usize>,
+    before: Vec<usize>,
 }
 
 // The numbers of a unit and of a node. Built-in rules have one number, whatever their mode.
@@ -37,7 +40,8 @@ impl Pool {
     {
         Pool {
             records: Vec::new(alloc),
-            turns: IndexMap::new(alloc),
+            latest: IndexMap::new(alloc),
+            before: Vec::new(alloc),
         }
     }
 
@@ -49,21 +53,32 @@ impl Pool {
     }
 
     /// Adds a record.
-    pub(crate) fn add(&mut self, alloc: Global, kept: Rc<Record>) -> Result<(), Memory>
+    pub(crate) fn add(&mut self, kept: Rc<Record>) -> Result<(), Memory>
         ensures { OnOk result (self.new.records.items ≡ self.old.records.items ++ kept ∷ []) }
     {
         let key = key_of(&kept.call);
         let turn = self.records.len();
         self.records.push(kept)?;
-        add_turn(&mut self.turns, alloc, key, turn)
+        let before = self.latest.insert(key, turn)?;
+        self.before.push(before.unwrap_or(turn))?;
+        Ok(())
     }
 
-    /// Where records of the unit and the node of this call may be, in the order in which they were kept.
-    pub(crate) fn turns_of(&self, call: &Call) -> &[usize] {
-        match self.turns.get(&key_of(call)) {
-            None => &[],
-            Some(turns) => turns.as_slice(),
-        }
+    /// The turn of the latest record before this turn that may be of the unit and the node of this call. Where there is a
+    /// record at this turn, it is one of them.
+    pub(crate) fn latest_before(&self, call: &Call, turn: usize) -> Option<usize>
+        ensures { IfSome result (λ t. t < turn) }
+    {
+        let latest = if turn < self.before.len() {
+            self.before[turn]
+        } else {
+            self.latest_of(call)?
+        };
+        if latest < turn { Some(latest) } else { None }
+    }
+
+    fn latest_of(&self, call: &Call) -> Option<usize> {
+        self.latest.get(&key_of(call)).copied()
     }
 
     /// The record at this turn, where it is of the call and there are the levels for it.
@@ -91,33 +106,6 @@ impl Pool {
         }
         Ok(Some(record.clone()?))
     }
-}
-
-fn add_turn(
-    turns: &mut IndexMap<Key, Vec<usize>>,
-    alloc: Global,
-    key: Key,
-    turn: usize,
-) -> Result<(), Memory> {
-    match turns.get_mut(&key) {
-        Some(list) => {
-            list.push(turn)?;
-            Ok(())
-        }
-        None => begin_turns(turns, alloc, key, turn),
-    }
-}
-
-fn begin_turns(
-    turns: &mut IndexMap<Key, Vec<usize>>,
-    alloc: Global,
-    key: Key,
-    turn: usize,
-) -> Result<(), Memory> {
-    let mut list = Vec::new(alloc);
-    list.push(turn)?;
-    turns.insert(key, list)?;
-    Ok(())
 }
 
 fn key_of(call: &Call) -> Key {

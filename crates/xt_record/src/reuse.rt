@@ -27,7 +27,8 @@ pub struct Steps {
     pub asked: u64,
 }
 
-// Where one that was found says to go on: after those that this run kept, the latest first, from here on those of the last.
+// Where one that was found says to go on: as far below this as its turn says, where this run kept it, and as far below twice
+// this where the last did. So those that this run kept come first, and in both the latest.
 const LAST: u64 = 1 << 62;
 
 /// What is known of the questions of a record.
@@ -84,8 +85,8 @@ impl<'a> Reuse<'a> {
         })
     }
 
-    /// A record that may serve the call, with so many levels below the call's own: among those that this run kept, the
-    /// latest first, and then among those of the last. From 0 on, or from where one that was found says; from there on
+    /// A record that may serve the call, with so many levels below the call's own: among those that this run kept, and then
+    /// among those of the last, in both the latest first. From 0 on, or from where one that was found says; from there on
     /// nothing is found twice. Where the questions of a record were not asked in this run, those that are marked are asked
     /// up to the first that has another answer, and counted.
     pub fn find<W: World>(
@@ -121,14 +122,13 @@ impl<'a> Reuse<'a> {
         ensures serves { (ask : Question NodeRef → Answer NodeRef) → IsSure ask self.now → IfOk result (λ o. IfSome o (λ f. MayServe ask (call_of call.now) below (kept_in f.record.value))) }
         ensures next { IfOk result (λ o. IfSome o (λ f. from < f.next)) }
     {
-        let turns = self.kept.turns_of(call);
-        let left = turns.len().min(LAST.saturating_sub(from) as usize);
-        for later in 0..left {
-            let place = left - 1 - later;
-            let next = LAST - place as u64;
-            if let Some(found) = self.of_kept(alloc, turns[place], call, below, next)? {
+        let mut end = LAST.saturating_sub(from) as usize;
+        while let Some(turn) = self.kept.latest_before(call, end) {
+            let next = LAST - turn as u64;
+            if let Some(found) = self.of_kept(alloc, turn, call, below, next)? {
                 return Ok(Some(found));
             }
+            end = turn;
         }
         Ok(None)
     }
@@ -173,15 +173,16 @@ impl<'a> Reuse<'a> {
         ensures truth { (W.state world.new).truth ≡ (W.state world.old).truth }
         ensures name { W.name world.new ≡ W.name world.old }
     {
-        let turns = self.last.turns_of(call);
-        for place in from.saturating_sub(LAST) as usize..turns.len() {
-            if let Some(record) = self.of_last(alloc, world, turns[place], call, below)? {
+        let mut end = (2 * LAST).saturating_sub(from.max(LAST)) as usize;
+        while let Some(turn) = self.last.latest_before(call, end) {
+            if let Some(record) = self.of_last(alloc, world, turn, call, below)? {
                 return Ok(Some(Found {
                     record,
-                    next: LAST + place as u64 + 1,
+                    next: 2 * LAST - turn as u64,
                     is_kept: false,
                 }));
             }
+            end = turn;
         }
         Ok(None)
     }
@@ -253,7 +254,8 @@ impl<'a> Reuse<'a> {
         ensures since { self.new.since ≡ self.old.since }
         ensures steps { self.new.steps ≡ self.old.steps }
     {
-        self.kept.add(alloc, kept)
+        let _ = alloc;
+        self.kept.add(kept)
     }
 
     /// Counts an instantiation that is run.

@@ -1,4 +1,4 @@
-use Rattle.std.proofs.Common.{◌≡◌, ◌∙◌, List, ap, map, subst, sym, arith}
+use Rattle.std.proofs.Common.{◌∙◌, List, ap, map, subst, sym, arith}
 use Rattle.xt_engine.specs.View.{event_of}
 use Rattle.xt_engine.specs.declared.event.Event.{Event}
 use Rattle.xt_record.specs.View.{AsksHold}
