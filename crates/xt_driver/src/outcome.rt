@@ -108,10 +108,22 @@ pub fn done(
     ensures height { IfOk result (λ o. o.value.spare ≤ below - ran.now.height) }
     ensures outcome { IfOk result (λ o. outcome_of o.value ≡ record { content = stream.filled (stream_of ran.now.stream.value) (streams_of parts.now); ending = ending_with ran.now.value }) }
 {
-    let content = ran.stream.fill(alloc, parts)?;
+    let content = with_parts(alloc, &ran.stream, parts)?;
     let ending = end_with(alloc, &ran.value)?;
     let spare = fewer(spare, below.saturating_sub(ran.height));
     on_heap(alloc, content, ending, spare)
+}
+
+// The stream with these parts in its holes. One that has none is shared: most records that serve enter nothing, and what
+// they wrote is not made anew.
+fn with_parts(alloc: Global, items: &Rc<Items>, parts: &[Rc<Items>]) -> Result<Rc<Items>, Memory>
+    requires { stream.holes (stream_of items.now.value) ≡ length parts.now }
+    ensures { IfOk result (λ whole. stream_of whole.value ≡ stream.filled (stream_of items.now.value) (streams_of parts.now)) }
+{
+    if parts.is_empty() {
+        return Ok(items.clone()?);
+    }
+    items.fill(alloc, parts)
 }
 
 /// What comes of a call that would have come to this, where the last that it entered was refused, with all that was
