@@ -1,8 +1,10 @@
 // Calls that a driver makes.
-ghost use Rattle.std.specs.Prelude.{◌≡◌, [], IfOk, None, OnOk};
+ghost use Rattle.std.specs.Prelude.{◌≡◌, [], true, IfOk, None, OnOk};
 ghost use Rattle.std.specs.Option.{option_map, option_or};
 ghost use Rattle.spec_meaning.specs.Question.{AllRules};
 ghost use Rattle.spec_meaning.specs.Question as asked;
+ghost use Rattle.spec_node.specs.declared.node_ref.NodeRef.{NodeRef};
+ghost use Rattle.spec_run.specs.Plan as plan;
 ghost use Rattle.spec_run.specs.Plan.{nowhere};
 ghost use Rattle.spec_run.specs.Content.{rule_call, target_by, ruling_by};
 ghost use Rattle.spec_run.specs.Meaning.{global_call, ruling_in, settled};
@@ -48,6 +50,16 @@ pub fn settle(alloc: Global, outer: &Call, inner: &mut Call) -> Result<(), Memor
     inner.position = or_outer(inner.position, outer.position);
     inner.size = or_outer(inner.size, outer.size);
     settle_ruling(alloc, &outer.ruling, &mut inner.ruling)
+}
+
+/// Whether the call has a position, a size and a current rule of its own, so that it is the same whatever enters it.
+pub fn says_all(call: &Call) -> bool
+    ensures { result ≡ true → (outer : plan.Call NodeRef) → settled outer (call_of call.now) ≡ call_of call.now }
+{
+    match (&call.position, &call.size, &call.ruling) {
+        (Some(_), Some(_), Ruling::Is(_)) => true,
+        _ => false,
+    }
 }
 
 /// The call of a global, from this element. No template rule is the current one there (XSLT 1.0, section 5.6).

@@ -233,7 +233,8 @@ fn go_on<E: Engine, W: World>(
         Next::Holds => Ok(Gone::On),
         Next::Differs => Ok(Gone::Not(Lost::Nothing)),
         Next::Enter(inner, left) => {
-            let came = means(alloc, engine, world, globals, memo, reuse, &inner, left);
+            let call = inner.as_call();
+            let came = means(alloc, engine, world, globals, memo, reuse, call, left);
             take_entered(way, came, inner)
         }
         Next::Refer(needed, left) => {

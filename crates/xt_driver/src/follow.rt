@@ -9,9 +9,9 @@ ghost use Rattle.xt_tree.specs.StreamView.{streams_of};
 ghost use Rattle.xt_questions.specs.View.{current_of, given_of, wanted_of};
 ghost use Rattle.xt_engine.specs.View.{call_of, event_of, ruling_of};
 ghost use Rattle.xt_driver.specs.View.{ending_of};
-ghost use Rattle.xt_driver.specs.Along.{halts, HoldsIf, IsEntered, IsNext, IsReferred, IsSeen, IsSeenAs, Takes, TakesReference};
+ghost use Rattle.xt_driver.specs.Along.{halts, inner_of, HoldsIf, IsEntered, IsNext, IsReferred, IsSeen, IsSeenAs, Takes, TakesReference};
 
-use crate::calls::settle;
+use crate::calls::{says_all, settle};
 use crate::level::Needed;
 use crate::lost::{Lost, LostReference};
 use crate::memo::Referred;
@@ -35,15 +35,36 @@ pub struct Way {
     pub spare: u64,
 }
 
+/// A call that was entered.
+#[derive(Drop)]
+pub enum Inner<'a> {
+    /// One that says all itself, as it stands in the record: most do, and are large, so that they are not copied.
+    Kept(&'a Call),
+    /// One that has the rest from the call that enters it.
+    Settled(Box<Call>),
+}
+
+impl<'a> Inner<'a> {
+    /// The call.
+    pub fn as_call(&self) -> &Call
+        ensures { result.now ≡ inner_of self.now }
+    {
+        match self {
+            Inner::Kept(call) => call,
+            Inner::Settled(call) => call,
+        }
+    }
+}
+
 /// What was done next.
 #[derive(Drop)]
-pub enum Next {
+pub enum Next<'a> {
     /// What holds for this call too.
     Holds,
     /// What does not.
     Differs,
     /// This call was entered, for which so many levels are left.
-    Enter(Box<Call>, u64),
+    Enter(Inner<'a>, u64),
     /// This global was needed, for which so many levels are left.
     Refer(Box<Needed>, u64),
 }
@@ -74,13 +95,13 @@ pub fn set_out(alloc: Global, below: u64) -> Result<Box<Way>, Memory>
 
 /// What was done next, for this call with so many levels below its own, where these are the streams of all that was
 /// entered. That each question has its answer is known of the record.
-pub fn next_done(
+pub fn next_done<'a>(
     alloc: Global,
-    event: &Event,
+    event: &'a Event,
     call: &Call,
     below: u64,
     parts: &[Rc<Items>],
-) -> Result<Next, Memory>
+) -> Result<Next<'a>, Memory>
     ensures { IfOk result (λ n. IsNext n (call_of call.now) below (streams_of parts.now) (event_of event.now)) }
 {
     match event {
@@ -105,7 +126,7 @@ fn seen(
     given: &Given,
     call: &Call,
     left: u64,
-) -> Result<Next, Memory>
+) -> Result<Next<'static>, Memory>
     ensures { IfOk result (λ n. IsSeen n (call_of call.now) left (wanted_of wanted.now) (place_of place.now) (Known (given_of given.now))) }
 {
     match wanted {
@@ -117,7 +138,12 @@ fn seen(
 }
 
 // A global was.
-fn referred(alloc: Global, name: &Expanded, place: &Place, left: u64) -> Result<Next, Memory>
+fn referred(
+    alloc: Global,
+    name: &Expanded,
+    place: &Place,
+    left: u64,
+) -> Result<Next<'static>, Memory>
     ensures { IfOk result (λ n. IsReferred n left name.now (place_of place.now)) }
 {
     let place = copy_place(alloc, place)?;
@@ -129,7 +155,7 @@ fn referred(alloc: Global, name: &Expanded, place: &Place, left: u64) -> Result<
 }
 
 // A position or size was, of which the call has this one.
-fn counted(number: &Option<u64>, given: &Given) -> Next
+fn counted(number: &Option<u64>, given: &Given) -> Next<'static>
     ensures { HoldsIf result (Known (Counted (unwrap_or number.now 1)) ≡ Known (given_of given.now)) }
 {
     match given {
@@ -156,7 +182,7 @@ fn number_or_one(number: &Option<u64>) -> u64
 }
 
 // The current template rule was, and this is that of the call.
-fn ruled(ruling: &Ruling, given: &Given) -> Next
+fn ruled(ruling: &Ruling, given: &Given) -> Next<'static>
     ensures { HoldsIf result (Known (Ruled (current_by (ruling_of ruling.now))) ≡ Known (given_of given.now)) }
 {
     match given {
@@ -183,12 +209,15 @@ fn is_rule(ruling: &Ruling, rule: &Option<CurrentRule>) -> bool
 }
 
 // A call was entered.
-fn entered(alloc: Global, inner: &Call, call: &Call, left: u64) -> Result<Next, Memory>
+fn entered<'a>(alloc: Global, inner: &'a Call, call: &Call, left: u64) -> Result<Next<'a>, Memory>
     ensures { IfOk result (λ n. IsEntered n left (settled (call_of call.now) (call_of inner.now))) }
 {
+    if says_all(inner) {
+        return Ok(Next::Enter(Inner::Kept(inner), left));
+    }
     let mut inner = Box::new(alloc, inner.copy(alloc)?)?;
     settle(alloc, call, &mut inner)?;
-    Ok(Next::Enter(inner, left))
+    Ok(Next::Enter(Inner::Settled(inner), left))
 }
 
 // These streams, from this one on, were held.
@@ -197,7 +226,7 @@ fn held(
     first: u64,
     contents: &[Rc<Items>],
     parts: &[Rc<Items>],
-) -> Result<Next, Memory>
+) -> Result<Next<'static>, Memory>
     ensures { IfOk result (λ n. HoldsIf n (drop first (streams_of parts.now) ≡ streams_of contents.now)) }
 {
     if are_held(alloc, parts, first, contents)? {
@@ -237,7 +266,7 @@ fn is_refused(ending: &Ending) -> bool
 pub fn take_entered(
     way: &mut Way,
     came: Result<Box<Outcome>, Memory>,
-    call: Box<Call>,
+    call: Inner<'_>,
 ) -> Result<Gone, Memory>
     ensures { IfOk result (λ gone. Takes gone came way.old way.new) }
 {

@@ -625,7 +625,7 @@ go_on-returns-in-Enter-clause-goes g t c =
     let x = c.in_ok-next_done.field-0 in
     let n : IsNext x i.call i.below (streams_of way.parts.items) e = rw (sym c.as_slice.ensures.value) c.in_ok-next_done.ensures in
     if_ok c.take_entered.result c.take_entered.ensures (λ l h.
-    gone_entered s i all (entries_of c.means-came.new.memo) way c.take_entered.new.way e x c.in-Enter.inner c.deref.result.now c.in-Enter.left c.means-came.result l c.deref.ensures n c.in-Enter.is
+    gone_entered s i all (entries_of c.means-came.new.memo) way c.take_entered.new.way e x c.in-Enter.inner c.as_call-call.result.now c.in-Enter.left c.means-came.result l c.as_call-call.ensures n c.in-Enter.is
     c.means-came.ensures.keeps c.means-came.ensures.lasts c.means-came.ensures.meaning h)
 
 pub go_on-returns-in-Enter-clause-sure : goal.go_on-returns-in-Enter-clause-sure
@@ -659,7 +659,7 @@ go_on-returns-in-Refer-clause-goes g t c =
     let x = c.in_ok-next_done.field-0 in
     let n : IsNext x i.call i.below (streams_of way.parts.items) e = rw (sym c.as_slice.ensures.value) c.in_ok-next_done.ensures in
     if_ok c.take_reference.result c.take_reference.ensures (λ l h.
-    gone_referred s i all (entries_of c.refer-came.new.memo) way c.take_reference.new.way e x c.in-Refer.needed c.deref-in-Refer.result.now c.in-Refer.left c.refer-came.result l c.deref-in-Refer.ensures n c.in-Refer.is
+    gone_referred s i all (entries_of c.refer-came.new.memo) way c.take_reference.new.way e x c.in-Refer.needed c.deref.result.now c.in-Refer.left c.refer-came.result l c.deref.ensures n c.in-Refer.is
     c.refer-came.ensures.keeps c.refer-came.ensures.settles h)
 
 pub go_on-returns-in-Refer-clause-sure : goal.go_on-returns-in-Refer-clause-sure
