@@ -12,10 +12,12 @@ use xt_engine::{Call, Ran};
 
 impl Record {
     /// Keeps what a call came to. Takes no memory.
-    pub fn new(call: Call, ran: Ran) -> Record
+    pub fn new(call: Call, mut ran: Ran) -> Record
         requires lasting { IsTrue same_ref (kept_with (call_of call) (ran_of ran)) }
         ensures { kept_in result ≡ kept_with (call_of call) (ran_of ran) }
     {
+        // Records are many and stay, so they hold no room for more.
+        ran.events.shrink_to_fit();
         Record { call, ran }
     }
 }
