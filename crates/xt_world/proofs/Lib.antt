@@ -7,4 +7,5 @@ pub mod Holding
 pub mod Keyed
 pub mod Keys
 pub mod Listed
+pub mod Plain
 pub mod Turns

@@ -21,7 +21,7 @@ mod source;
 mod stylesheet;
 mod world;
 
-pub use laws::same_run;
+pub use laws::{same_plain_choices, same_run};
 pub use parameters::{Before, Parameters};
 pub use stylesheet::Stylesheet;
 pub use world::SheetWorld;

@@ -1,6 +1,5 @@
-use Rattle.std.proofs.Common.{◌≡◌, List, [], ◌∷◌, ◌++◌, Bool, map, not, reverse, ap, sym, ◌∙◌}
+use Rattle.std.proofs.Common.{◌≡◌, List, ◌∷◌, ◌++◌, map, not, reverse, ap, sym, ◌∙◌}
 use Rattle.std.proofs.lemmas.Result.{on_ok_weaker}
-use Rattle.spec_document.specs.Name.{Expanded}
 use Rattle.spec_run.specs.Meaning.{NamedGlobal}
 use Rattle.xt_syntax.specs.SheetView.{declared_of, global_of, unit_of}
 use Rattle.xt_engine.specs.View.{named_of}
