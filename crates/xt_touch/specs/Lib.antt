@@ -1,3 +1,4 @@
+pub mod Asked
 pub mod Missing
 pub mod Sets
 pub mod View

@@ -1,14 +1,16 @@
 // Modes in which the choice of a template rule asks more than what nodes are called.
-ghost use Rattle.std.specs.Prelude.{◌≡◌, IfOk, List, [], ◌∷◌, ◌++◌, OnOk, map};
+ghost use Rattle.std.specs.Prelude.{◌≡◌, true, false, IfOk, List, [], ◌∷◌, ◌++◌, Option, OnOk, map};
 ghost use Rattle.std.specs.List.{list_all};
+ghost use Rattle.spec_document.specs.Name as name;
 ghost use Rattle.spec_expression.specs.Syntax.{exprs};
 ghost use Rattle.spec_stylesheet.specs.Sheet as sheet;
 ghost use Rattle.spec_touch.specs.Plain as spec;
-ghost use Rattle.spec_touch.specs.Plain.{AreAsking};
+ghost use Rattle.spec_touch.specs.Plain.{AreAsking, are_plain_in, is_mode_among};
 ghost use Rattle.spec_transform.specs.Choice as choice;
 ghost use Rattle.xt_syntax.specs.PartView.{alternative_of, pattern_of, pattern_step_of};
 ghost use Rattle.xt_syntax.specs.SheetView.{rule_of};
 ghost use Rattle.xt_syntax.specs.View.{expr_of};
+ghost use Rattle.xt_touch.specs.Asked.{AreAllAsking};
 
 use std::alloc::Global;
 use std::marker::Model;
@@ -32,9 +34,10 @@ impl Model for Modes {
 }
 
 impl Modes {
-    /// The modes of those of these rules whose patterns have a predicate or key().
+    /// The modes of those of these rules whose patterns have a predicate or key(), each once.
     pub fn asking(alloc: Global, rules: &[Rule]) -> Result<Modes, Memory>
-        ensures { IfOk result (λ modes. AreAsking modes (map rule_of rules.now)) }
+        ensures whole { IfOk result (λ modes. AreAsking modes (map rule_of rules.now)) }
+        ensures each { IfOk result (λ modes. (mode : Option name.Expanded) → is_mode_among modes mode ≡ true → are_plain_in mode (map rule_of rules.now) ≡ false) }
     {
         let mut list = Vec::new(alloc);
         for rule in rules {
@@ -47,25 +50,34 @@ impl Modes {
     pub(crate) fn has(&self, mode: &Option<Expanded>) -> bool
         ensures { result ≡ spec.is_mode_among self.now mode.now }
     {
-        for other in &self.list {
-            if same_mode(mode, other) {
-                return true;
-            }
-        }
-        false
+        is_among(self.list.as_slice(), mode)
     }
 }
 
-// Adds the mode of the rule where its pattern has a predicate or key().
+fn is_among(modes: &[Option<Expanded>], mode: &Option<Expanded>) -> bool
+    ensures { result ≡ spec.is_mode_among modes.now mode.now }
+{
+    for other in modes {
+        if same_mode(mode, other) {
+            return true;
+        }
+    }
+    false
+}
+
+// Adds the mode of the rule where its pattern has a predicate or key(), unless it is there already.
 fn push_if_asking(
     alloc: Global,
     list: &mut Vec<Option<Expanded>>,
     rule: &Rule,
 ) -> Result<(), Memory>
-    ensures { OnOk result ((rules : List sheet.Rule) → AreAsking list.old.items rules
-        → AreAsking list.new.items (rules ++ rule_of rule.now ∷ [])) }
+    ensures { OnOk result ((rules : List sheet.Rule) → AreAllAsking list.old.items rules
+        → AreAllAsking list.new.items (rules ++ rule_of rule.now ∷ [])) }
 {
     if is_plain_pattern(&rule.pattern) {
+        return Ok(());
+    }
+    if is_among(list.as_slice(), &rule.mode) {
         return Ok(());
     }
     list.push(copy_name_if(alloc, &rule.mode)?)?;
