@@ -21,8 +21,8 @@ use Rattle.spec_move.specs.Move.{moved_nodes}
 use Rattle.spec_node.specs.declared.node_ref.NodeRef.{NodeRef}
 use Rattle.spec_node.specs.Naming.{ref_of, same_ref}
 use Rattle.spec_touch.specs.Leads.{seen_change}
-use Rattle.spec_touch.specs.Marks.{World, WorldChange, SourceEdited, SourceMoved, answers, marks, any_marks, by_modules, by_parameter}
-use Rattle.spec_touch.specs.Marks.{IsSound, SameButSource, ComesTo, by_edit, by_move, by_modules_alone, by_value, by_anything, ComeTo, none_more, one_more}
+use Rattle.spec_touch.specs.Marks.{World, WorldChange, SourceEdited, SourceMoved, answers, marks, any_marks, by_modules, by_parameter, is_unit_among}
+use Rattle.spec_touch.specs.Marks.{IsSound, KeepsUnits, KeepsPlain, SameButSource, ComesTo, by_edit, by_move, by_modules_alone, by_value, by_anything, ComeTo, none_more, one_more}
 use Rattle.spec_touch.specs.Moved.{move_touched}
 use Rattle.spec_touch.specs.Plain.{AreAsking, spared, spared_by_move}
 use Rattle.spec_touch.specs.Touched.{is_touched}
@@ -35,26 +35,30 @@ use Rattle.spec_touch.proofs.SeenLeading.{edit-leads-seen}
 use Rattle.spec_touch.proofs.Sparing.{choice-spared}
 use Rattle.spec_touch.proofs.ToldApart.{seen-apart}
 
--- in worlds that see one source, what is asked of the source alone
-modules-unmarked : (old new : World) → new.source ≡ old.source → new.parameters ≡ old.parameters → (q : Question NodeRef)
-    → by_modules q ≡ false
-    → answers old q ≡ answers new q
-modules-unmarked old new e p (question.Step node axis test) u =
+not-false : (b : Bool) → not b ≡ false → b ≡ true
+not-false true h = refl
+not-false false h = absurd (cc)
+
+-- in worlds that see one source, what is asked of the source alone, of units that are the same, and choices that are kept
+modules-unmarked : (units : List NodeRef) (asking : Option (List (Option Expanded))) (old new : World) → new.source ≡ old.source
+    → new.parameters ≡ old.parameters → KeepsUnits units old new → KeepsPlain asking old new → (q : Question NodeRef)
+    → by_modules units asking q ≡ false → answers old q ≡ answers new q
+modules-unmarked units asking old new e p k c (question.Step node axis test) u =
     λ i. truth_by ref_of same_ref old.called old.sheet old.parameters (entries_of (sym e i)) (question.Step node axis test)
-modules-unmarked old new e p (question.Text node) u =
+modules-unmarked units asking old new e p k c (question.Text node) u =
     λ i. truth_by ref_of same_ref old.called old.sheet old.parameters (entries_of (sym e i)) (question.Text node)
-modules-unmarked old new e p (question.Name node) u =
+modules-unmarked units asking old new e p k c (question.Name node) u =
     λ i. truth_by ref_of same_ref old.called old.sheet old.parameters (entries_of (sym e i)) (question.Name node)
-modules-unmarked old new e p (question.Place node) u =
+modules-unmarked units asking old new e p k c (question.Place node) u =
     λ i. truth_by ref_of same_ref old.called old.sheet old.parameters (entries_of (sym e i)) (question.Place node)
-modules-unmarked old new e p (question.Order nodes) u =
+modules-unmarked units asking old new e p k c (question.Order nodes) u =
     λ i. truth_by ref_of same_ref old.called old.sheet old.parameters (entries_of (sym e i)) (question.Order nodes)
-modules-unmarked old new e p (question.Copy node) u =
+modules-unmarked units asking old new e p k c (question.Copy node) u =
     λ i. truth_by ref_of same_ref old.called old.sheet old.parameters (entries_of (sym e i)) (question.Copy node)
-modules-unmarked old new e p (question.External name) u = λ i. Passed (sym p i name)
-modules-unmarked old new e p (question.Key name value) u = absurd (cc)
-modules-unmarked old new e p (question.Choice node mode candidates) u = absurd (cc)
-modules-unmarked old new e p (question.Unit element) u = absurd (cc)
+modules-unmarked units asking old new e p k c (question.External name) u = λ i. Passed (sym p i name)
+modules-unmarked units asking old new e p k c (question.Key name value) u = absurd (cc)
+modules-unmarked units asking old new e p k c (question.Choice node mode candidates) u = c node mode candidates u
+modules-unmarked units asking old new e p k c (question.Unit element) u = k element (not-false (is_unit_among units element) u)
 
 -- with one stylesheet and one source
 parameter-unmarked : (given : List ℕ) (old new : World) → ((other : List ℕ) → bytes_eq given other ≡ false
@@ -152,7 +156,8 @@ world-unmarked (by_edit {old = old} {new = new} {asking = asking} rules edit bef
 world-unmarked (by_move {old = old} {new = new} {change = change} {asking = asking} path other sound is told plain same) q u =
     move-kept old.sheet old.parameters old.called asking plain q path other old.source sound change u new.source is told
     ∙ but-source old new same new.source refl q
-world-unmarked (by_modules_alone {old = old} {new = new} e p) q u = modules-unmarked old new e p q u
+world-unmarked (by_modules_alone {units = units} {asking = asking} {old = old} {new = new} e p k c) q u =
+    modules-unmarked units asking old new e p k c q u
 world-unmarked (by_value {name = name} {old = old} {new = new} h s c e) q u = parameter-unmarked name old new h s c e q u
 world-unmarked by_anything q u = absurd (cc)
 

@@ -1,5 +1,5 @@
 -- The choice of a rule that a move spares is the same before and after.
-use Rattle.std.proofs.Common.{◌≡◌, ℕ, ◌-◌, true, false, cond, List, [], ◌∷◌, Option, Some, sym, ap, ◌∙◌, subst}
+use Rattle.std.proofs.Common.{◌≡◌, ℕ, ◌-◌, true, false, List, [], ◌∷◌, Option, Some, sym, ap, ◌∙◌, subst}
 use Rattle.std.specs.Prelude.{◌&&◌, Ok}
 use Rattle.spec_document.specs.declared.axis.Axis.TheVariants as axis
 use Rattle.spec_document.specs.Forest.{Empty, Node, Document, labels, IsNormal}

@@ -1,4 +1,5 @@
 pub mod Asked
 pub mod Missing
+pub mod Sameness
 pub mod Sets
 pub mod View

@@ -1,12 +1,17 @@
--- Sets of numbers, seen as lists of which it counts alone what is among them.
+-- Sets of numbers and of elements, seen as lists of which it counts alone what is among them.
 use Rattle.std.specs.Prelude.{ℕ, ◌≡◌, ◌==◌, Bool, ◌&&◌, List, ◌∷◌, ◌++◌}
 use Rattle.spec_change.specs.Change.{Change, is_among}
 use Rattle.spec_node.specs.declared.node_ref.NodeRef.{NodeRef}
+use Rattle.spec_touch.specs.Marks.{is_unit_among}
 use Rattle.spec_touch.specs.Touched.{is_attribute}
 
 -- the same numbers are among both
 abbrev pub AreSame : (numbers others : List ℕ) → Type 0
 AreSame numbers others = (n : ℕ) → is_among numbers n ≡ is_among others n
+
+-- the same elements
+abbrev pub AreSameElements : (elements others : List NodeRef) → Type 0
+AreSameElements elements others = (element : NodeRef) → is_unit_among elements element ≡ is_unit_among others element
 
 -- the sets that a change is looked up in: the nodes that go or come, the node of the change with those above it, and its children before and after
 pub record AreSetsOf (change : Change) (moving holding children : List ℕ) : Type 0 where

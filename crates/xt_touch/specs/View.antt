@@ -16,7 +16,7 @@ use Rattle.xt_touch.specs.declared.world_change.WorldChange.TheVariants as code
 abbrev pub world_change_of : WorldChange → spec.WorldChange
 world_change_of (code.SourceEdited change asking) = spec.SourceEdited (change_in change) asking
 world_change_of (code.SourceMoved change asking) = spec.SourceMoved (move_change_in change) asking
-world_change_of code.ModulesChanged = spec.ModulesChanged
+world_change_of (code.ModulesChanged units asking) = spec.ModulesChanged units asking
 world_change_of (code.ParameterGiven name) = spec.ParameterGiven name
 world_change_of code.Anything = spec.Anything
 
@@ -27,7 +27,7 @@ moved_by (moves.Between left entered) = between left entered
 abbrev pub caused_by : Cause → spec.WorldChange
 caused_by (cause.Edit change asking) = spec.SourceEdited change asking
 caused_by (cause.Move marks asking) = spec.SourceMoved (moved_by marks) asking
-caused_by cause.Modules = spec.ModulesChanged
+caused_by (cause.Modules units asking) = spec.ModulesChanged units asking
 caused_by (cause.Parameter name) = spec.ParameterGiven name
 caused_by cause.Anything = spec.Anything
 

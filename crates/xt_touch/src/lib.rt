@@ -9,6 +9,7 @@
 //! ```
 #![tactic(auto)]
 
+mod elements;
 mod marks;
 mod modes;
 mod moved;
@@ -18,6 +19,7 @@ mod since;
 mod source;
 mod world_change;
 
+pub use elements::Elements;
 pub use marks::Marks;
 pub use modes::Modes;
 pub use sight::seen_change;

@@ -6,8 +6,9 @@ ghost use Rattle.xt_touch.specs.View.{marked_by, world_change_of};
 
 use crate::moved::MoveMarks;
 use crate::source::SourceMarks;
-use crate::{Modes, WorldChange};
+use crate::{Elements, Modes, WorldChange};
 use std::alloc::Global;
+use xt_names::Expanded;
 use xt_questions::Question;
 use xt_text::{Memory, Text};
 
@@ -21,11 +22,20 @@ pub struct Marks {
 #[derive(Drop)]
 enum Cause {
     // The source, by an edit.
-    Edit { source: SourceMarks, asking: Modes },
+    Edit {
+        source: SourceMarks,
+        asking: Modes,
+    },
     // The source, by a move.
-    Move { moved: MoveMarks, asking: Modes },
-    // Modules.
-    Modules,
+    Move {
+        moved: MoveMarks,
+        asking: Modes,
+    },
+    // Modules, but for the units of these elements, and for choices in other modes.
+    Modules {
+        units: Elements,
+        asking: Option<Modes>,
+    },
     // The parameter of this name.
     Parameter(Text),
     // Perhaps anything.
@@ -46,7 +56,7 @@ impl Marks {
                 moved: MoveMarks::new(alloc, change)?,
                 asking,
             },
-            WorldChange::ModulesChanged => Cause::Modules,
+            WorldChange::ModulesChanged { units, asking } => Cause::Modules { units, asking },
             WorldChange::ParameterGiven(name) => Cause::Parameter(name),
             WorldChange::Anything => Cause::Anything,
         };
@@ -64,16 +74,17 @@ impl Marks {
             Cause::Move { moved, asking } => {
                 moved.touches(question) && !moved.spares(asking, question)
             }
-            Cause::Modules => by_modules(question),
+            Cause::Modules { units, asking } => by_modules(units, asking, question),
             Cause::Parameter(name) => by_parameter(name, question),
             Cause::Anything => true,
         }
     }
 }
 
-// Whether the answer tells of the stylesheet, or rests on what stands in it.
-fn by_modules(question: &Question) -> bool
-    ensures { result ≡ spec.by_modules (question_of question.now) }
+// Whether the answer tells of the stylesheet, or rests on what stands in it, and not on these units alone, nor on rules
+// whose patterns have no predicate and no key().
+fn by_modules(units: &Elements, asking: &Option<Modes>, question: &Question) -> bool
+    ensures { result ≡ spec.by_modules units.now asking.now (question_of question.now) }
 {
     match question {
         Question::Step(_, _, _) => false,
@@ -82,10 +93,20 @@ fn by_modules(question: &Question) -> bool
         Question::Place(_) => false,
         Question::Order(_) => false,
         Question::Key(_, _) => true,
-        Question::Choice(_, _, _) => true,
+        Question::Choice(_, mode, _) => in_mode(asking, mode),
         Question::Copy(_) => false,
-        Question::Unit(_) => true,
+        Question::Unit(element) => !units.has(*element),
         Question::External(_) => false,
+    }
+}
+
+// Whether it is one of these modes; where there are none, any is.
+fn in_mode(asking: &Option<Modes>, mode: &Option<Expanded>) -> bool
+    ensures { result ≡ spec.in_mode asking.now mode.now }
+{
+    match asking {
+        None => true,
+        Some(asking) => asking.has(mode),
     }
 }
 

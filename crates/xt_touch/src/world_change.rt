@@ -1,5 +1,5 @@
 // Changes of a world.
-use crate::Modes;
+use crate::{Elements, Modes};
 use xt_edit::{Change, MoveChange};
 use xt_text::Text;
 
@@ -19,7 +19,12 @@ pub enum WorldChange {
         asking: Modes,
     },
     /// Modules come, go or are edited, and by the rules for white space the source is seen as before.
-    ModulesChanged,
+    ModulesChanged {
+        /// Elements whose units are as they were: all other units are marked.
+        units: Elements,
+        /// Where the template rules are as they were, as for an edit; where they may be others, each choice is marked.
+        asking: Option<Modes>,
+    },
     /// The parameter of this name is given, with another value than before or for the first time.
     ParameterGiven(Text),
     /// Anything may be another, as where another source is given, or where the source is seen otherwise.
