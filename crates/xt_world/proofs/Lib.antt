@@ -1,4 +1,5 @@
 pub mod Answering
+pub mod Both
 pub mod Choosing
 pub mod Elements
 pub mod First

@@ -9,6 +9,7 @@
 //! ```
 #![tactic(auto)]
 
+mod common;
 mod found;
 mod index;
 mod key;
@@ -21,6 +22,7 @@ mod source;
 mod stylesheet;
 mod world;
 
+pub use common::{same_rules, same_units};
 pub use laws::{same_plain_choices, same_run};
 pub use parameters::{Before, Parameters};
 pub use stylesheet::Stylesheet;

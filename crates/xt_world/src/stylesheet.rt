@@ -4,11 +4,13 @@ ghost use Rattle.spec_stylesheet.specs.Sheet as spec;
 ghost use Rattle.xt_syntax.specs.SheetView.{sheet_of, unit_of};
 ghost use Rattle.xt_questions.specs.View.{resolved_of};
 ghost use Rattle.xt_engine.specs.View.{named_of};
+ghost use Rattle.xt_world.specs.Alike.{unit_told};
 ghost use Rattle.xt_world.specs.Answering.{AnswersAs};
 ghost use Rattle.xt_world.specs.Indexed.{AreGlobals, AreNamed, AreTemplates};
 ghost use Rattle.xt_world.specs.PartsView.{AreParts};
 ghost use Rattle.xt_world.specs.Turned.{numbers_in, units_of};
 ghost use Rattle.xt_world.specs.Units.{called_among, global_before, globals_among, plain_aliases, plain_units, resolved_among};
+ghost use Rattle.xt_world.specs.View.{unit_at_turn, unit_held};
 
 use crate::index::{Index, index_of};
 use crate::key::NameKey;
@@ -64,6 +66,27 @@ impl Stylesheet {
             turns: parts.turns,
             globals: parts.globals,
         })
+    }
+
+    /// The unit whose element is called so. Takes no memory.
+    pub(crate) fn unit_at(&self, element: &NodeRef) -> Option<&Rc<ResolvedUnit>>
+        ensures { unit_told result ≡ unit_held self.now element.now }
+    {
+        match self.turns.get(&element.node.number) {
+            None => None,
+            Some(turn) => self.unit_at_turn(element, *turn),
+        }
+    }
+
+    // The unit of this turn, where its element is called so.
+    fn unit_at_turn(&self, element: &NodeRef, turn: u64) -> Option<&Rc<ResolvedUnit>>
+        ensures { unit_told result ≡ unit_at_turn self.now element.now turn }
+    {
+        let index = turn as usize;
+        match (self.elements.get(index), self.units.get(index)) {
+            (Some(name), Some(unit)) => { if name == element { Some(unit) } else { None } }
+            _ => None,
+        }
     }
 }
 

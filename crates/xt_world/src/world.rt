@@ -6,7 +6,7 @@ ghost use Rattle.spec_meaning.specs.Question as question;
 ghost use Rattle.xt_questions.specs.View.{answer_of, candidates_of, chosen_of, question_of};
 ghost use Rattle.xt_world.specs.ParameterView.{parameters_of};
 ghost use Rattle.xt_world.specs.SourceView.{source_of};
-ghost use Rattle.xt_world.specs.View.{GivesNumber, choice_by, copy_in, rule_held, rule_numbered, said_of, truth_over, unit_at_turn, unit_held};
+ghost use Rattle.xt_world.specs.View.{GivesNumber, choice_by, copy_in, rule_held, rule_numbered, said_of, truth_over, unit_held};
 
 use crate::source::Source;
 use crate::{Parameters, Stylesheet};
@@ -142,30 +142,13 @@ fn passed(alloc: Global, parameters: &Parameters, name: &Text) -> Result<Answer,
     }
 }
 
-/// The unit whose element is called so.
+// The unit whose element is called so.
 fn unit(stylesheet: &Stylesheet, element: &NodeRef) -> Result<Answer, Memory>
     ensures { IfOk result (λ a. answer_of a ≡ unit_held stylesheet.now element.now) }
 {
-    match stylesheet.turns.get(&element.node.number) {
+    match stylesheet.unit_at(element) {
         None => Ok(Answer::Gone),
-        Some(turn) => unit_at_turn(stylesheet, element, *turn),
-    }
-}
-
-// The unit of this turn, where its element is called so.
-fn unit_at_turn(stylesheet: &Stylesheet, element: &NodeRef, turn: u64) -> Result<Answer, Memory>
-    ensures { IfOk result (λ a. answer_of a ≡ unit_at_turn stylesheet.now element.now turn) }
-{
-    let index = turn as usize;
-    match (stylesheet.elements.get(index), stylesheet.units.get(index)) {
-        (Some(name), Some(unit)) => {
-            if name == element {
-                Ok(Answer::Resolved(unit.clone()?))
-            } else {
-                Ok(Answer::Gone)
-            }
-        }
-        _ => Ok(Answer::Gone),
+        Some(unit) => Ok(Answer::Resolved(unit.clone()?)),
     }
 }
 
