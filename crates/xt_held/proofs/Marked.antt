@@ -7,14 +7,14 @@ use Rattle.spec_stylesheet.specs.Sheet as plain
 use Rattle.spec_stylesheet.specs.declared.method.Method.{Method}
 use Rattle.spec_seen.specs.Seen.{seen}
 use Rattle.spec_structure.specs.Modules.{Modules}
-use Rattle.spec_meaning.specs.Question.{Question}
+use Rattle.spec_meaning.specs.Question.{Question, Choice, Unit}
 use Rattle.spec_run.specs.Documents.{Parameters, main_name}
 use Rattle.spec_edit.specs.Edit as spec
 use Rattle.spec_change.specs.Change.{Change, IsEdit, change_of}
 use Rattle.spec_move.specs.Changed.{MoveChange, IsMove, move_change}
 use Rattle.spec_node.specs.declared.node_ref.NodeRef.{NodeRef}
 use Rattle.spec_touch.specs.Leads.{Leads, seen_change}
-use Rattle.spec_touch.specs.Marks.{SourceEdited, SourceMoved, ModulesChanged, ParameterGiven, Anything, WorldChange, answers}
+use Rattle.spec_touch.specs.Marks.{KeepsPlain, KeepsUnits, SourceEdited, SourceMoved, ModulesChanged, ParameterGiven, Anything, WorldChange, answers}
 use Rattle.spec_touch.specs.Plain.{AreAsking}
 use Rattle.xt_touch.specs.View.{remembered}
 use Rattle.xt_syntax.specs.SheetView.{rules_of, space_rules_of}
@@ -26,6 +26,7 @@ use Rattle.xt_world.specs.ParameterView.{with_value}
 use Rattle.xt_world.specs.View.{truth_in}
 use Rattle.xt_world.specs.declared.stylesheet.Stylesheet as world
 use Rattle.xt_tree.specs.Numbers.{IsNumbered}
+use Rattle.xt_held.specs.Alike.{ChooseAlike, HaveUnitsAlike}
 use Rattle.xt_held.specs.RunView.{AnswersAsSome, IsFaultless, KeptSpared, SeesAll, StaysSpared, truth_seen}
 use Rattle.xt_held.specs.StylesheetView.{AnswersAs, AreCompiled, AreCompiledBy, IsCompiledFrom}
 use Rattle.xt_held.specs.View.{IsCurrent, IsKnown}
@@ -134,19 +135,27 @@ move_stays answering held rules method parameters path other old new all faultle
 -- ---- After a change of modules
 
 pub modules_stay : Answering → (held other : world.Stylesheet) (rules others : SpaceRules) (method another : Option (Method Expanded)) (parameters : Parameters)
-    (source : Option (Document ℕ)) → space_rules_of others ≡ space_rules_of rules → (changes next : List WorldChange) → next ≡ remembered changes ModulesChanged
+    (source : Option (Document ℕ)) → space_rules_of others ≡ space_rules_of rules → (units : List NodeRef) (asking : Option (List (Option Expanded)))
+    → HaveUnitsAlike held other units → ChooseAlike held other asking
+    → (changes next : List WorldChange) → next ≡ remembered changes (ModulesChanged units asking)
     → StaysSpared (Some (Stylesheet held rules method)) (Some (Stylesheet other others another)) parameters parameters source source changes next
-modules_stay answering held other rules others method another parameters None see changes next e = λ pool was is h. tt
-modules_stay answering held other rules others method another parameters (Some source) see changes next e = λ pool was is h.
+modules_stay answering held other rules others method another parameters None see units asking kept choosing changes next e = λ pool was is h. tt
+modules_stay answering held other rules others method another parameters (Some source) see units asking kept choosing changes next e = λ pool was is h.
     let old = seen (space_rules_of rules).rules source in
     let new = seen (space_rules_of others).rules source in
     let same : new ≡ old = ap (λ (rs : plain.SpaceRules). seen rs.rules source) see in
     let before = world_of was.0 (named_by held was.0 was.1) parameters old in
     let after = world_of is.0 (named_by other is.0 is.1) parameters new in
+    let units_kept : KeepsUnits units before after = λ element m.
+    sym (answered held was.0 was.1 parameters old (Unit element)) ∙ kept element m ∙ answered other is.0 is.1 parameters new (Unit element) in
+    let choices_kept : KeepsPlain asking before after = λ node mode candidates m.
+    let q = Choice node mode candidates in
+    sym (answered held was.0 was.1 parameters old q) ∙ choosing parameters old node mode candidates m
+    ∙ ap (λ (d : Document ℕ). truth_in other parameters d q) (sym same) ∙ answered other is.0 is.1 parameters new q in
+    let comes = modules_come was.0 is.0 (named_by held was.0 was.1) (named_by other is.0 is.1) parameters old new same units asking units_kept choices_kept in
     subst (λ (cs : List WorldChange). Spares (truth_in other parameters new) pool cs) (sym e)
-    (spared_after changes ModulesChanged (truth_in held parameters old) (truth_in other parameters new)
-    (alike answering ModulesChanged before after (modules_come was.0 is.0 (named_by held was.0 was.1) (named_by other is.0 is.1) parameters old new same)
-    (truth_in held parameters old) (truth_in other parameters new)
+    (spared_after changes (ModulesChanged units asking) (truth_in held parameters old) (truth_in other parameters new)
+    (alike answering (ModulesChanged units asking) before after comes (truth_in held parameters old) (truth_in other parameters new)
     (answered held was.0 was.1 parameters old) (answered other is.0 is.1 parameters new)) pool h)
 
 -- ---- After a parameter is given another value

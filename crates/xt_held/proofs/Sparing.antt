@@ -26,7 +26,7 @@ use Rattle.xt_tree.specs.Numbers.{IsNumbered, are_distinct}
 use Rattle.xt_tree.proofs.Bools.{not_true, true_false}
 use Rattle.spec_touch.specs.Leads.{KeepsSpace, Leads, seen_change}
 use Rattle.spec_touch.specs.Marks.{ComesTo, by_edit, by_move, by_modules_alone, by_value, SourceEdited, SourceMoved, ModulesChanged, ParameterGiven, Anything}
-use Rattle.spec_touch.specs.Marks.{IsSound, SameButSource, World, WorldChange, answers, any_marks, marks}
+use Rattle.spec_touch.specs.Marks.{IsSound, KeepsPlain, KeepsUnits, SameButSource, World, WorldChange, answers, any_marks, marks}
 use Rattle.spec_touch.specs.Plain.{AreAsking}
 use Rattle.spec_touch.proofs.Answering.{neither-first, neither-second}
 use Rattle.xt_touch.specs.View.{most_remembered, remembered}
@@ -149,8 +149,11 @@ move_comes sheet called parameters asking path other old new sound q change told
 -- ---- Modules and parameters
 
 pub modules_come : (sheet other : Sheet) (called named : Place → NodeRef) (parameters : Parameters) (old new : Document ℕ) → new ≡ old
-    → ComesTo ModulesChanged (world_of sheet called parameters old) (world_of other named parameters new)
-modules_come sheet other called named parameters old new e = by_modules_alone e refl
+    → (units : List NodeRef) (asking : Option (List (Option Expanded)))
+    → KeepsUnits units (world_of sheet called parameters old) (world_of other named parameters new)
+    → KeepsPlain asking (world_of sheet called parameters old) (world_of other named parameters new)
+    → ComesTo (ModulesChanged units asking) (world_of sheet called parameters old) (world_of other named parameters new)
+modules_come sheet other called named parameters old new e units asking kept plain = by_modules_alone e refl kept plain
 
 other_way : (a b : List ℕ) → bytes_eq a b ≡ false → bytes_eq b a ≡ false
 other_way a b h = not_true (bytes_eq b a) (λ e. true_false (sym ((bytes_eq-Decides a b).1 (sym ((bytes_eq-Decides b a).0 e))) ∙ h))

@@ -1,3 +1,4 @@
+pub mod Alike
 pub mod Unread
 pub mod StylesheetView
 pub mod OutcomeView

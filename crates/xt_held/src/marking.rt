@@ -1,5 +1,5 @@
 // What changed since the last run that ended with a result, after one change more.
-ghost use Rattle.std.specs.Prelude.{◌≡◌, ℕ, List, Option, IfOk, Some, true};
+ghost use Rattle.std.specs.Prelude.{◌≡◌, ℕ, List, Option, IfOk, Some, false, true};
 ghost use Rattle.std.specs.Option.{option_copied};
 ghost use Rattle.spec_document.specs.Forest.{Document};
 ghost use Rattle.spec_document.specs.Name.{Expanded};
@@ -16,7 +16,9 @@ ghost use Rattle.xt_syntax.specs.SheetView.{space_rules_of};
 ghost use Rattle.xt_syntax.specs.declared.space_rules.SpaceRules.{SpaceRules as Rules};
 ghost use Rattle.xt_touch.specs.View.{since_of};
 ghost use Rattle.xt_world.specs.ParameterView.{with_value};
-ghost use Rattle.xt_world.specs.declared.stylesheet.Stylesheet as world;
+ghost use Rattle.spec_node.specs.declared.node_ref.NodeRef.{NodeRef};
+ghost use Rattle.spec_touch.specs.Marks.{is_unit_among};
+ghost use Rattle.xt_held.specs.Alike.{ChooseAlike};
 ghost use Rattle.xt_held.specs.RunView.{IsFaultless, SeeAlike, SeesAll, StaysSpared, last_known};
 ghost use Rattle.xt_held.specs.declared.stylesheet.Compiled.{Compiled as What};
 ghost use Rattle.xt_held.specs.declared.stylesheet.Compiled.TheVariants as compiled;
@@ -30,9 +32,9 @@ use xt_edit::{Change, Edit, change_of, move_change_of};
 use xt_strip::seen;
 use xt_syntax::SpaceRules;
 use xt_text::{Memory, Path, Text};
-use xt_touch::{Modes, Since, WorldChange, seen_change};
+use xt_touch::{Elements, Modes, Since, WorldChange, seen_change};
 use xt_tree::Doc;
-use xt_world::Stylesheet;
+use xt_world::{Stylesheet, same_plain_choices, same_rules};
 
 /// After this edit, which makes the new source of the old one.
 pub(crate) fn since_edit(
@@ -197,38 +199,78 @@ pub(crate) fn since_modules(
         None => since.copy(alloc),
         Some(new) => match new {
             Compiled::Refused(_) => since.copy(alloc),
-            Compiled::Stylesheet(_, space_rules, _) => {
-                since_stylesheet(alloc, known, since, space_rules)
+            Compiled::Stylesheet(stylesheet, space_rules, _) => {
+                since_stylesheet(alloc, known, since, stylesheet, space_rules)
             }
         },
     }
 }
 
-// After a change of modules, which are a stylesheet with these rules for white space from then on. Where the source is seen
-// otherwise, anything may be another.
+// After a change of modules, which are this stylesheet with these rules for white space from then on. Where the source is
+// seen otherwise, anything may be another.
 fn since_stylesheet(
     alloc: Global,
     known: Option<&Compiled>,
     since: &Since,
+    stylesheet: &Stylesheet,
     space_rules: &SpaceRules,
 ) -> Result<Since, Memory>
-    ensures { (stylesheet : world.Stylesheet) (method : Option (Method Expanded)) (parameters : Parameters) (source : Option (Document ℕ)) → IfOk result (λ next.
-        StaysSpared (option_copied known.entry) (Some (compiled.Stylesheet stylesheet space_rules.now method)) parameters parameters source source
+    ensures { (method : Option (Method Expanded)) (parameters : Parameters) (source : Option (Document ℕ)) → IfOk result (λ next.
+        StaysSpared (option_copied known.entry) (Some (compiled.Stylesheet stylesheet.now space_rules.now method)) parameters parameters source source
         (since_of since.now) (since_of next)) }
 {
-    unmarked_questions_keep_their_answers_in_worlds();
     match known {
         None => Since::anything(alloc),
         Some(known) => match known {
             Compiled::Refused(_) => Since::anything(alloc),
-            Compiled::Stylesheet(_, rules, _) => {
+            Compiled::Stylesheet(old, rules, _) => {
                 if !space_rules.same(rules) {
                     return Since::anything(alloc);
                 }
-                since.and(alloc, WorldChange::ModulesChanged)
+                since_other(alloc, since, old, stylesheet)
             }
         },
     }
+}
+
+// After a change from one stylesheet to another by which the source is seen as before.
+fn since_other(
+    alloc: Global,
+    since: &Since,
+    old: &Stylesheet,
+    new: &Stylesheet,
+) -> Result<Since, Memory>
+    ensures { (rules others : Rules) (method another : Option (Method Expanded)) (parameters : Parameters) (source : Option (Document ℕ))
+        → space_rules_of others ≡ space_rules_of rules → IfOk result (λ next.
+        StaysSpared (Some (compiled.Stylesheet old.now rules method)) (Some (compiled.Stylesheet new.now others another)) parameters parameters
+        source source (since_of since.now) (since_of next)) }
+{
+    unmarked_questions_keep_their_answers_in_worlds();
+    let units = no_units(alloc)?;
+    let Ok(asking) = modes_alike(alloc, old, new) else {
+        drop(units);
+        return Err(Memory);
+    };
+    since.and(alloc, WorldChange::ModulesChanged { units, asking })
+}
+
+// The elements whose units need not be asked for: none. So a change of modules asks one question at least of a run that is
+// served whole, its own template, as the numbers of `stats` are to tell.
+fn no_units(alloc: Global) -> Result<Elements, Memory>
+    ensures { IfOk result (λ units. (element : NodeRef) → is_unit_among units element ≡ false) }
+{
+    Elements::of(alloc, &[])
+}
+
+// Where both have the same rules, the modes in which choices may still differ.
+fn modes_alike(alloc: Global, old: &Stylesheet, new: &Stylesheet) -> Result<Option<Modes>, Memory>
+    ensures { IfOk result (λ asking. ChooseAlike old.now new.now asking) }
+{
+    if !same_rules(old, new) {
+        return Ok(None);
+    }
+    same_plain_choices();
+    Ok(Some(Modes::asking(alloc, old.rules.rules.as_slice())?))
 }
 
 /// After the parameter of this name was given another value.

@@ -16,5 +16,5 @@ returns c = λ method parameters.
     c.args.stylesheet.now c.args.space_rules.now method parameters (edit_of c.args.edit.now) c.args.old.now c.args.new.now c.requires.faultless
     c.distinct_numbers.ensures c.requires.edit (change_in c.in_ok-told.told) (change_in c.in_ok-change.change) c.in_ok-told.ensures c.in_ok-change.ensures
     c.in-Ok.asking
-    (subst (λ (rs : List Rule). AreAsking c.in-Ok.asking (map rule_of rs)) c.as_slice.ensures.value c.in-Ok.ensures)
+    (subst (λ (rs : List Rule). AreAsking c.in-Ok.asking (map rule_of rs)) c.as_slice.ensures.value c.in-Ok.ensures.whole)
     (since_of c.args.since.now) (since_of next) is) c.and.ensures

@@ -28,4 +28,4 @@ returns-in-Stylesheet c = λ parameters source.
     let what = option_copied c.args.known in
     subst (λ (new : Option Compiled). IfOk c.since_stylesheet.result (λ next. StaysSpared what (last_known new what) parameters parameters source source
     (since_of c.args.since.now) (since_of next))) (sym (ap option_copied c.in-Some.is ∙ ap Some c.in-Stylesheet.is))
-    (c.since_stylesheet.ensures c.in-Stylesheet.field-0 c.in-Stylesheet.field-2 parameters source)
+    (c.since_stylesheet.ensures c.in-Stylesheet.field-2 parameters source)

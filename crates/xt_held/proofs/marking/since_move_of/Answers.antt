@@ -24,5 +24,5 @@ returns-in-Ok c = λ rules method parameters all.
     c.args.old.now c.args.new.now all c.requires.faultless c.distinct_numbers.ensures c.requires.moved (move_change_in c.in-Some.change)
     (sym c.in_ok-move_change_of.ensures ∙ ap (option_map move_change_in) c.in-Some.is)
     c.in-Ok.asking
-    (subst (λ (rs : List Rule). AreAsking c.in-Ok.asking (map rule_of rs)) c.as_slice.ensures.value c.in-Ok.ensures)
+    (subst (λ (rs : List Rule). AreAsking c.in-Ok.asking (map rule_of rs)) c.as_slice.ensures.value c.in-Ok.ensures.whole)
     (since_of c.args.since.now) (since_of next) is) c.and.ensures

@@ -6,32 +6,31 @@ use Rattle.xt_touch.specs.View.{since_of}
 use Rattle.xt_held.specs.RunView.{StaysSpared}
 use Rattle.xt_held.specs.declared.stylesheet.Compiled.{Compiled}
 use Rattle.xt_held.specs.declared.stylesheet.Compiled.TheVariants as compiled
-use Rattle.xt_held.proofs.Marked.{anything_stays, modules_stay}
+use Rattle.xt_held.proofs.Marked.{anything_stays}
 use Rattle.xt_held.proofs.marking.since_stylesheet.Goals as goal
 
 pub returns-in-None : goal.returns-in-None
-returns-in-None c = λ stylesheet method parameters source.
+returns-in-None c = λ method parameters source.
     IfOk-weaker c.anything.result _ _ (λ next is.
-    anything_stays (option_copied c.args.known) (Some (compiled.Stylesheet stylesheet c.args.space_rules.now method)) parameters parameters source source
+    anything_stays (option_copied c.args.known) (Some (compiled.Stylesheet c.args.stylesheet.now c.args.space_rules.now method)) parameters parameters source source
     (since_of c.args.since.now) (since_of next) is) c.anything.ensures
 
 pub returns-in-Refused : goal.returns-in-Refused
-returns-in-Refused c = λ stylesheet method parameters source.
+returns-in-Refused c = λ method parameters source.
     IfOk-weaker c.anything-in-Refused.result _ _ (λ next is.
-    anything_stays (option_copied c.args.known) (Some (compiled.Stylesheet stylesheet c.args.space_rules.now method)) parameters parameters source source
+    anything_stays (option_copied c.args.known) (Some (compiled.Stylesheet c.args.stylesheet.now c.args.space_rules.now method)) parameters parameters source source
     (since_of c.args.since.now) (since_of next) is) c.anything-in-Refused.ensures
 
 pub returns-then-not-same : goal.returns-then-not-same
-returns-then-not-same c = λ stylesheet method parameters source.
+returns-then-not-same c = λ method parameters source.
     IfOk-weaker c.anything-then-not-same.result _ _ (λ next is.
-    anything_stays (option_copied c.args.known) (Some (compiled.Stylesheet stylesheet c.args.space_rules.now method)) parameters parameters source source
+    anything_stays (option_copied c.args.known) (Some (compiled.Stylesheet c.args.stylesheet.now c.args.space_rules.now method)) parameters parameters source source
     (since_of c.args.since.now) (since_of next) is) c.anything-then-not-same.ensures
 
 pub returns-else-not-same : goal.returns-else-not-same
-returns-else-not-same c = λ stylesheet method parameters source.
-    subst (λ (what : Option Compiled). IfOk c.and.result (λ next.
-    StaysSpared what (Some (compiled.Stylesheet stylesheet c.args.space_rules.now method)) parameters parameters source source (since_of c.args.since.now)
-    (since_of next))) (sym (ap option_copied c.in-Some.is ∙ ap Some c.in-Stylesheet.is))
-    (IfOk-weaker c.and.result _ _ (λ next is.
-    modules_stay c.unmarked_questions_keep_their_answers_in_worlds.ensures c.in-Stylesheet.field-0 stylesheet c.in-Stylesheet.rules c.args.space_rules.now
-    c.in-Stylesheet.field-2 method parameters source (c.same.ensures.0 c.if-not-same.false) (since_of c.args.since.now) (since_of next) is) c.and.ensures)
+returns-else-not-same c = λ method parameters source.
+    subst (λ (what : Option Compiled). IfOk c.since_other.result (λ next.
+    StaysSpared what (Some (compiled.Stylesheet c.args.stylesheet.now c.args.space_rules.now method)) parameters parameters source source
+    (since_of c.args.since.now) (since_of next))) (sym (ap option_copied c.in-Some.is ∙ ap Some c.in-Stylesheet.is))
+    (c.since_other.ensures c.in-Stylesheet.rules c.args.space_rules.now c.in-Stylesheet.field-2 method parameters source
+    (c.same.ensures.0 c.if-not-same.false))
