@@ -61,6 +61,9 @@ fn push_command(out: &mut Text, command: &Command) -> Result<(), Memory> {
         Command::Write => push_part(out, "write"),
         Command::Messages => push_part(out, "messages"),
         Command::Statistics => push_part(out, "stats"),
+        Command::Begin => push_part(out, "begin"),
+        Command::Commit => push_part(out, "commit"),
+        Command::Abandon => push_part(out, "abandon"),
         Command::Dump(document) => push_document(out, "dump", document),
         edit => push_edit(out, edit),
     }

@@ -3,6 +3,7 @@ use Rattle.std.proofs.Common.{◌≡◌, ◌≤◌, ◌<◌, arith, ℕ, ◌+◌
 use Rattle.std.proofs.Common.{ap, ◌∙◌, subst}
 use Rattle.std.proofs.Common.{inl, inr}
 use Rattle.std.specs.Prelude.{Result, Ok, Err, IsTrue, nat_eq, nat_lt, bytes_eq}
+use Rattle.std.specs.Option.{unwrap_or}
 use Rattle.std.specs.List.{list_all, list_any, IsDistinct}
 use Rattle.std.proofs.lemmas.Bool.{and_parts, eqb-true, ltb-true}
 use Rattle.std.proofs.lemmas.Map.Steps.{length-le_from_distinct_below}
@@ -25,18 +26,20 @@ use Rattle.spec_move.proofs.Faultless.{moved_valid}
 use Rattle.spec_move.proofs.Normal.{moved_normal}
 use Rattle.spec_move.proofs.Numbers.{move_numbers}
 use Rattle.spec_move.proofs.Plainly.{plain_move}
-use Rattle.spec_run.specs.Documents.{without_module, with_parameter, parameter_fault}
+use Rattle.spec_run.specs.Documents.{Documents, without_module, with_parameter, parameter_fault}
 use Rattle.spec_session.specs.Command.{Command}
 use Rattle.spec_session.specs.Request.{DocumentName, SourceName, ModuleName, Request, SetSource, SetModule, DropModule, Insert, Delete, SetText}
 use Rattle.spec_session.specs.Request.{SetAttribute}
-use Rattle.spec_session.specs.Request.{RemoveAttribute, Rename, Move, SetParameter, Show, Write, Messages, Dump, Statistics, request_of}
+use Rattle.spec_session.specs.Request.{RemoveAttribute, Rename, Move, SetParameter, Show, Write, Messages, Dump, Statistics, Begin, Commit, Abandon}
+use Rattle.spec_session.specs.Request.{request_of}
 use Rattle.spec_session.specs.Reply.{Reply}
-use Rattle.spec_session.specs.Machine.{State, initial, document_named, Answer, Refuses, Changes, ShowsResult, WritesResult, ShowsMessages}
-use Rattle.spec_session.specs.Machine.{ShowsDocument, TellsCounts}
-use Rattle.spec_session.specs.Machine.{kept_by, dropped_by, given_by, with_document, edited_by, edited_in, shows, answer_to, answer_by}
+use Rattle.spec_session.specs.Machine.{State, initial, edited_documents, named_among, document_named, Answer, Refuses, Changes, Pends, Drops}
+use Rattle.spec_session.specs.Machine.{ShowsResult, WritesResult, ShowsMessages, ShowsDocument, TellsCounts}
+use Rattle.spec_session.specs.Machine.{accepted, accepted_by, kept_by, dropped_by, given_by, with_document, edited_by, edited_in, begun, committed}
+use Rattle.spec_session.specs.Machine.{abandoned, shows, answer_to, answer_by}
 use Rattle.spec_session.specs.Machine.{answer_of as answer_in}
 use Rattle.spec_session.specs.Machine.{Gives, Step, Run}
-use Rattle.spec_afresh.specs.Afresh.{body_of, document_from, given_as}
+use Rattle.spec_afresh.specs.Afresh.{IsHeldIn, body_of, document_from, given_as}
 use Rattle.spec_afresh.specs.Characters.{HasChars}
 use Rattle.spec_afresh.proofs.Characters.{chars-plain}
 use Rattle.spec_afresh.proofs.Editing.{edit-chars}
@@ -59,8 +62,17 @@ pub record IsHeld (made : ℕ) (tree : Plain) : Type 0 where
   pub is : plain document.nodes ≡ tree
   pub well : IsWell made document
 
+-- each of these documents comes from one
+pub record AreAllHeld (made : ℕ) (documents : Documents) : Type 0 where
+  pub each : (name : DocumentName) (tree : Plain) → named_among documents name ≡ Some tree → IsHeld made tree
+
+abbrev pub ArePendingHeld : ℕ → Option Documents → Type 0
+ArePendingHeld made None = Unit {0}
+ArePendingHeld made (Some documents) = AreAllHeld made documents
+
 pub record AreHeld (state : State) : Type 0 where
-  pub each : (name : DocumentName) (tree : Plain) → document_named state name ≡ Some tree → IsHeld state.made tree
+  pub present : AreAllHeld state.made state.documents
+  pub pending : ArePendingHeld state.made state.pending
   pub limit : state.made ≤ number_limit
 
 -- ---- With more nodes made
@@ -77,6 +89,9 @@ held-later made more tree from h =
       is = h.is;
       well = record { valid = w.valid; normal = w.normal; chars = w.chars; once = w.once; below = all-later ns made more from w.below };
     }
+
+all-held-later : (made more : ℕ) (documents : Documents) → made ≤ more → AreAllHeld made documents → AreAllHeld more documents
+all-held-later made more documents from h = record { each = λ name tree e. held-later made more tree from (h.each name tree e) }
 
 -- ---- How many nodes there may be
 
@@ -100,46 +115,41 @@ held-size made tree h =
 
 -- ---- One document put in place of another
 
-put-held : (old : State) (name : DocumentName) (tree : Plain) (made : ℕ) → AreHeld old → old.made ≤ made → made ≤ number_limit → IsHeld made tree
-    → AreHeld (record { documents = with_document name tree old.documents; made = made })
-put-held old name tree made h from to own = record { each = each name; limit = to }
+put-held : (before made : ℕ) (old : Documents) (name : DocumentName) (tree : Plain) → AreAllHeld before old → before ≤ made → IsHeld made tree
+    → AreAllHeld made (with_document name tree old)
+put-held before made old name tree h from own = record { each = each name }
   where
     some : (t : Plain) → Some tree ≡ Some t → IsHeld made t
     some t e = subst (IsHeld made) (ap (λ o. elim o [ Some z ↦ z | None ↦ tree ]) e) own
 
-    before : (n : DocumentName) (t : Plain) → document_named old n ≡ Some t → IsHeld made t
-    before n t e = held-later old.made made t from (h.each n t e)
+    earlier : (n : DocumentName) (t : Plain) → named_among old n ≡ Some t → IsHeld made t
+    earlier n t e = held-later before made t from (h.each n t e)
 
     either : (b : Bool) (other : Option Plain) (t : Plain) → (other ≡ Some t → IsHeld made t) → cond b (Some tree) other ≡ Some t → IsHeld made t
     either true other t more e = some t e
     either false other t more e = more e
 
-    each : (put n : DocumentName) (t : Plain) → document_named (record { documents = with_document put tree old.documents; made = made }) n ≡ Some t
-        → IsHeld made t
+    each : (put n : DocumentName) (t : Plain) → named_among (with_document put tree old) n ≡ Some t → IsHeld made t
     each SourceName SourceName t e = some t e
-    each SourceName (ModuleName m) t e = before (ModuleName m) t e
-    each (ModuleName p) SourceName t e = before SourceName t e
-    each (ModuleName p) (ModuleName m) t e = either (bytes_eq m p) (old.documents.modules m) t (before (ModuleName m) t) e
+    each SourceName (ModuleName m) t e = earlier (ModuleName m) t e
+    each (ModuleName p) SourceName t e = earlier SourceName t e
+    each (ModuleName p) (ModuleName m) t e = either (bytes_eq m p) (old.modules m) t (earlier (ModuleName m) t) e
 
-without-held : (old : State) (name : List ℕ) → AreHeld old → AreHeld (record { documents = without_module name old.documents; made = old.made })
-without-held old name h = record { each = each; limit = h.limit }
+without-held : (made : ℕ) (old : Documents) (name : List ℕ) → AreAllHeld made old → AreAllHeld made (without_module name old)
+without-held made old name h = record { each = each }
   where
-    either : (b : Bool) (other : Option Plain) (t : Plain) → (other ≡ Some t → IsHeld old.made t) → cond b None other ≡ Some t → IsHeld old.made t
+    either : (b : Bool) (other : Option Plain) (t : Plain) → (other ≡ Some t → IsHeld made t) → cond b None other ≡ Some t → IsHeld made t
     either true other t more e = absurd (cc)
     either false other t more e = more e
 
-    each : (n : DocumentName) (t : Plain) → document_named (record { documents = without_module name old.documents; made = old.made }) n ≡ Some t
-        → IsHeld old.made t
+    each : (n : DocumentName) (t : Plain) → named_among (without_module name old) n ≡ Some t → IsHeld made t
     each SourceName t e = h.each SourceName t e
-    each (ModuleName m) t e = either (bytes_eq m name) (old.documents.modules m) t (h.each (ModuleName m) t) e
+    each (ModuleName m) t e = either (bytes_eq m name) (old.modules m) t (h.each (ModuleName m) t) e
 
-with-parameter-held : (old : State) (name value : List ℕ) → AreHeld old
-    → AreHeld (record { documents = with_parameter name value old.documents; made = old.made })
-with-parameter-held old name value h = record { each = each; limit = h.limit }
+with-parameter-held : (made : ℕ) (old : Documents) (name value : List ℕ) → AreAllHeld made old → AreAllHeld made (with_parameter name value old)
+with-parameter-held made old name value h = record { each = each }
   where
-    each : (n : DocumentName) (t : Plain)
-        → document_named (record { documents = with_parameter name value old.documents; made = old.made }) n ≡ Some t
-        → IsHeld old.made t
+    each : (n : DocumentName) (t : Plain) → named_among (with_parameter name value old) n ≡ Some t → IsHeld made t
     each SourceName t e = h.each SourceName t e
     each (ModuleName m) t e = h.each (ModuleName m) t e
 
@@ -206,20 +216,40 @@ move-held made path other tree limit h =
 abbrev IfChanged : Answer → Type 0
 IfChanged (Refuses number) = Unit {0}
 IfChanged (Changes new) = AreHeld new
+IfChanged (Pends new) = AreHeld new
+IfChanged (Drops new) = AreHeld new
 IfChanged ShowsResult = Unit {0}
 IfChanged WritesResult = Unit {0}
 IfChanged ShowsMessages = Unit {0}
 IfChanged (ShowsDocument tree) = Unit {0}
 IfChanged TellsCounts = Unit {0}
 
+-- those that a change speaks of
+edited-all : (made : ℕ) (o : Option Documents) (documents : Documents) → AreAllHeld made documents → ArePendingHeld made o
+    → AreAllHeld made (unwrap_or o documents)
+edited-all made None documents h pending = h
+edited-all made (Some documents) present h pending = pending
+
 module _ (old : State) (held : AreHeld old) where
+  current : AreAllHeld old.made (edited_documents old)
+  current = edited-all old.made old.pending old.documents held.present held.pending
+
+  taken-by : (o : Option Documents) (documents : Documents) (made : ℕ) → old.made ≤ made → made ≤ number_limit → AreAllHeld made documents
+      → IfChanged (accepted_by o old documents made)
+  taken-by None documents made from limit h = record { present = h; pending = tt; limit = limit }
+  taken-by (Some pending) documents made from limit h =
+      record { present = all-held-later old.made made old.documents from held.present; pending = h; limit = limit }
+
+  taken : (documents : Documents) (made : ℕ) → old.made ≤ made → made ≤ number_limit → AreAllHeld made documents → IfChanged (accepted old documents made)
+  taken documents made from limit h = taken-by old.pending documents made from limit h
+
   read-held : (name : DocumentName) (body : List (List ℕ)) (r : Result (Document ℕ) Fault) → document_of root_scope old.made body ≡ r
       → IfChanged (kept_by (with_document name) old r)
   read-held name body (Err fault) e = tt
   read-held name body (Ok document) e =
       let b = begins old.made body document e in
       let made = old.made + 1 + size document.nodes in
-      put-held old name (plain document.nodes) made held (omega arith) b.limit (record {
+      taken _ made (omega arith) b.limit (put-held old.made made (edited_documents old) name (plain document.nodes) current (omega arith) (record {
         document = document;
         is = refl;
         well = record {
@@ -229,25 +259,28 @@ module _ (old : State) (held : AreHeld old) where
           once = distinct-once _ b.once;
           below = below-to _ _ b.below;
         };
-      })
+      }))
 
   dropped-held : (name : List ℕ) (o : Option Plain) → IfChanged (dropped_by name old o)
   dropped-held name None = tt
-  dropped-held name (Some tree) = without-held old name held
+  dropped-held name (Some tree) = taken _ old.made (omega arith) held.limit (without-held old.made (edited_documents old) name current)
 
   given-held : (name value : List ℕ) (o : Option ℕ) → IfChanged (given_by name value old o)
   given-held name value (Some number) = tt
-  given-held name value None = with-parameter-held old name value held
+  given-held name value None =
+      taken _ old.made (omega arith) held.limit (with-parameter-held old.made (edited_documents old) name value current)
 
   pub edited-held : (name : DocumentName) (r : Result (Edited (Unit {0})) Fault) → IfHeld old.made r → IfChanged (edited_by old name r)
   edited-held name (Err fault) h = tt
-  edited-held name (Ok new) h = put-held old name new.nodes (old.made + new.made) held (omega arith) h.1 h.0
+  edited-held name (Ok new) h =
+      taken _ (old.made + new.made) (omega arith) h.1
+      (put-held old.made (old.made + new.made) (edited_documents old) name new.nodes current (omega arith) h.0)
 
   -- what is answered of the document of this name, where there is one
   found-held : (edit : Edit) (name : DocumentName) (o : Option Plain) → document_named old name ≡ o
       → IfHeld old.made (edited_or_missing old.made edit o)
   found-held edit name None e = tt
-  found-held edit name (Some tree) e = edit-held old.made edit tree held.limit (held.each name tree e)
+  found-held edit name (Some tree) e = edit-held old.made edit tree held.limit (current.each name tree e)
 
   unread-held : (faults : List Fault) (r : Result (Edited (Unit {0})) Fault) → IfHeld old.made r → IfHeld old.made (answer_of faults r)
   unread-held [] r h = h
@@ -262,7 +295,19 @@ module _ (old : State) (held : AreHeld old) where
   moved-held : (path other : List ℕ) (name : DocumentName) (o : Option Plain) → document_named old name ≡ o
       → IfHeld old.made (moved_document old.made path other o)
   moved-held path other name None e = tt
-  moved-held path other name (Some tree) e = move-held old.made path other tree held.limit (held.each name tree e)
+  moved-held path other name (Some tree) e = move-held old.made path other tree held.limit (current.each name tree e)
+
+  begun-held : (o : Option Documents) → IfChanged (begun old o)
+  begun-held None = record { present = held.present; pending = held.present; limit = held.limit }
+  begun-held (Some pending) = tt
+
+  committed-held : (o : Option Documents) → ArePendingHeld old.made o → IfChanged (committed old o)
+  committed-held None h = tt
+  committed-held (Some pending) h = record { present = h; pending = tt; limit = held.limit }
+
+  abandoned-held : (o : Option Documents) → IfChanged (abandoned old o)
+  abandoned-held None = tt
+  abandoned-held (Some pending) = record { present = held.present; pending = tt; limit = held.limit }
 
   shown-held : (o : Option Plain) → IfChanged (shows o)
   shown-held None = tt
@@ -271,7 +316,7 @@ module _ (old : State) (held : AreHeld old) where
   request-held : (request : Request) → IfChanged (answer_to old request)
   request-held (SetSource body) = read-held SourceName body (document_of root_scope old.made body) refl
   request-held (SetModule name body) = read-held (ModuleName name) body (document_of root_scope old.made body) refl
-  request-held (DropModule name) = dropped-held name (old.documents.modules name)
+  request-held (DropModule name) = dropped-held name ((edited_documents old).modules name)
   request-held (SetParameter name value) = given-held name value (parameter_fault name value)
   request-held Show = tt
   request-held Write = tt
@@ -287,6 +332,9 @@ module _ (old : State) (held : AreHeld old) where
       edited-held document (moved_document old.made path other (document_named old document))
       (moved-held path other document (document_named old document) refl)
   request-held Statistics = tt
+  request-held Begin = begun-held old.pending
+  request-held Commit = committed-held old.pending held.pending
+  request-held Abandon = abandoned-held old.pending
 
   answer-held : (r : Result Request ℕ) → IfChanged (answer_by old r)
   answer-held (Err number) = tt
@@ -298,6 +346,8 @@ module _ (old : State) (held : AreHeld old) where
   gives-held : (answer : Answer) → IfChanged answer → (reply : Reply) (new : State) → Gives old answer reply new → AreHeld new
   gives-held (Refuses number) h reply new g = same-held new g.1
   gives-held (Changes next) h reply new g = subst AreHeld (sym g.1) h
+  gives-held (Pends next) h reply new g = subst AreHeld (sym g.1) h
+  gives-held (Drops next) h reply new g = subst AreHeld (sym g.1) h
   gives-held ShowsResult h reply new g = same-held new g.1
   gives-held WritesResult h reply new g = same-held new g.1
   gives-held ShowsMessages h reply new g = same-held new g.1
@@ -318,11 +368,23 @@ run-held old held (command ∷ commands) (reply ∷ replies) new r =
     run-held r.0 (step-held old held command reply r.0 r.1) commands replies new r.2
 
 none-held : AreHeld initial
-none-held = record { each = each; limit = omega arith }
+none-held = record { present = record { each = each }; pending = tt; limit = omega arith }
   where
-    each : (name : DocumentName) (tree : Plain) → document_named initial name ≡ Some tree → IsHeld 0 tree
+    each : (name : DocumentName) (tree : Plain) → named_among initial.documents name ≡ Some tree → IsHeld 0 tree
     each SourceName tree e = absurd (cc)
     each (ModuleName m) tree e = absurd (cc)
+
+-- a document that is held, present or pending
+among-pending : (made : ℕ) (o : Option Documents) → ArePendingHeld made o → (documents : Documents) → o ≡ Some documents → AreAllHeld made documents
+among-pending made o h documents e = subst (ArePendingHeld made) e h
+
+state-held : (state : State) → AreHeld state → (name : DocumentName) (tree : Plain) → IsHeldIn state name tree → IsHeld state.made tree
+state-held state h name tree (inl e) = h.present.each name tree e
+state-held state h name tree (inr e) = (among-pending state.made state.pending h.pending e.0 e.1).each name tree e.2
+
+come-held : (commands : List Command) (replies : List Reply) (state : State) → Run initial commands replies state
+    → (name : DocumentName) (tree : Plain) → IsHeldIn state name tree → IsHeld state.made tree
+come-held commands replies state r name tree e = state-held state (run-held initial none-held commands replies state r) name tree e
 
 -- ---- What is held is made again
 
@@ -342,24 +404,24 @@ held-again made tree h first room =
     (subst HasChars h.is (chars-plain h.document.nodes h.well.chars)) room
 
 pub held-afresh : (commands : List Command) (replies : List Reply) (state : State) → Run initial commands replies state
-    → (name : DocumentName) (tree : Plain) → document_named state name ≡ Some tree → (first : ℕ) → first + 1 + size tree ≤ number_limit
+    → (name : DocumentName) (tree : Plain) → IsHeldIn state name tree → (first : ℕ) → first + 1 + size tree ≤ number_limit
     → document_of root_scope first (body_of tree) ≡ Ok (document_from first tree)
 held-afresh commands replies state r name tree e =
-    held-again state.made tree ((run-held initial none-held commands replies state r).each name tree e)
+    held-again state.made tree (come-held commands replies state r name tree e)
 
 pub held-room : (commands : List Command) (replies : List Reply) (state : State) → Run initial commands replies state
-    → (name : DocumentName) (tree : Plain) → document_named state name ≡ Some tree → 1 + size tree ≤ number_limit
+    → (name : DocumentName) (tree : Plain) → IsHeldIn state name tree → 1 + size tree ≤ number_limit
 held-room commands replies state r name tree e =
     let held = run-held initial none-held commands replies state r in
     let limit = held.limit in
-    let few = held-size state.made tree (held.each name tree e) in
+    let few = held-size state.made tree (state-held state held name tree e) in
     omega arith
 
 -- the events that are written for it
 pub held-writable : (commands : List Command) (replies : List Reply) (state : State) → Run initial commands replies state
-    → (name : DocumentName) (tree : Plain) → document_named state name ≡ Some tree → AreWritable (written tree)
+    → (name : DocumentName) (tree : Plain) → IsHeldIn state name tree → AreWritable (written tree)
 held-writable commands replies state r name tree e =
-    let h = (run-held initial none-held commands replies state r).each name tree e in
+    let h = come-held commands replies state r name tree e in
     let w = h.well in
     let valid = plain-valid h.document.nodes w.valid in
     subst (λ t. AreWritable (written t)) h.is
@@ -368,25 +430,20 @@ held-writable commands replies state r name tree e =
 
 -- what is answered where a document is given that is numbered so
 kept-again : (old : State) (name : DocumentName) (tree : Plain) (r : Result (Document ℕ) Fault) → r ≡ Ok (document_from old.made tree)
-    → kept_by (with_document name) old r
-    ≡ Changes (record { documents = with_document name tree old.documents; made = old.made + 1 + size tree })
+    → kept_by (with_document name) old r ≡ accepted old (with_document name tree (edited_documents old)) (old.made + 1 + size tree)
 kept-again old name tree r e =
     ap (kept_by (with_document name) old) e
-    ∙ ap Changes (λ i. record {
-      documents = with_document name ((plain-numbered (old.made + 1) tree ∙ plain_itself tree) i) old.documents;
-      made = old.made + 1 + size-numbered (old.made + 1) tree i;
-    })
+    ∙ λ i. accepted old (with_document name ((plain-numbered (old.made + 1) tree ∙ plain_itself tree) i) (edited_documents old))
+    (old.made + 1 + size-numbered (old.made + 1) tree i)
 
 given-again : (old : State) (name : DocumentName) (tree : Plain) → document_of root_scope old.made (body_of tree) ≡ Ok (document_from old.made tree)
-    → answer_to old (given_as name (body_of tree))
-    ≡ Changes (record { documents = with_document name tree old.documents; made = old.made + 1 + size tree })
+    → answer_to old (given_as name (body_of tree)) ≡ accepted old (with_document name tree (edited_documents old)) (old.made + 1 + size tree)
 given-again old SourceName tree e = kept-again old SourceName tree (document_of root_scope old.made (body_of tree)) e
 given-again old (ModuleName name) tree e = kept-again old (ModuleName name) tree (document_of root_scope old.made (body_of tree)) e
 
 pub held-given : (commands : List Command) (replies : List Reply) (state : State) → Run initial commands replies state
-    → (name : DocumentName) (tree : Plain) → document_named state name ≡ Some tree
+    → (name : DocumentName) (tree : Plain) → IsHeldIn state name tree
     → (old : State) (other : DocumentName) → old.made + 1 + size tree ≤ number_limit
-    → answer_to old (given_as other (body_of tree))
-    ≡ Changes (record { documents = with_document other tree old.documents; made = old.made + 1 + size tree })
+    → answer_to old (given_as other (body_of tree)) ≡ accepted old (with_document other tree (edited_documents old)) (old.made + 1 + size tree)
 held-given commands replies state r name tree e old other room =
     given-again old other tree (held-afresh commands replies state r name tree e old.made room)

@@ -1,5 +1,5 @@
 -- Worked examples of moves to another parent, where the declarations in scope are compared. The check computes both sides of each fact.
-use Rattle.std.proofs.Common.{◌≡◌, ℕ, true, List, [], ◌∷◌, bytes_eq, refl}
+use Rattle.std.proofs.Common.{◌≡◌, ℕ, true, List, [], ◌∷◌, None, bytes_eq, refl}
 use Rattle.std.proofs.lemmas.Slice.Eq.{bytes_eq-Decides}
 use Rattle.std.specs.Prelude.{codes}
 use Rattle.std.specs.FinMap.{entries}
@@ -20,7 +20,7 @@ as_itself (e ∷ all) = rw (equal e.0, equal e.1) (as_itself all)
 
 -- a source of these nodes, of which and of others so many were made
 abbrev of_nodes : Plain → ℕ → State
-of_nodes nodes made = record { documents = with_source nodes no_documents; made = made }
+of_nodes nodes made = record { documents = with_source nodes no_documents; made = made; pending = None }
 
 abbrev element : List ℕ → (children siblings : Plain) → Plain
 element name children siblings = Node tt (Element name []) children siblings

@@ -7,9 +7,10 @@ use lib.Utf8.{encode}
 use Rattle.spec_lines.specs.Lines.{ended_lines}
 use Rattle.spec_session.specs.declared.kinds.Ending.TheVariants.{Finished, Quit, Unfinished}
 use Rattle.spec_session.specs.Command.{session_of, status_of}
-use Rattle.spec_session.specs.Reply.{Refused, Counted}
+use Rattle.spec_session.specs.Reply.{OkPending, OkDropped, Refused, Counted, No}
+use Rattle.spec_run.specs.Documents.{no_documents}
 use Rattle.spec_run.specs.Outcome.{Failed, no_main}
-use Rattle.spec_session.specs.Machine.{initial}
+use Rattle.spec_session.specs.Machine.{State, initial}
 use Rattle.spec_session.specs.Served.{AreReplies, IsServed, IsCutShort, Serves}
 
 -- where the source goes on after the bytes that may be taken, the status is 5, but for a session that `quit` has ended
@@ -59,6 +60,30 @@ counts_answered = record { answered = counts_are_answered; ends = refl }
 
 pub other_counts_answered : IsServed 100 (codes "stats\n") 0 (codes "ran 12 asked 304\n")
 other_counts_answered = record { answered = other_counts_are_answered; ends = refl }
+
+-- a batch of no change is opened and dropped, and then there is none
+abbrev open_at_start : State
+open_at_start = record { documents = no_documents; made = 0; pending = Some no_documents }
+
+batch_is_answered : AreReplies (session_of (codes "begin" ∷ codes "abandon" ∷ codes "commit" ∷ [])).commands (codes "ok pending\nok dropped\nno 17\n")
+unfolding chars is_utf8 encode digits
+batch_is_answered = record {
+  replies = OkPending ∷ OkDropped ∷ No 17 ∷ [];
+  state = initial;
+  run = (open_at_start, inl (refl, refl), (initial, inl (refl, refl), (initial, inl (refl, refl), refl)));
+  bytes = refl;
+}
+
+pub batch_answered : IsServed 100 (codes "begin\nabandon\ncommit\n") 0 (codes "ok pending\nok dropped\nno 17\n")
+batch_answered = record { answered = batch_is_answered; ends = refl }
+
+-- a batch is open where the session ends: its status is that of any other
+open_batch_is_answered : AreReplies (session_of (codes "begin" ∷ [])).commands (codes "ok pending\n")
+unfolding chars is_utf8 encode digits
+open_batch_is_answered = record { replies = OkPending ∷ []; state = open_at_start; run = (open_at_start, inl (refl, refl), refl); bytes = refl }
+
+pub ends_in_a_batch : IsServed 100 (codes "begin\nquit\n") 0 (codes "ok pending\n")
+ends_in_a_batch = record { answered = open_batch_is_answered; ends = refl }
 
 -- a reply to each command up to `quit`
 pub answered_up_to_quit : IsServed 100 (codes "show\r\n\nquit\nshow\n") 0 shown_at_start

@@ -4,14 +4,15 @@ use Rattle.std.specs.Prelude.{◌≢◌, ◌<◌}
 use Rattle.spec_document.specs.Forest.{Plain}
 use Rattle.spec_session.specs.Command.{Command}
 use Rattle.spec_session.specs.Request.{Statistics, request_of}
-use Rattle.spec_session.specs.Reply.{Reply, OkDone, OkRefused, Refused, Shown, Written, Counted, No}
+use Rattle.spec_session.specs.Reply.{Reply, OkDone, OkRefused, OkPending, OkDropped, Refused, Shown, Written, Counted, No}
 use Rattle.spec_document.specs.Name.{Expanded}
 use Rattle.spec_stylesheet.specs.declared.method.Method.{Method}
 use Rattle.spec_stylesheet.specs.declared.method.Method.TheVariants as method
 use Rattle.spec_structure.specs.Modules.{is_among}
 use Rattle.spec_run.specs.Documents.{Documents}
 use Rattle.spec_run.specs.Outcome.{Outcome, Done, Failed, IsOutcome}
-use Rattle.spec_session.specs.Machine.{State, Answer, Refuses, Changes, ShowsResult, WritesResult, ShowsMessages, ShowsDocument, TellsCounts, Gives, Step}
+use Rattle.spec_session.specs.Machine.{State, Answer, Refuses, Changes, Pends, Drops, ShowsResult, WritesResult, ShowsMessages, ShowsDocument, TellsCounts}
+use Rattle.spec_session.specs.Machine.{Gives, Step}
 use Rattle.spec_session.specs.Machine.{change_reply, result_reply, written_by, written_reply, messages_reply, answer_of}
 use Rattle.spec_session.proofs.Counts.{no_counts}
 
@@ -19,6 +20,8 @@ number_in : Reply → ℕ
 number_in (No number) = number
 number_in OkDone = 0
 number_in (OkRefused why) = 0
+number_in OkPending = 0
+number_in OkDropped = 0
 number_in (Refused why) = 0
 number_in (Shown lines) = 0
 number_in (Written text) = 0
@@ -36,6 +39,15 @@ pub record AreFinite (documents : Documents) : Type 0 where
   pub names : List (List ℕ)
   pub all : AreAmong documents names
 
+abbrev pub ArePendingFinite : Option Documents → Type 0
+ArePendingFinite None = Unit {0}
+ArePendingFinite (Some documents) = AreFinite documents
+
+-- so they are among the present documents of a state, and among the pending ones
+pub record HasFinite (state : State) : Type 0 where
+  pub present : AreFinite state.documents
+  pub pending : ArePendingFinite state.pending
+
 -- documents do not lack an outcome, and have one
 abbrev pub NoWant : Type 0
 NoWant = (documents : Documents) (names : List (List ℕ)) → AreAmong documents names → ¬ (¬ ((outcome : Outcome) × IsOutcome documents outcome))
@@ -46,7 +58,9 @@ OneOutcome = (documents : Documents) (one other : Outcome) → IsOutcome documen
 -- no answer refuses by the number of want of memory, and none leads to more than finitely many modules
 abbrev pub IsOther : Answer → Type 0
 IsOther (Refuses number) = 1 < number
-IsOther (Changes next) = AreFinite next.documents
+IsOther (Changes next) = HasFinite next
+IsOther (Pends next) = HasFinite next
+IsOther (Drops next) = HasFinite next
 IsOther ShowsResult = Unit {0}
 IsOther WritesResult = Unit {0}
 IsOther ShowsMessages = Unit {0}
@@ -75,17 +89,19 @@ written_differs : (o : Outcome) → written_reply o ≢ No 1
 written_differs (Done result m messages) = by_differs m result
 written_differs (Failed why messages) = λ h. cc
 
-pub gives : NoWant → (old : State) → AreFinite old.documents → (answer : Answer) → IsOther answer → HasReply old answer
+pub gives : NoWant → (old : State) → HasFinite old → (answer : Answer) → IsOther answer → HasReply old answer
 unfolding number_in
 gives some old finite (Refuses number) h none = none (No number, old, (refl, refl), λ e. above number h (ap number_in e))
 gives some old finite (Changes next) h none =
-    some next.documents h.names h.all (λ o. none (change_reply o.0, next, ((o.0, o.1, refl), refl), change_differs o.0))
+    some next.documents h.present.names h.present.all (λ o. none (change_reply o.0, next, ((o.0, o.1, refl), refl), change_differs o.0))
+gives some old finite (Pends next) h none = none (OkPending, next, (refl, refl), λ e. cc)
+gives some old finite (Drops next) h none = none (OkDropped, next, (refl, refl), λ e. cc)
 gives some old finite ShowsResult h none =
-    some old.documents finite.names finite.all (λ o. none (result_reply o.0, old, ((o.0, o.1, refl), refl), result_differs o.0))
+    some old.documents finite.present.names finite.present.all (λ o. none (result_reply o.0, old, ((o.0, o.1, refl), refl), result_differs o.0))
 gives some old finite WritesResult h none =
-    some old.documents finite.names finite.all (λ o. none (written_reply o.0, old, ((o.0, o.1, refl), refl), written_differs o.0))
+    some old.documents finite.present.names finite.present.all (λ o. none (written_reply o.0, old, ((o.0, o.1, refl), refl), written_differs o.0))
 gives some old finite ShowsMessages h none =
-    some old.documents finite.names finite.all (λ o. none (messages_reply o.0, old, ((o.0, o.1, refl), refl), λ e. cc))
+    some old.documents finite.present.names finite.present.all (λ o. none (messages_reply o.0, old, ((o.0, o.1, refl), refl), λ e. cc))
 gives some old finite (ShowsDocument tree) h none = none (Shown _, old, (refl, refl), λ e. cc)
 gives some old finite TellsCounts h none =
     none (Counted 0 0, old, (record { ran = 0; asked = 0; ran_fits = lit< tt; asked_fits = lit< tt; is = refl }, refl), λ e. cc)
@@ -95,6 +111,8 @@ one_state : (old : State) (answer : Answer) (reply other : Reply) (new another :
     → new ≡ another
 one_state old (Refuses number) reply other new another g h = g.1 ∙ sym h.1
 one_state old (Changes next) reply other new another g h = g.1 ∙ sym h.1
+one_state old (Pends next) reply other new another g h = g.1 ∙ sym h.1
+one_state old (Drops next) reply other new another g h = g.1 ∙ sym h.1
 one_state old ShowsResult reply other new another g h = g.1 ∙ sym h.1
 one_state old WritesResult reply other new another g h = g.1 ∙ sym h.1
 one_state old ShowsMessages reply other new another g h = g.1 ∙ sym h.1
@@ -106,6 +124,8 @@ one_reply : OneOutcome → (old : State) (answer : Answer) (reply other : Reply)
 one_reply same old (Refuses number) reply other new another n g h = g.0 ∙ sym h.0
 one_reply same old (Changes next) reply other new another n g h =
     g.0.2 ∙ ap change_reply (same next.documents g.0.0 h.0.0 g.0.1 h.0.1) ∙ sym h.0.2
+one_reply same old (Pends next) reply other new another n g h = g.0 ∙ sym h.0
+one_reply same old (Drops next) reply other new another n g h = g.0 ∙ sym h.0
 one_reply same old ShowsResult reply other new another n g h =
     g.0.2 ∙ ap result_reply (same old.documents g.0.0 h.0.0 g.0.1 h.0.1) ∙ sym h.0.2
 one_reply same old WritesResult reply other new another n g h =
@@ -130,14 +150,16 @@ replies_agree same old command reply other new another differs (inl g) (inr h) m
 
 -- ---- States that a run comes to
 
-same_state : (old new : State) → AreFinite old.documents → new ≡ old → AreFinite new.documents
-same_state old new finite e = subst (λ (s : State). AreFinite s.documents) (sym e) finite
+same_state : (old new : State) → HasFinite old → new ≡ old → HasFinite new
+same_state old new finite e = subst HasFinite (sym e) finite
 
 -- what is held after an answer
-pub finite_after : (old : State) → AreFinite old.documents → (answer : Answer) → IsOther answer → (reply : Reply) (new : State) → Gives old answer reply new
-    → AreFinite new.documents
+pub finite_after : (old : State) → HasFinite old → (answer : Answer) → IsOther answer → (reply : Reply) (new : State) → Gives old answer reply new
+    → HasFinite new
 finite_after old finite (Refuses number) h reply new g = same_state old new finite g.1
 finite_after old finite (Changes next) h reply new g = same_state next new h g.1
+finite_after old finite (Pends next) h reply new g = same_state next new h g.1
+finite_after old finite (Drops next) h reply new g = same_state next new h g.1
 finite_after old finite ShowsResult h reply new g = same_state old new finite g.1
 finite_after old finite WritesResult h reply new g = same_state old new finite g.1
 finite_after old finite ShowsMessages h reply new g = same_state old new finite g.1

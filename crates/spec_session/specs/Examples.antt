@@ -8,7 +8,8 @@ use Rattle.spec_document.specs.Forest.{Plain, Empty, Node, Element, Text, Commen
 use Rattle.spec_session.specs.declared.kinds.Ending.TheVariants.{Finished, Quit, Unfinished}
 use Rattle.spec_session.specs.Command.{session_of, status_of}
 use Rattle.spec_session.specs.Request.{Request, SetSource, SetModule, DropModule, Insert, Delete, SetText, SetAttribute, RemoveAttribute, Rename, Move}
-use Rattle.spec_session.specs.Request.{SetParameter, Write, Messages, Dump, Statistics, SourceName, ModuleName, words_of, asked_by, request_of, path_of}
+use Rattle.spec_session.specs.Request.{SetParameter, Show, Write, Messages, Dump, Statistics, Begin, Commit, Abandon, SourceName, ModuleName}
+use Rattle.spec_session.specs.Request.{words_of, asked_by, request_of, path_of}
 use Rattle.spec_run.specs.Documents.{Documents, no_documents, with_source, with_module, without_module, with_parameter}
 use Rattle.spec_structure.specs.Modules.{reads, no_link, no_fault}
 use Rattle.spec_compile.specs.Sheet.{refused, faulty}
@@ -16,8 +17,8 @@ use Rattle.spec_run.specs.Outcome.{Failed, IsOutcome, no_main, no_source}
 use Rattle.spec_expression.specs.declared.code.Code.TheVariants.{Static, Dynamic}
 use Rattle.spec_expression.specs.declared.code.StaticCode.TheVariants.{NoStylesheet}
 use Rattle.spec_expression.specs.declared.code.DynCode.TheVariants.{TooDeep}
-use Rattle.spec_session.specs.Machine.{State, initial, answer_to, Refuses, Changes, ShowsDocument, TellsCounts, messages_reply}
-use Rattle.spec_session.specs.Reply.{OkRefused, Refused, Shown, Written, Counted, No, reply_bytes}
+use Rattle.spec_session.specs.Machine.{State, initial, answer_to, Refuses, Changes, Pends, Drops, ShowsResult, ShowsDocument, TellsCounts, messages_reply}
+use Rattle.spec_session.specs.Reply.{OkRefused, OkPending, OkDropped, Refused, Shown, Written, Counted, No, reply_bytes}
 
 -- a body goes up to a line `.`; empty lines between commands are skipped; `quit` ends the session
 pub commands_with_bodies : session_of (codes "source x" ∷ codes "(a" ∷ [] ∷ codes "." ∷ [] ∷ codes "show" ∷ codes "quit" ∷ codes "show" ∷ [])
@@ -147,6 +148,27 @@ pub longer_word : asks (codes "statistics") ≡ Err 3
 unfolding chars is_utf8 encode
 longer_word = refl
 
+pub begin_asks : asks (codes "begin") ≡ Ok Begin
+unfolding chars is_utf8 encode
+begin_asks = refl
+
+pub commit_asks : asks (codes "commit") ≡ Ok Commit
+unfolding chars is_utf8 encode
+commit_asks = refl
+
+pub abandon_asks : asks (codes "abandon") ≡ Ok Abandon
+unfolding chars is_utf8 encode
+abandon_asks = refl
+
+-- a batch has no name
+pub begin_with_a_word : asks (codes "begin one") ≡ Err 4
+unfolding chars is_utf8 encode
+begin_with_a_word = refl
+
+pub commit_with_a_space : asks (codes "commit ") ≡ Err 4
+unfolding chars is_utf8 encode
+commit_with_a_space = refl
+
 pub word_too_many : asks (codes "show ") ≡ Err 4
 unfolding chars is_utf8 encode
 word_too_many = refl
@@ -229,12 +251,12 @@ pub drop_of_no_module : answer_to initial (DropModule (codes "lib")) ≡ Refuses
 drop_of_no_module = refl
 
 -- no node is made
-pub module_dropped : answer_to (record { documents = of_two_modules; made = 6 }) (DropModule (codes "a"))
-    ≡ Changes (record { documents = without_module (codes "a") of_two_modules; made = 6 })
+pub module_dropped : answer_to (record { documents = of_two_modules; made = 6; pending = None }) (DropModule (codes "a"))
+    ≡ Changes (record { documents = without_module (codes "a") of_two_modules; made = 6; pending = None })
 module_dropped = refl
 
 abbrev after_drop : State
-after_drop = record { documents = without_module (codes "a") of_two_modules; made = 6 }
+after_drop = record { documents = without_module (codes "a") of_two_modules; made = 6; pending = None }
 
 -- the other stays
 pub dropped_alone : answer_to after_drop (Dump (ModuleName (codes "a"))) ∷ answer_to after_drop (Dump (ModuleName (codes "b"))) ∷ []
@@ -245,7 +267,7 @@ dropped_alone = refl
 
 -- it is held, and no node is made
 pub parameter_given : answer_to initial (SetParameter (codes "p") (codes "a b"))
-    ≡ Changes (record { documents = with_parameter (codes "p") (codes "a b") no_documents; made = 0 })
+    ≡ Changes (record { documents = with_parameter (codes "p") (codes "a b") no_documents; made = 0; pending = None })
 unfolding is_char is_name_start
 parameter_given = refl
 
@@ -259,7 +281,7 @@ parameter_refused = refl
 
 -- the nodes of a source, of which and of others so many were made
 abbrev with_nodes : Plain → ℕ → State
-with_nodes nodes made = record { documents = with_source nodes no_documents; made = made }
+with_nodes nodes made = record { documents = with_source nodes no_documents; made = made; pending = None }
 
 -- <a>, of these children
 abbrev in_a : Plain → Plain
@@ -363,6 +385,54 @@ move_of_no_node = refl
 pub move_of_the_root : answer_to moved (Move SourceName [] (1 ∷ 1 ∷ [])) ≡ Refuses 7
 move_of_the_root = refl
 
+-- ---- What a batch comes to
+
+-- the text x of the source is another, and so many nodes were made
+abbrev with_first : List ℕ → ℕ → State
+with_first text made = with_nodes (in_a (text_then text (Node tt (Element (codes "b") []) Empty (text_then (codes "y") Empty)))) made
+
+-- the source is present as it was; it is pending with another first text
+abbrev in_batch : List ℕ → ℕ → State
+in_batch text made = record { documents = edited.documents; made = made; pending = Some (with_first text made).documents }
+
+-- a batch begins with what is present
+pub batch_begun : answer_to edited Begin ≡ Pends (in_batch (codes "x") 5)
+batch_begun = refl
+
+-- what a batch changes is pending: the present is as before
+pub changed_in_a_batch : answer_to (in_batch (codes "x") 5) (SetText SourceName (1 ∷ 1 ∷ []) (codes "z")) ≡ Pends (in_batch (codes "z") 5)
+unfolding is_char
+changed_in_a_batch = refl
+
+-- a path leads through the pending source, and what is refused leaves the batch open
+pub refused_in_a_batch : answer_to (in_batch (codes "z") 5) (Delete SourceName (1 ∷ 4 ∷ [])) ∷ answer_to (in_batch (codes "z") 5) (DropModule (codes "lib")) ∷ []
+    ≡ Refuses 6 ∷ Refuses 5 ∷ []
+refused_in_a_batch = refl
+
+-- the pending source is dumped, the present result shown
+pub asked_in_a_batch : answer_to (in_batch (codes "z") 5) (Dump SourceName) ∷ answer_to (in_batch (codes "z") 5) Show ∷ []
+    ≡ ShowsDocument (in_a (text_then (codes "z") (Node tt (Element (codes "b") []) Empty (text_then (codes "y") Empty)))) ∷ ShowsResult ∷ []
+asked_in_a_batch = refl
+
+pub parameter_in_a_batch : answer_to (record { documents = no_documents; made = 0; pending = Some no_documents }) (SetParameter (codes "p") (codes "v"))
+    ≡ Pends (record { documents = no_documents; made = 0; pending = Some (with_parameter (codes "p") (codes "v") no_documents) })
+unfolding is_char is_name_start
+parameter_in_a_batch = refl
+
+-- what was pending is present, and no batch is open
+pub batch_committed : answer_to (in_batch (codes "z") 5) Commit ≡ Changes (with_first (codes "z") 5)
+batch_committed = refl
+
+-- the present stays as it was; the nodes that were made in between still count
+pub batch_abandoned : answer_to (in_batch (codes "z") 6) Abandon ≡ Drops (with_first (codes "x") 6)
+batch_abandoned = refl
+
+pub begun_twice : answer_to (in_batch (codes "z") 5) Begin ≡ Refuses 16
+begun_twice = refl
+
+pub no_batch_open : answer_to edited Commit ∷ answer_to edited Abandon ∷ [] ≡ Refuses 17 ∷ Refuses 17 ∷ []
+no_batch_open = refl
+
 -- ---- What the counts come to
 
 pub counts_told : answer_to initial Statistics ≡ TellsCounts
@@ -391,6 +461,14 @@ counted = refl
 pub counted_at_start : reply_bytes (Counted 0 0) ≡ codes "ran 0 asked 0\n"
 unfolding encode digits
 counted_at_start = refl
+
+pub pending_change : reply_bytes OkPending ≡ codes "ok pending\n"
+unfolding encode
+pending_change = refl
+
+pub dropped_batch : reply_bytes OkDropped ≡ codes "ok dropped\n"
+unfolding encode
+dropped_batch = refl
 
 pub refused_change : reply_bytes (OkRefused no_main) ≡ codes "ok refused S01 -\n"
 unfolding encode digits

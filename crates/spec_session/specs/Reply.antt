@@ -11,6 +11,9 @@ pub data Reply : Type 0 where
   -- to an accepted change: the transformation has a result, or is refused
   OkDone : Reply
   OkRefused : (why : Refusal) → Reply
+  -- to a change that is accepted in a batch, and to one that opens it; and where a batch is dropped
+  OkPending : Reply
+  OkDropped : Reply
   -- to a request for the result, while the transformation is refused
   Refused : (why : Refusal) → Reply
   -- the lines of a result or a document
@@ -36,6 +39,8 @@ refusal_text why = code_text why.code ++ 0x20 ∷ place_text why.place
 abbrev pub reply_lines : Reply → List Line
 reply_lines OkDone = codes "ok done" ∷ []
 reply_lines (OkRefused why) = (codes "ok refused " ++ refusal_text why) ∷ []
+reply_lines OkPending = codes "ok pending" ∷ []
+reply_lines OkDropped = codes "ok dropped" ∷ []
 reply_lines (Refused why) = (codes "refused " ++ refusal_text why) ∷ []
 reply_lines (Shown lines) = lines ++ codes "." ∷ []
 reply_lines (Written text) = (codes "text " ++ decimal (length (encode_utf8_all text))) ∷ text ∷ []

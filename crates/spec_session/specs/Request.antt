@@ -32,6 +32,9 @@ pub data Request : Type 0 where
   Messages : Request
   Dump : (document : DocumentName) → Request
   Statistics : Request
+  Begin : Request
+  Commit : Request
+  Abandon : Request
 
 -- ---- Words
 
@@ -197,6 +200,9 @@ commands =
     ∷ (codes "write", word_form Write)
     ∷ (codes "messages", word_form Messages)
     ∷ (codes "stats", word_form Statistics)
+    ∷ (codes "begin", word_form Begin)
+    ∷ (codes "commit", word_form Commit)
+    ∷ (codes "abandon", word_form Abandon)
     ∷ []
 
 -- the words that are taken: any other is no command
@@ -204,7 +210,7 @@ abbrev pub taken_words : List (List ℕ)
 taken_words =
     codes "source" ∷ codes "module" ∷ codes "show" ∷ codes "dump" ∷ codes "quit" ∷ codes "write" ∷ codes "param" ∷ codes "messages"
     ∷ codes "insert" ∷ codes "delete" ∷ codes "text" ∷ codes "attr" ∷ codes "unattr" ∷ codes "rename" ∷ codes "drop" ∷ codes "move"
-    ∷ codes "stats" ∷ []
+    ∷ codes "stats" ∷ codes "begin" ∷ codes "commit" ∷ codes "abandon" ∷ []
 
 abbrev pub is_taken : List ℕ → Bool
 is_taken word = list_any (λ taken. bytes_eq word taken) taken_words

@@ -12,23 +12,40 @@ use Rattle.spec_document.specs.Forest.{Document}
 use Rattle.spec_run.specs.Documents.{Documents, Parameters}
 use Rattle.spec_run.specs.Outcome as spec
 use Rattle.spec_run.specs.Outcome.{IsOutcome}
+use Rattle.spec_touch.specs.Marks.{WorldChange}
 use Rattle.xt_edit.specs.View.{AreBelow}
 use Rattle.xt_import.specs.View.{is_name, plain_of}
 use Rattle.xt_world.specs.ParameterView.{parameters_of}
 use Rattle.xt_world.proofs.Keys.{lookup-insert}
-use Rattle.xt_held.specs.RunView.{LastHolds}
+use Rattle.xt_touch.specs.View.{since_of}
+use Rattle.xt_touch.specs.declared.since.Since.{Since}
+use Rattle.xt_held.specs.RunView.{KeptSpared, LastHolds, LastServes, last_known}
 use Rattle.xt_held.specs.StylesheetView.{AreCompiled}
-use Rattle.xt_held.specs.View.{AreAllBelow, HasBelow, document_named, documents_of, last_in, made_of, numbered_document, outcome_in, steps_in, IsCurrent, IsKept}
+use Rattle.xt_held.specs.Tried.{AreSame}
+use Rattle.xt_held.specs.View.{AreAllBelow, Basis, HasBelow, IsBatchOf, IsCurrent, IsKept, document_named, documents_of, edited_basis, last_in, made_of, numbered_document, outcome_in, pending_of, present_basis, present_by, steps_in}
+use Rattle.xt_held.specs.declared.batch.Batch.{Batch}
 use Rattle.xt_held.specs.declared.held.Held.{Held}
 use Rattle.xt_held.specs.declared.last_run.LastRun.{LastRun}
 use Rattle.xt_held.specs.declared.name.DocName.{DocName}
 use Rattle.xt_held.specs.declared.name.DocName.TheVariants as names
 use Rattle.xt_held.specs.declared.stylesheet.Compiled.{Compiled}
 use Rattle.xt_held.proofs.Below.{raised}
+use Rattle.xt_held.proofs.Dropping.{same_below, same_entries, same_modules}
 use Rattle.xt_held.proofs.Keys.{map-copied}
 use denote.Ref.{Bor}
 
-same_last : (outcome now : spec.Outcome) (compiled kept : Option Compiled) (parameters given : Parameters) (source document : Option (Document ℕ)) (last pool : LastRun)
+-- ---- What is known of what the last run left, of what is the same
+
+pub same_serves : (compiled kept : Option Compiled) (parameters given : Parameters) (source document : Option (Document ℕ)) (last pool : LastRun)
+    → compiled ≡ kept → parameters ≡ given → source ≡ document → last ≡ pool → LastServes kept given document pool
+    → LastServes compiled parameters source last
+same_serves compiled kept parameters given source document last pool k p s l h =
+    subst (λ (x : Option Compiled). LastServes x parameters source last) (sym k)
+    (subst (λ (x : Parameters). LastServes kept x source last) (sym p)
+    (subst (λ (x : Option (Document ℕ)). LastServes kept given x last) (sym s)
+    (subst (λ (x : LastRun). LastServes kept given document x) (sym l) h)))
+
+pub same_last : (outcome now : spec.Outcome) (compiled kept : Option Compiled) (parameters given : Parameters) (source document : Option (Document ℕ)) (last pool : LastRun)
     → outcome ≡ now → compiled ≡ kept → parameters ≡ given → source ≡ document → last ≡ pool → LastHolds now kept given document pool
     → LastHolds outcome compiled parameters source last
 same_last outcome now compiled kept parameters given source document last pool o k p s l h =
@@ -38,38 +55,120 @@ same_last outcome now compiled kept parameters given source document last pool o
     (subst (λ (x : Option (Document ℕ)). LastHolds now kept given x last) (sym s)
     (subst (λ (x : LastRun). LastHolds now kept given document x) (sym l) h))))
 
-pub current_by : (held : Held) (documents : Documents) (outcome : spec.Outcome) (compiled : Option Compiled) (source : Option (Document ℕ)) (last : LastRun)
-    → documents_of held ≡ documents → outcome_in held ≡ outcome → held.compiled ≡ compiled → held.source ≡ source → last_in held ≡ last
-    → IsOutcome documents outcome → AreCompiled documents.modules compiled → HasBelow (made_of held) held
-    → LastHolds outcome compiled documents.parameters source last → IsCurrent held
-current_by held documents outcome compiled source last d o k s l is are below holds =
-    let Is : Documents → spec.Outcome → Type 0 = λ ds x. IsOutcome ds x in
-    let Are : Documents → Option Compiled → Type 0 = λ ds x. AreCompiled ds.modules x in
-    record {
-      outcome = subst (λ (ds : Documents). Is ds (outcome_in held)) (sym d) (subst (λ (x : spec.Outcome). Is documents x) (sym o) is);
-      compiled = subst (λ (ds : Documents). Are ds held.compiled) (sym d) (subst (λ (x : Option Compiled). Are documents x) (sym k) are);
-      below = below;
-      last = same_last (outcome_in held) outcome held.compiled compiled (parameters_of held.parameters) documents.parameters held.source source (last_in held) last
-          o k (ap (λ (ds : Documents). ds.parameters) d) s l holds;
-    }
+-- the changes are told apart by what they are alone
+pub serves_since : (compiled : Option Compiled) (parameters : Parameters) (source : Option (Document ℕ)) (last : LastRun) (since : Since)
+    → since_of since ≡ since_of last.since → LastServes compiled parameters source last → LastServes compiled parameters source (record last { since = since })
+serves_since compiled parameters source last since e h = record {
+  spared = subst (λ (changes : List WorldChange). KeptSpared (last_known compiled last.before) parameters source last.kept changes) (sym e) h.spared;
+  answers = h.answers;
+  faultless = h.faultless;
+}
+
+pub holds_since : (outcome : spec.Outcome) (compiled : Option Compiled) (parameters : Parameters) (source : Option (Document ℕ)) (last : LastRun) (since : Since)
+    → since_of since ≡ since_of last.since → LastHolds outcome compiled parameters source last
+    → LastHolds outcome compiled parameters source (record last { since = since })
+holds_since outcome compiled parameters source last since e h =
+    record { done = h.done; serves = serves_since compiled parameters source last since e h.serves }
+
+-- ---- What is current
+
+-- this is told of this basis
+pub record IsToldOn (told : spec.Outcome) (known : Option Compiled) (basis : Basis) : Type 0 where
+  pub outcome : IsOutcome basis.documents told
+  pub compiled : AreCompiled basis.documents.modules known
+  pub last : LastHolds told known basis.documents.parameters basis.source basis.last
+
+pub told_on : (held : Held) → IsCurrent held → IsToldOn (outcome_in held) held.compiled (present_basis held)
+told_on held h = record { outcome = h.outcome; compiled = h.compiled; last = h.last }
+
+pub same_told : (outcome now : spec.Outcome) (compiled kept : Option Compiled) (basis other : Basis) → now ≡ outcome → kept ≡ compiled → other ≡ basis
+    → IsToldOn outcome compiled basis → IsToldOn now kept other
+same_told outcome now compiled kept basis other o k b h =
+    subst (λ (x : spec.Outcome). IsToldOn x kept other) (sym o)
+    (subst (λ (x : Option Compiled). IsToldOn outcome x other) (sym k) (subst (λ (x : Basis). IsToldOn outcome compiled x) (sym b) h))
+
+-- what is told of what is present, and what is known of what is pending
+pub current_by : (held : Held) → IsToldOn (outcome_in held) held.compiled (present_basis held) → HasBelow (made_of held) held
+    → LastServes held.compiled (parameters_of held.parameters) held.source held.last
+    → IfSome held.batch (IsBatchOf (made_of held) (documents_of held).modules) → IsCurrent held
+current_by held told below serves batch =
+    record { outcome = told.outcome; compiled = told.compiled; below = below; last = told.last; serves = serves; batch = batch }
+
+-- ---- What is kept
+
+-- all is the same but the order of the modules, and the values of parameters are the same
+pub record IsReordered (old new : Held) : Type 0 where
+  pub modules : AreSame old.modules.entries new.modules.entries
+  pub source : new.source ≡ old.source
+  pub compiled : new.compiled ≡ old.compiled
+  pub parameters : parameters_of new.parameters ≡ parameters_of old.parameters
+  pub made : made_of new ≡ made_of old
+  pub outcome : outcome_in new ≡ outcome_in old
+  pub steps : steps_in new ≡ steps_in old
+  pub last : last_in new ≡ last_in old
+  pub batch : new.batch ≡ old.batch
+
+module _ (old new : Held) (h : IsReordered old new) where
+  pub same_documents : documents_of new ≡ documents_of old
+  same_documents =
+      let modules = same_modules old.modules.entries new.modules.entries h.modules in
+      λ i. record { source = option_map plain_of (h.source i); modules = modules i; parameters = h.parameters i }
+
+  same_edited : edited_basis new ≡ edited_basis old
+  same_edited = λ i. record { documents = same_documents i; source = h.source i; last = h.last i }
+
+  same_present : present_basis new ≡ present_basis old
+  same_present = λ i. present_by (h.batch i) (same_edited i)
+
+  same_pending : pending_of new ≡ pending_of old
+  same_pending = λ i. option_map (λ (batch : Batch). same_documents i) (h.batch i)
+
+  pub still_below : HasBelow (made_of old) old → HasBelow (made_of new) new
+  still_below below =
+      subst (λ (first : ℕ). AreAllBelow first new.source new.modules.entries) (sym h.made)
+      (subst (λ (source : Option (Document ℕ)). AreAllBelow (made_of old) source new.modules.entries) (sym h.source)
+      (same_below (made_of old) old.source old.modules.entries new.modules.entries h.modules below))
+
+  still_batch : IfSome old.batch (IsBatchOf (made_of old) (documents_of old).modules) → IfSome new.batch (IsBatchOf (made_of new) (documents_of new).modules)
+  still_batch is =
+      subst (λ (batch : Option Batch). IfSome batch (IsBatchOf (made_of new) (documents_of new).modules)) (sym h.batch)
+      (subst (λ (first : ℕ). IfSome old.batch (IsBatchOf first (documents_of new).modules)) (sym h.made)
+      (subst (λ (documents : Documents). IfSome old.batch (IsBatchOf (made_of old) documents.modules)) (sym same_documents) is))
+
+  still_current : IsCurrent old → IsCurrent new
+  still_current now =
+      current_by new
+      (same_told (outcome_in old) (outcome_in new) old.compiled new.compiled (present_basis old) (present_basis new) h.outcome h.compiled same_present
+      (told_on old now))
+      (still_below now.below)
+      (same_serves new.compiled old.compiled (parameters_of new.parameters) (parameters_of old.parameters) new.source old.source new.last old.last h.compiled
+      h.parameters h.source h.last now.serves) (still_batch now.batch)
+
+  pub kept_so : IsKept old new
+  kept_so = record {
+    documents = same_documents;
+    present = ap (λ (basis : Basis). basis.documents) same_present;
+    pending = same_pending;
+    made = h.made;
+    outcome = h.outcome;
+    steps = h.steps;
+    last = h.last;
+    current = still_current;
+  }
 
 -- where only modules were tried, which are as before
-pub kept_by : (old new : Held) → documents_of new ≡ documents_of old → made_of new ≡ made_of old → outcome_in new ≡ outcome_in old → new.compiled ≡ old.compiled
-    → new.source ≡ old.source → new.modules.entries ≡ old.modules.entries → steps_in new ≡ steps_in old → last_in new ≡ last_in old → IsKept old new
-kept_by old new d n o k s m t l = record {
-  documents = d;
-  made = n;
-  outcome = o;
-  steps = t;
-  last = l;
-  current = λ now. current_by new (documents_of old) (outcome_in old) old.compiled old.source (last_in old) d o k s l now.outcome now.compiled
-      (same_below (made_of old) (made_of new) old.source new.source old.modules.entries new.modules.entries n s m now.below) now.last;
-}
-  where
-    same_below : (a b : ℕ) (s t : Option (Document ℕ)) (es fs : List (String Global × Document ℕ)) → b ≡ a → t ≡ s → fs ≡ es → AreAllBelow a s es → AreAllBelow b t fs
-    same_below a b s t es fs n d m h =
-        subst (λ (k : ℕ). AreAllBelow k t fs) (sym n)
-        (subst (λ (o : Option (Document ℕ)). AreAllBelow a o fs) (sym d) (subst (λ (gs : List (String Global × Document ℕ)). AreAllBelow a s gs) (sym m) h))
+pub kept_modules : (old new : Held) → new.modules.entries ≡ old.modules.entries → new ≡ record old { modules = new.modules } → IsKept old new
+kept_modules old new entries same = kept_so old new (record {
+  modules = same_entries old.modules.entries new.modules.entries entries;
+  source = ap (λ (held : Held). held.source) same;
+  compiled = ap (λ (held : Held). held.compiled) same;
+  parameters = ap (λ (held : Held). parameters_of held.parameters) same;
+  made = ap made_of same;
+  outcome = ap outcome_in same;
+  steps = ap steps_in same;
+  last = ap last_in same;
+  batch = ap (λ (held : Held). held.batch) same;
+})
 
 -- ---- Numbers below one that no node has
 
@@ -77,11 +176,15 @@ raised_one : (first next : ℕ) → first ≤ next → (o : Option (Document ℕ
 raised_one first next h None below = tt
 raised_one first next h (Some document) below = raised first next document h below
 
-pub all_raised : (first next : ℕ) (held : Held) → first ≤ next → HasBelow first held → HasBelow next held
-all_raised first next held h below = record {
-  source = raised_one first next h held.source below.source;
-  modules = λ name. raised_one first next h (lookup (is_name name) held.modules.entries) (below.modules name);
+pub raised_all : (first next : ℕ) (source : Option (Document ℕ)) (entries : List (String Global × Document ℕ)) → first ≤ next
+    → AreAllBelow first source entries → AreAllBelow next source entries
+raised_all first next source entries h below = record {
+  source = raised_one first next h source below.source;
+  modules = λ name. raised_one first next h (lookup (is_name name) entries) (below.modules name);
 }
+
+pub all_raised : (first next : ℕ) (held : Held) → first ≤ next → HasBelow first held → HasBelow next held
+all_raised first next held h below = raised_all first next held.source held.modules.entries h below
 
 pub inserted_below : (first : ℕ) (key : String Global) (document : Document ℕ) (source : Option (Document ℕ)) (es : List (String Global × Document ℕ))
     → AreAllBelow first source es → AreBelow first document → AreAllBelow first source (insert_entry string_eq es key document)

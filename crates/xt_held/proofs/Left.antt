@@ -94,9 +94,7 @@ module _ (compiled before : Option Compiled) (parameters : Parameters) (source :
       → LastHolds (outcome_of came.outcome) compiled parameters source (left_by came before last)
   last_so came fits kept since spared answers faultless = record {
     done = adopted_last came last.kept (KeptHolds compiled parameters source) fits kept;
-    spared = left_spared came.kept (since_of came.since) kept since spared;
-    answers = answers;
-    faultless = faultless;
+    serves = record { spared = left_spared came.kept (since_of came.since) kept since spared; answers = answers; faultless = faultless };
   }
 
   -- what a run leaves, by what is told of it

@@ -9,3 +9,5 @@ pub mod Dropped
 pub mod Sparing
 pub mod Marked
 pub mod Left
+pub mod Making
+pub mod Batches

@@ -51,7 +51,7 @@ pub answers_as_some : (modules : Modules) (compiled : Option Compiled) → AreCo
 answers_as_some modules compiled h = answers_among modules (modules main_name) compiled h.so
 
 pub known_of : (held : Held) → IsCurrent held → IsKnown held
-known_of held h = record { last = h.last }
+known_of held h = record { last = h.serves }
 
 -- the world of a stylesheet, of which it holds what is answered
 abbrev named_by : (held : world.Stylesheet) (sheet : plain.Sheet) → AnswersAs held sheet → Place → NodeRef

@@ -76,15 +76,19 @@ pub record IsFaultless (document : Document ℕ) : Type 0 where
   pub valid : IsValid document.nodes
   pub normal : IsNormal document.nodes
 
--- what is known of what the last run that ended with a result left
-pub record LastHolds (outcome : spec.Outcome) (compiled : Option Compiled) (parameters : Parameters) (source : Option (Document ℕ)) (last : LastRun) : Type 0 where
-  -- where there is a result, it is that of this run, and the questions of what it kept are answered so in it
-  pub done : is_done outcome ≡ true → KeptHolds compiled parameters source last.kept
-  -- else those are that no change since then marks, were the stylesheet run that was there last
+-- what the last run that ended with a result left serves a run of this
+pub record LastServes (compiled : Option Compiled) (parameters : Parameters) (source : Option (Document ℕ)) (last : LastRun) : Type 0 where
+  -- the questions of what it kept that no change since then marks are answered so, were the stylesheet run that was there last
   pub spared : KeptSpared (last_known compiled last.before) parameters source last.kept (since_of last.since)
   pub answers : AnswersAsSome (last_known compiled last.before)
   -- what an edit of the source changes can be told
   pub faultless : IfSome source IsFaultless
+
+-- what is known of it where this is the outcome
+pub record LastHolds (outcome : spec.Outcome) (compiled : Option Compiled) (parameters : Parameters) (source : Option (Document ℕ)) (last : LastRun) : Type 0 where
+  -- where there is a result, it is that of this run, and the questions of what it kept are answered so in it
+  pub done : is_done outcome ≡ true → KeptHolds compiled parameters source last.kept
+  pub serves : LastServes compiled parameters source last
 
 -- ---- What changes
 

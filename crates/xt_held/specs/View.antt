@@ -1,7 +1,7 @@
--- What is held, what is ready to be adopted, and when it may be.
-use Rattle.std.specs.Prelude.{ℕ, ◌≡◌, ◌+◌, ◌<◌, List, Option, None, Some, IfSome, Result, Ok, Err, string_bytes}
+-- What is held, present and pending, what is ready to be adopted, and when it may be.
+use Rattle.std.specs.Prelude.{ℕ, ◌≡◌, ◌+◌, ◌<◌, ◌≤◌, true, false, List, Option, None, Some, IfSome, Result, Ok, Err, string_bytes}
 use Rattle.std.specs.Map.{lookup}
-use Rattle.std.specs.Option.{option_map, unwrap_or}
+use Rattle.std.specs.Option.{is_some, option_map, unwrap_or}
 use Rattle.std.specs.Str.{chars}
 use Rattle.std.specs.HashMap.{spare}
 use Rattle.std.specs.declared.alloc.Global.{Global}
@@ -13,6 +13,7 @@ use Rattle.spec_move.specs.Move.{moved_document}
 use Rattle.spec_run.specs.Documents.{Documents, with_source, with_module, without_module, with_parameter, parameter_fault}
 use Rattle.spec_run.specs.Outcome as spec
 use Rattle.spec_run.specs.Outcome.{IsOutcome}
+use Rattle.spec_structure.specs.Modules.{Modules}
 use Rattle.xt_base.specs.Code.{edit_number}
 use Rattle.xt_build.specs.declared.fault.BuildFault.{BuildFault}
 use Rattle.xt_build.specs.declared.fault.BuildFault.TheVariants as builds
@@ -23,20 +24,26 @@ use Rattle.xt_import.specs.View.{is_name, modules_in, plain_of}
 use Rattle.xt_record.specs.declared.reuse.Steps.{Steps}
 use Rattle.xt_world.specs.ParameterView.{HasRoomForOne, parameters_of}
 use Rattle.xt_held.specs.OutcomeView.{Fits, outcome_of}
-use Rattle.xt_held.specs.RunView.{IsFaultless, LastHolds, last_known}
+use Rattle.xt_held.specs.RunView.{IsFaultless, LastHolds, LastServes, last_known}
 use Rattle.xt_held.specs.StylesheetView.{AreCompiled, IsThere}
+use Rattle.xt_held.specs.declared.batch.Batch.{Batch}
 use Rattle.xt_held.specs.declared.held.Held.{Held}
 use Rattle.xt_held.specs.declared.last_run.LastRun.{LastRun}
 use Rattle.xt_held.specs.declared.name.DocName.{DocName}
 use Rattle.xt_held.specs.declared.name.DocName.TheVariants as names
 use Rattle.xt_held.specs.declared.outcome.Came.{Came}
+use Rattle.xt_held.specs.declared.outcome.Outcome.{Outcome}
 use Rattle.xt_held.specs.declared.ready.Change.{Change}
 use Rattle.xt_held.specs.declared.ready.Change.TheVariants as changes
+use Rattle.xt_held.specs.declared.ready.Coming.{Coming}
+use Rattle.xt_held.specs.declared.ready.Coming.TheVariants.{Told, Pending}
 use Rattle.xt_held.specs.declared.ready.Ready.{Ready}
+use Rattle.xt_held.specs.declared.ready.Recompiled.{Recompiled}
+use Rattle.xt_held.specs.declared.ready.Recompiled.TheVariants.{AsBefore, Now}
 use Rattle.xt_held.specs.declared.stylesheet.Compiled.{Compiled}
 use Rattle.xt_held.specs.declared.stylesheet.Compiled.TheVariants.{Stylesheet, Refused}
 
--- the documents that are held, how many nodes were made so far, and the outcome that is told
+-- the documents that paths and changes speak of, how many nodes were made so far, and the outcome that is told
 abbrev pub documents_of : Held → Documents
 documents_of held = record {
   source = option_map plain_of held.source;
@@ -50,12 +57,48 @@ made_of held = held.next.number
 abbrev pub outcome_in : Held → spec.Outcome
 outcome_in held = outcome_of held.outcome
 
--- what the last change took, and what the last run that ended with a result left
+-- what the last change outside a batch, or commit, took, and what the last run that ended with a result left
 abbrev pub steps_in : Held → Steps
 steps_in held = held.steps
 
 abbrev pub last_in : Held → LastRun
 last_in held = held.last
+
+-- ---- What is present, and what is pending
+
+-- what an outcome rests on: the documents, the source with the numbers of its nodes, and what the last run that ended with a result left
+pub record Basis : Type 0 where
+  pub documents : Documents
+  pub source : Option (Document ℕ)
+  pub last : LastRun
+
+-- that of what changes speak of
+abbrev pub edited_basis : Held → Basis
+edited_basis held = record { documents = documents_of held; source = held.source; last = held.last }
+
+-- the documents that a batch goes back to where it is abandoned
+abbrev pub documents_in : Batch → Documents
+documents_in batch = record {
+  source = option_map plain_of batch.source;
+  modules = modules_in batch.modules.entries;
+  parameters = parameters_of batch.parameters;
+}
+
+-- that of what is present: while a batch is open what it goes back to, with the changes that were until then
+abbrev pub present_by : Option Batch → Basis → Basis
+present_by None basis = basis
+present_by (Some batch) basis = record { documents = documents_in batch; source = batch.source; last = record basis.last { since = batch.since } }
+
+abbrev pub present_basis : Held → Basis
+present_basis held = present_by held.batch (edited_basis held)
+
+-- the documents that are present, of which the outcome is told
+abbrev pub present_of : Held → Documents
+present_of held = (present_basis held).documents
+
+-- those that are pending, where a batch is open
+abbrev pub pending_of : Held → Option Documents
+pending_of held = option_map (λ batch. documents_of held) held.batch
 
 -- all numbers of these documents are below this one: of a source, and of the modules of all names
 pub record AreAllBelow (first : ℕ) (document : Option (Document ℕ)) (entries : List (String Global × Document ℕ)) : Type 0 where
@@ -65,22 +108,31 @@ pub record AreAllBelow (first : ℕ) (document : Option (Document ℕ)) (entries
 abbrev pub HasBelow : ℕ → Held → Type 0
 HasBelow first held = AreAllBelow first held.source held.modules.entries
 
--- the outcome that is told is that of the documents that are held, the modules are what is held of that, and the next number is that of no node. Where
--- there is a result, the questions of what its run kept have their answers in a run of what is held; else those of the last result that no change
--- since then marks
+-- what a batch goes back to has numbers below this one, and where no module is edited in it, its modules are these
+pub record IsBatchOf (first : ℕ) (modules : Modules) (batch : Batch) : Type 0 where
+  pub below : AreAllBelow first batch.source batch.modules.entries
+  pub same : batch.is_edited ≡ false → modules ≡ (documents_in batch).modules
+
+-- The outcome that is told is that of the documents that are present, the modules are what is held of that, and the next number is that of no node,
+-- present or pending. Where there is a result, the questions of what its run kept have their answers in a run of what is present; else those of the last
+-- result that no change since then marks. The same, with the changes of a batch among them, serves a run of what changes speak of
 pub record IsCurrent (held : Held) : Type 0 where
-  pub outcome : IsOutcome (documents_of held) (outcome_in held)
-  pub compiled : AreCompiled (documents_of held).modules held.compiled
+  pub outcome : IsOutcome (present_of held) (outcome_in held)
+  pub compiled : AreCompiled (present_of held).modules held.compiled
   pub below : HasBelow (made_of held) held
-  pub last : LastHolds (outcome_in held) held.compiled (parameters_of held.parameters) held.source held.last
+  pub last : LastHolds (outcome_in held) held.compiled (present_of held).parameters (present_basis held).source (present_basis held).last
+  pub serves : LastServes held.compiled (parameters_of held.parameters) held.source held.last
+  pub batch : IfSome held.batch (IsBatchOf (made_of held) (documents_of held).modules)
 
 -- what is known of what the last run left while a change is made ready
 pub record IsKnown (held : Held) : Type 0 where
-  pub last : LastHolds (outcome_in held) held.compiled (parameters_of held.parameters) held.source held.last
+  pub last : LastServes held.compiled (parameters_of held.parameters) held.source held.last
 
 -- nothing of what is told has changed
 pub record IsKept (old new : Held) : Type 0 where
   pub documents : documents_of new ≡ documents_of old
+  pub present : present_of new ≡ present_of old
+  pub pending : pending_of new ≡ pending_of old
   pub made : made_of new ≡ made_of old
   pub outcome : outcome_in new ≡ outcome_in old
   pub steps : steps_in new ≡ steps_in old
@@ -113,18 +165,25 @@ edit_fault_of (builds.Refused fault) = faults.Refused fault.code fault.line
 
 -- ---- What is ready
 
+-- the documents that changes speak of, once it is adopted
 abbrev pub changed_by : Change → Documents → Documents
 changed_by (changes.Source document) old = with_source (plain_of document) old
 changed_by (changes.Module name document compiled) old = with_module (chars (string_bytes name)) (plain_of document) old
 changed_by (changes.Dropped name compiled) old = without_module name old
 changed_by (changes.Parameter name value) old = with_parameter (chars (string_bytes name)) value old
+changed_by (changes.Committed compiled) old = old
 
--- what is held of what the modules are, once it is adopted
+-- what is held of what the modules are
+abbrev pub compiled_by : Recompiled → (was : Option Compiled) → Option Compiled
+compiled_by AsBefore was = was
+compiled_by (Now compiled) was = compiled
+
 abbrev pub next_compiled : Change → Held → Option Compiled
 next_compiled (changes.Source document) held = held.compiled
-next_compiled (changes.Module name document compiled) held = compiled
-next_compiled (changes.Dropped name compiled) held = compiled
+next_compiled (changes.Module name document compiled) held = compiled_by compiled held.compiled
+next_compiled (changes.Dropped name compiled) held = compiled_by compiled held.compiled
 next_compiled (changes.Parameter name value) held = held.compiled
+next_compiled (changes.Committed compiled) held = compiled_by compiled held.compiled
 
 -- and of the source, with the numbers of its nodes
 abbrev pub next_source : Change → Held → Option (Document ℕ)
@@ -132,19 +191,42 @@ next_source (changes.Source document) held = Some document
 next_source (changes.Module name document compiled) held = held.source
 next_source (changes.Dropped name compiled) held = held.source
 next_source (changes.Parameter name value) held = held.source
+next_source (changes.Committed compiled) held = held.source
 
--- what is held once it is adopted
+-- and of the batch: a change of a module is noted, and a commit ends it
+abbrev pub with_edit : Batch → Batch
+with_edit batch = record batch { is_edited = true }
+
+abbrev pub next_batch : Change → Option Batch → Option Batch
+next_batch (changes.Source document) batch = batch
+next_batch (changes.Module name document compiled) batch = option_map with_edit batch
+next_batch (changes.Dropped name compiled) batch = option_map with_edit batch
+next_batch (changes.Parameter name value) batch = batch
+next_batch (changes.Committed compiled) batch = None
+
 abbrev pub next_documents : Ready → Held → Documents
 next_documents ready held = changed_by ready.change (documents_of held)
 
 abbrev pub next_made : Ready → ℕ
 next_made ready = ready.next.number
 
-abbrev pub next_outcome : Ready → spec.Outcome
-next_outcome ready = outcome_of ready.came.outcome
+-- what is told of it: nothing where it is a change in a batch
+abbrev pub told_by : Coming → Option spec.Outcome
+told_by (Told came) = Some (outcome_of came.outcome)
+told_by (Pending since) = None
 
-abbrev pub next_steps : Ready → Steps
-next_steps ready = ready.came.steps
+abbrev pub told_of : Ready → Option spec.Outcome
+told_of ready = told_by ready.coming
+
+abbrev pub next_outcome : Ready → Held → spec.Outcome
+next_outcome ready held = unwrap_or (told_of ready) (outcome_in held)
+
+abbrev pub steps_by : Coming → Steps → Steps
+steps_by (Told came) steps = came.steps
+steps_by (Pending since) steps = steps
+
+abbrev pub next_steps : Ready → Held → Steps
+next_steps ready held = steps_by ready.coming (steps_in held)
 
 -- what the modules were when they last were a stylesheet, where they are none from now on, by what they were until now
 abbrev pub before_by : (compiled was before : Option Compiled) → Option Compiled
@@ -152,22 +234,67 @@ before_by None was before = last_known was before
 before_by (Some (Refused why)) was before = last_known was before
 before_by (Some (Stylesheet stylesheet rules method)) was before = None
 
+abbrev pub before_with : Recompiled → (was before : Option Compiled) → Option Compiled
+before_with AsBefore was before = before
+before_with (Now compiled) was before = before_by compiled was before
+
 abbrev pub next_before : Change → Held → Option Compiled
 next_before (changes.Source document) held = held.last.before
-next_before (changes.Module name document compiled) held = before_by compiled held.compiled held.last.before
-next_before (changes.Dropped name compiled) held = before_by compiled held.compiled held.last.before
+next_before (changes.Module name document compiled) held = before_with compiled held.compiled held.last.before
+next_before (changes.Dropped name compiled) held = before_with compiled held.compiled held.last.before
 next_before (changes.Parameter name value) held = held.last.before
+next_before (changes.Committed compiled) held = before_with compiled held.compiled held.last.before
 
 -- where the new run kept nothing, what the last one kept stays
 abbrev pub left_by : Came → (before : Option Compiled) → LastRun → LastRun
 left_by came before last = record { kept = unwrap_or came.kept last.kept; since = came.since; before = before }
 
+abbrev pub left_after : Coming → (before : Option Compiled) → LastRun → LastRun
+left_after (Told came) before last = left_by came before last
+left_after (Pending since) before last = record { kept = last.kept; since = since; before = before }
+
 abbrev pub next_last : Ready → Held → LastRun
-next_last ready held = left_by ready.came (next_before ready.change held) held.last
+next_last ready held = left_after ready.coming (next_before ready.change held) held.last
+
+-- what is present and what is pending, once it is adopted
+abbrev pub next_basis : Ready → Held → Basis
+next_basis ready held = record { documents = next_documents ready held; source = next_source ready.change held; last = next_last ready held }
+
+abbrev pub next_present : Ready → Held → Documents
+next_present ready held = (present_by (next_batch ready.change held.batch) (next_basis ready held)).documents
+
+abbrev pub next_pending : Ready → Held → Option Documents
+next_pending ready held = option_map (λ batch. next_documents ready held) (next_batch ready.change held.batch)
 
 -- with what came in place of what came before
 abbrev pub with_came : Came → Held → Held
 with_came came held = record held { outcome = came.outcome; steps = came.steps; last = left_by came held.last.before held.last }
+
+abbrev pub outcome_after : Coming → Outcome → Outcome
+outcome_after (Told came) outcome = came.outcome
+outcome_after (Pending since) outcome = outcome
+
+abbrev pub with_coming : Coming → Held → Held
+with_coming coming held = record held {
+  outcome = outcome_after coming held.outcome;
+  steps = steps_by coming held.steps;
+  last = left_after coming held.last.before held.last;
+}
+
+-- with what the modules are now in place of what they were, where that is known, and with that noted in a batch that is open
+abbrev pub with_recompiled : Recompiled → Held → Held
+with_recompiled compiled held = record held {
+  compiled = compiled_by compiled held.compiled;
+  last = record held.last { before = before_with compiled held.compiled held.last.before };
+}
+
+abbrev pub with_edited_modules : Recompiled → Held → Held
+with_edited_modules compiled held = record (with_recompiled compiled held) { batch = option_map with_edit held.batch }
+
+-- the outcome and what it took have not changed
+pub record StaysTold (old new : Held) : Type 0 where
+  pub outcome : outcome_in new ≡ outcome_in old
+  pub steps : steps_in new ≡ steps_in old
 
 -- there is room for it, so that no memory is taken
 abbrev pub HasRoom : Change → Held → Type 0
@@ -175,6 +302,7 @@ HasRoom (changes.Source document) held = Unit {0}
 HasRoom (changes.Module name document compiled) held = 0 < spare held.modules
 HasRoom (changes.Dropped name compiled) held = Unit {0}
 HasRoom (changes.Parameter name value) held = HasRoomForOne held.parameters
+HasRoom (changes.Committed compiled) held = Unit {0}
 
 -- the numbers of the document that changes are below this one
 abbrev pub IsBelow : ℕ → Change → Type 0
@@ -182,24 +310,52 @@ IsBelow first (changes.Source document) = AreBelow first document
 IsBelow first (changes.Module name document compiled) = AreBelow first document
 IsBelow first (changes.Dropped name compiled) = Unit {0}
 IsBelow first (changes.Parameter name value) = Unit {0}
+IsBelow first (changes.Committed compiled) = Unit {0}
 
--- it was made from what is held: its outcome is that of the documents that will be held, what was kept and counted goes with that, the modules are
--- what will be held of that, the next number will be that of no node, and where there is a result, the questions of what its run kept will have their
--- answers
-pub record IsMadeFrom (held : Held) (ready : Ready) : Type 0 where
-  pub outcome : IsOutcome (next_documents ready held) (next_outcome ready)
-  pub fits : Fits ready.came
+-- what is told of a change with this outcome, which is present once it is adopted, and of one in a batch, with no outcome
+abbrev pub IsToldOf : Option spec.Outcome → Ready → Held → Type 0
+IsToldOf (Some outcome) ready held =
+    IsOutcome (next_present ready held) outcome × (next_pending ready held ≡ None) × (next_present ready held ≡ next_documents ready held)
+IsToldOf None ready held =
+    (is_some (pending_of held) ≡ true) × (next_present ready held ≡ present_of held) × (next_pending ready held ≡ Some (next_documents ready held))
+
+-- Its outcome is that of the documents that will be held, and no batch will be open. What was kept and counted goes with that, the modules are what will
+-- be held of that, and where there is a result, the questions of what its run kept will have their answers
+pub record IsTold (came : Came) (ready : Ready) (held : Held) : Type 0 where
+  pub outcome : IsOutcome (next_documents ready held) (outcome_of came.outcome)
+  pub closed : next_batch ready.change held.batch ≡ None
+  pub fits : Fits came
   pub compiled : AreCompiled (next_documents ready held).modules (next_compiled ready.change held)
+  pub last : LastHolds (outcome_of came.outcome) (next_compiled ready.change held) (next_documents ready held).parameters (next_source ready.change held)
+      (next_last ready held)
+
+-- It is a change in a batch: what is present stays, the modules are not compiled, and what the last run kept will serve a run of the documents that will be
+-- pending
+pub record IsPending (ready : Ready) (held : Held) : Type 0 where
+  pub current : IsCurrent held
+  pub is_open : is_some (next_batch ready.change held.batch) ≡ true
+  pub grows : made_of held ≤ next_made ready
+  pub compiled : next_compiled ready.change held ≡ held.compiled
+  pub before : next_before ready.change held ≡ held.last.before
+  pub serves : LastServes held.compiled (next_documents ready held).parameters (next_source ready.change held) (next_last ready held)
+
+abbrev pub IsComing : Coming → Ready → Held → Type 0
+IsComing (Told came) ready held = IsTold came ready held
+IsComing (Pending since) ready held = IsPending ready held
+
+-- it was made from what is held, and there is room for it; the next number will be that of no node
+pub record IsMadeFrom (held : Held) (ready : Ready) : Type 0 where
+  pub outcome : IsToldOf (told_of ready) ready held
+  pub comes : IsComing ready.coming ready held
   pub room : HasRoom ready.change held
   pub others : HasBelow (next_made ready) held
   pub below : IsBelow (next_made ready) ready.change
-  pub last : LastHolds (next_outcome ready) (next_compiled ready.change held) (next_documents ready held).parameters (next_source ready.change held)
-      (next_last ready held)
 
--- it changes the documents that are held so, after which so many nodes were made
+-- it changes the documents that changes speak of so, after which so many nodes were made, and leaves a batch open
 pub record IsReady (change : Documents → Documents) (nodes : ℕ) (held : Held) (ready : Ready) : Type 0 where
   pub documents : next_documents ready held ≡ change (documents_of held)
   pub made : next_made ready ≡ nodes
+  pub pending : next_pending ready held ≡ option_map (λ documents. next_documents ready held) (pending_of held)
   pub from : IsMadeFrom held ready
 
 -- ---- What a change is answered. Want of memory is free
@@ -242,3 +398,56 @@ abbrev pub PreparesParameter : (name value : List ℕ) → Held → Result Ready
 PreparesParameter name value held (Ok ready) = (parameter_fault name value ≡ None) × IsReady (with_parameter name value) (made_of held) held ready
 PreparesParameter name value held (Err (faults.Refused code line)) = (parameter_fault name value ≡ Some (edit_number code)) × (line ≡ 0)
 PreparesParameter name value held (Err faults.Memory) = Unit {0}
+
+-- ---- Batches
+
+-- what is present is pending too, and nothing else has changed
+pub record IsBegun (old new : Held) : Type 0 where
+  pub was : pending_of old ≡ None
+  pub pending : pending_of new ≡ Some (documents_of old)
+  pub present : present_of new ≡ present_of old
+  pub documents : documents_of new ≡ documents_of old
+  pub made : made_of new ≡ made_of old
+  pub outcome : outcome_in new ≡ outcome_in old
+  pub steps : steps_in new ≡ steps_in old
+
+-- where a batch is to be opened: 16 where one is open
+abbrev pub Begins : (old new : Held) → Result (Unit {0}) EditFault → Type 0
+Begins old new (Ok done) = IsBegun old new
+Begins old new (Err (faults.Refused code line)) = (edit_number code ≡ 16) × (is_some (pending_of old) ≡ true) × IsKept old new × (line ≡ 0)
+Begins old new (Err faults.Memory) = IsKept old new
+
+-- what is pending will be present, in one change, of which an outcome is told
+pub record IsCommit (held : Held) (ready : Ready) : Type 0 where
+  pub is_open : is_some (pending_of held) ≡ true
+  pub present : next_present ready held ≡ documents_of held
+  pub pending : next_pending ready held ≡ None
+  pub made : next_made ready ≡ made_of held
+  pub from : IsMadeFrom held ready
+  pub told : is_some (told_of ready) ≡ true
+
+-- where a batch is to be committed: 17 where none is open
+abbrev pub PreparesCommit : Held → Result Ready EditFault → Type 0
+PreparesCommit held (Ok ready) = IsCommit held ready
+PreparesCommit held (Err (faults.Refused code line)) = (edit_number code ≡ 17) × (pending_of held ≡ None) × (line ≡ 0)
+PreparesCommit held (Err faults.Memory) = Unit {0}
+
+-- what a batch goes back to, in place of what was pending
+abbrev pub gone_back : Batch → Held → Held
+gone_back batch held = record held { source = batch.source; modules = batch.modules; parameters = batch.parameters; last = record held.last { since = batch.since } }
+
+-- what was pending is dropped, but for the numbers that its nodes were given
+pub record IsAbandoned (old new : Held) : Type 0 where
+  pub is_open : is_some (pending_of old) ≡ true
+  pub documents : documents_of new ≡ present_of old
+  pub present : present_of new ≡ present_of old
+  pub pending : pending_of new ≡ None
+  pub made : made_of new ≡ made_of old
+  pub outcome : outcome_in new ≡ outcome_in old
+  pub steps : steps_in new ≡ steps_in old
+
+-- where a batch is to be abandoned: 17 where none is open. It takes no memory
+abbrev pub Abandons : (old new : Held) → Result (Unit {0}) EditFault → Type 0
+Abandons old new (Ok done) = IsAbandoned old new
+Abandons old new (Err (faults.Refused code line)) = (edit_number code ≡ 17) × (pending_of old ≡ None) × IsKept old new × (line ≡ 0)
+Abandons old new (Err faults.Memory) = ⊥

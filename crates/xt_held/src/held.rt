@@ -1,8 +1,8 @@
 // What a session holds.
-ghost use Rattle.std.specs.Prelude.{◌≡◌, ◌+◌, ◌<◌, ◌≤◌, ℕ, List, IfOk, IfSome, Some, string_bytes};
+ghost use Rattle.std.specs.Prelude.{◌≡◌, ◌+◌, ◌<◌, ◌≤◌, ℕ, List, IfOk, IfSome, None, Some, false, string_bytes};
 ghost use Rattle.std.specs.HashMap.{spare};
 ghost use Rattle.std.specs.Map.{lookup};
-ghost use Rattle.std.specs.Option.{option_copied};
+ghost use Rattle.std.specs.Option.{is_some, option_copied, option_map};
 ghost use Rattle.std.specs.Str.{chars};
 ghost use Rattle.spec_document.specs.Document.{document_of};
 ghost use Rattle.spec_document.specs.Forest.{size};
@@ -16,19 +16,21 @@ ghost use Rattle.spec_structure.specs.Modules.{Modules};
 ghost use Rattle.spec_run.specs.Outcome.{Comes};
 ghost use Rattle.xt_world.specs.ParameterView.{HasRoomForOne, parameters_of, with_value};
 ghost use Rattle.xt_touch.specs.View.{since_of};
-ghost use Rattle.xt_held.specs.RunView.{AnswersAsSome, IsFaultless, IsMadeBy, IsMadeByEdit, IsMadeByMove, LastHolds, StaysSpared, last_known};
+ghost use Rattle.xt_held.specs.RunView.{AnswersAsSome, IsFaultless, IsMadeBy, IsMadeByEdit, IsMadeByMove, LastHolds, LastServes, StaysSpared, last_known};
 ghost use Rattle.xt_held.specs.StylesheetView.{AreCompiled};
 ghost use Rattle.xt_import.specs.View.{is_name, plain_of};
 ghost use Rattle.xt_held.specs.OutcomeView.{Fits, no_steps, outcome_of, plain_in};
-ghost use Rattle.xt_held.specs.View.{HasBelow, HasRoom, IsBelow, IsCurrent, IsKept, IsKnown, IsMadeFrom, IsReady, IsFaultlessAs, Prepares, PreparesDrop, PreparesEdit, PreparesMove, PreparesParameter, before_by, changed_by, document_named, documents_of, edit_fault_of, last_in, left_by, made_of, next_before, next_compiled, next_documents, next_last, next_made, next_outcome, next_source, next_steps, numbered_document, outcome_in, steps_in, with_came, with_document};
+ghost use Rattle.xt_held.specs.View.{HasBelow, HasRoom, IsBelow, IsCurrent, IsKept, IsKnown, IsMadeFrom, IsReady, IsFaultlessAs, Prepares, PreparesDrop, PreparesEdit, PreparesMove, PreparesParameter, StaysTold, before_by, before_with, changed_by, compiled_by, document_named, documents_of, edit_fault_of, last_in, left_by, made_of, next_batch, next_before, next_compiled, next_documents, next_last, next_made, next_outcome, next_pending, next_present, next_source, next_steps, numbered_document, outcome_in, pending_of, present_of, steps_in, with_came, with_coming, with_document, with_edit, with_edited_modules, with_recompiled};
+ghost use Rattle.xt_held.specs.declared.ready.Recompiled.TheVariants as recompiled;
 
+use crate::batch::Batch;
 use crate::last_run::LastRun;
 use crate::marking::{since_edit, since_modules, since_move, since_parameter};
 use crate::name::DocName;
 use crate::origin::Origin;
 use crate::outcome::{Came, Outcome, at_no_element, no_steps, outcome_of};
 use crate::parameter::{TriedParameter, outcome_with, parameter_fault};
-use crate::ready::{Change, Ready};
+use crate::ready::{Change, Coming, Ready, Recompiled};
 use crate::stylesheet::{Compiled, is_stylesheet, last_known};
 use crate::tried::{Tried, compiled_with, compiled_without};
 use crate::unread::unread_line;
@@ -52,22 +54,29 @@ use xt_world::Parameters;
 /// The documents that are held, what the modules are, the values that parameters are given, the number of the next
 /// node, and the outcome of the transformation, which is that of all these; and what the last run that ended with a
 /// result left to the next, and what the last change took.
+///
+/// While a batch is open the documents and the parameters here are those that are pending, of which paths and changes
+/// speak; what the modules are, the outcome and what the last change took are those of what is present.
 #[derive(Drop)]
 pub struct Held {
-    source: Option<Doc>,
-    modules: IndexMap<String, Doc>,
-    compiled: Option<Compiled>,
-    parameters: Parameters,
-    next: NodeId,
-    outcome: Outcome,
-    last: LastRun,
-    steps: Steps,
+    pub(crate) source: Option<Doc>,
+    pub(crate) modules: IndexMap<String, Doc>,
+    pub(crate) compiled: Option<Compiled>,
+    pub(crate) parameters: Parameters,
+    pub(crate) next: NodeId,
+    pub(crate) outcome: Outcome,
+    pub(crate) last: LastRun,
+    pub(crate) steps: Steps,
+    pub(crate) batch: Option<Batch>,
 }
 
 impl Held {
-    /// No document, so that the outcome is S01; the first node will have the number 0. No run was there. Takes no memory.
+    /// No document, so that the outcome is S01; the first node will have the number 0. No run was there, and no batch is
+    /// open. Takes no memory.
     pub fn new(alloc: Global) -> Held
         ensures documents { documents_of result ≡ no_documents }
+        ensures present { present_of result ≡ no_documents }
+        ensures pending { pending_of result ≡ None }
         ensures made { made_of result ≡ 0 }
         ensures steps { steps_in result ≡ no_steps }
         ensures current { IsCurrent result }
@@ -85,6 +94,7 @@ impl Held {
                 before: None,
             },
             steps: no_steps(),
+            batch: None,
         }
     }
 
@@ -198,25 +208,41 @@ impl Held {
         }
     }
 
-    /// Makes present what is ready, which was made from what is held. What the last run with a result kept stays where
-    /// the new outcome is a refusal. Takes no memory.
+    /// Makes present what is ready, which was made from what is held; pending, where it is a change in a batch. What the last
+    /// run with a result kept stays where the new outcome is a refusal. Takes no memory.
     pub fn adopt(&mut self, ready: Ready)
         requires { IsMadeFrom self.old ready }
         ensures documents { documents_of self.new ≡ next_documents ready self.old }
+        ensures present { present_of self.new ≡ next_present ready self.old }
+        ensures pending { pending_of self.new ≡ next_pending ready self.old }
         ensures made { made_of self.new ≡ next_made ready }
-        ensures outcome { outcome_in self.new ≡ next_outcome ready }
-        ensures steps { steps_in self.new ≡ next_steps ready }
+        ensures outcome { outcome_in self.new ≡ next_outcome ready self.old }
+        ensures steps { steps_in self.new ≡ next_steps ready self.old }
         ensures last { last_in self.new ≡ next_last ready self.old }
         ensures current { IsCurrent self.new }
     {
-        let Ready { change, next, came } = ready;
+        let Ready {
+            change,
+            next,
+            coming,
+        } = ready;
         self.put(change);
         self.next = next;
-        self.take_over(came);
+        self.take_over(coming);
+    }
+
+    // In a batch there is no new outcome, and what the last run left stays but for one change more.
+    fn take_over(&mut self, coming: Coming)
+        ensures { self.new ≡ with_coming coming self.old }
+    {
+        match coming {
+            Coming::Told(came) => self.take_came(came),
+            Coming::Pending(since) => drop(mem::replace(&mut self.last.since, since)),
+        }
     }
 
     // What the last run with a result kept goes only where there is a new result.
-    fn take_over(&mut self, came: Came)
+    fn take_came(&mut self, came: Came)
         ensures { self.new ≡ with_came came self.old }
     {
         let Came {
@@ -234,21 +260,21 @@ impl Held {
         }
     }
 
-    /// What the transformation of the documents comes to. Takes no memory.
+    /// What the transformation of the documents comes to that are present. Takes no memory.
     pub fn outcome(&self) -> &Outcome
         ensures { outcome_of result.now ≡ outcome_in self.now }
     {
         &self.outcome
     }
 
-    /// What the last change that was adopted took. Takes no memory.
+    /// What the last change took that was adopted outside a batch, or the last commit. Takes no memory.
     pub fn stats(&self) -> Steps
         ensures { result ≡ steps_in self.now }
     {
         self.steps
     }
 
-    /// The document of this name, where there is one. Takes no memory.
+    /// The document of this name, where there is one; while a batch is open, the pending one. Takes no memory.
     pub fn document(&self, name: DocName<'_>) -> Option<&Doc>
         ensures { plain_in result ≡ document_named name.entry (documents_of self.now) }
     {
@@ -352,7 +378,7 @@ impl Held {
         }
     }
 
-    // The modules are what they are.
+    // In a batch it runs nothing.
     fn source_ready(
         &self,
         alloc: Global,
@@ -367,6 +393,29 @@ impl Held {
         requires below { AreBelow next.number document }
         ensures { IfOk result (λ ready. IsReady (with_source (plain_of document)) next.number self.now ready) }
     {
+        if self.pending() {
+            self.pending_source(alloc, origin, document, next)
+        } else {
+            self.present_source(alloc, origin, document, next)
+        }
+    }
+
+    // The modules are what they are.
+    fn present_source(
+        &self,
+        alloc: Global,
+        origin: Origin<'_>,
+        document: Doc,
+        next: NodeId,
+    ) -> Result<Ready, Memory>
+        requires current { IsCurrent self.now }
+        requires alone { is_some (pending_of self.now) ≡ false }
+        requires made { IsMadeBy origin self.now.source document }
+        requires faultless { IsFaultless document }
+        requires grows { made_of self.now ≤ next.number }
+        requires below { AreBelow next.number document }
+        ensures { IfOk result (λ ready. IsReady (with_source (plain_of document)) next.number self.now ready) }
+    {
         let Ok(came) = self.outcome_with_source(alloc, origin, &document) else {
             drop(document);
             return Err(Memory);
@@ -374,7 +423,7 @@ impl Held {
         Ok(Ready {
             change: Change::Source(document),
             next,
-            came,
+            coming: Coming::Told(came),
         })
     }
 
@@ -395,14 +444,31 @@ impl Held {
             (left_by came self.now.last.before self.now.last)) }
     {
         let since = self.since_source(alloc, origin, document)?;
+        self.outcome_after(alloc, Some(document), since)
+    }
+
+    // The outcome with this source, where the modules and the parameters are what they are, after these changes.
+    pub(crate) fn outcome_after(
+        &self,
+        alloc: Global,
+        source: Option<&Doc>,
+        since: Since,
+    ) -> Result<Came, Memory>
+        requires { LastServes self.now.compiled (parameters_of self.now.parameters) (option_copied source) (record self.now.last { since = since }) }
+        ensures outcome { (modules : Modules) → AreCompiled modules self.now.compiled
+            → IfOk result (λ came. Comes modules (parameters_of self.now.parameters) (modules main_name) (plain_in source.entry) (outcome_of came.outcome)) }
+        ensures fits { IfOk result (λ came. Fits came) }
+        ensures last { IfOk result (λ came. LastHolds (outcome_of came.outcome) self.now.compiled (parameters_of self.now.parameters) (option_copied source.entry)
+            (left_by came self.now.last.before self.now.last)) }
+    {
         let compiled = self.compiled.as_ref();
         let parameters = &self.parameters;
         let kept = &self.last.kept;
-        outcome_of(alloc, compiled, parameters, Some(document), kept, since)
+        outcome_of(alloc, compiled, parameters, source, kept, since)
     }
 
     // What changed since the last run with a result, where this is the source from now on.
-    fn since_source(
+    pub(crate) fn since_source(
         &self,
         alloc: Global,
         origin: Origin<'_>,
@@ -427,7 +493,7 @@ impl Held {
         }
     }
 
-    // There is room for one module more afterwards, so that `adopt` takes no memory.
+    // In a batch no module is compiled, and nothing is run.
     fn module_ready(
         &mut self,
         alloc: Global,
@@ -436,6 +502,28 @@ impl Held {
         next: NodeId,
     ) -> Result<Ready, Memory>
         requires current { IsCurrent self.old }
+        requires grows { made_of self.old ≤ next.number }
+        requires below { AreBelow next.number document }
+        ensures ok { IfOk result (λ ready. IsReady (with_module name.now (plain_of document)) next.number self.new ready) }
+        ensures kept { IsKept self.old self.new }
+    {
+        if self.pending() {
+            self.pending_module(alloc, name, document, next)
+        } else {
+            self.present_module(alloc, name, document, next)
+        }
+    }
+
+    // There is room for one module more afterwards, so that `adopt` takes no memory.
+    fn present_module(
+        &mut self,
+        alloc: Global,
+        name: &Text,
+        document: Doc,
+        next: NodeId,
+    ) -> Result<Ready, Memory>
+        requires current { IsCurrent self.old }
+        requires alone { is_some (pending_of self.old) ≡ false }
         requires grows { made_of self.old ≤ next.number }
         requires below { AreBelow next.number document }
         ensures ok { IfOk result (λ ready. IsReady (with_module name.now (plain_of document)) next.number self.new ready) }
@@ -457,15 +545,29 @@ impl Held {
         };
         let Tried { compiled, document } = tried;
         Ok(Ready {
-            change: Change::Module(key, document, compiled),
+            change: Change::Module(key, document, Recompiled::Now(compiled)),
             next,
-            came,
+            coming: Coming::Told(came),
         })
     }
 
-    // What is removed takes no memory, so that `adopt` wants no room.
+    // The same for a module that is dropped.
     fn drop_ready(&mut self, alloc: Global, name: &Text) -> Result<Ready, Memory>
         requires { IsCurrent self.old }
+        ensures ok { IfOk result (λ ready. IsReady (without_module name.now) (made_of self.new) self.new ready) }
+        ensures kept { IsKept self.old self.new }
+    {
+        if self.pending() {
+            self.pending_drop(alloc, name)
+        } else {
+            self.present_drop(alloc, name)
+        }
+    }
+
+    // What is removed takes no memory, so that `adopt` wants no room.
+    fn present_drop(&mut self, alloc: Global, name: &Text) -> Result<Ready, Memory>
+        requires current { IsCurrent self.old }
+        requires alone { is_some (pending_of self.old) ≡ false }
         ensures ok { IfOk result (λ ready. IsReady (without_module name.now) (made_of self.new) self.new ready) }
         ensures kept { IsKept self.old self.new }
     {
@@ -476,14 +578,14 @@ impl Held {
             return Err(Memory);
         };
         Ok(Ready {
-            change: Change::Dropped(dropped, compiled),
+            change: Change::Dropped(dropped, Recompiled::Now(compiled)),
             next: self.next,
-            came,
+            coming: Coming::Told(came),
         })
     }
 
     // The outcome where modules are this.
-    fn outcome_with_modules(
+    pub(crate) fn outcome_with_modules(
         &self,
         alloc: Global,
         compiled: Option<&Compiled>,
@@ -504,9 +606,28 @@ impl Held {
         outcome_of(alloc, compiled, parameters, source, kept, since)
     }
 
-    // There is room for one parameter more afterwards, so that `adopt` takes no memory.
+    // In a batch nothing is run.
     fn parameter_ready(&mut self, alloc: Global, name: &Text, value: &Text) -> Result<Ready, Memory>
         requires { IsCurrent self.old }
+        ensures ok { IfOk result (λ ready. IsReady (with_parameter name.now value.now) (made_of self.new) self.new ready) }
+        ensures kept { IsKept self.old self.new }
+    {
+        if self.pending() {
+            self.pending_parameter(alloc, name, value)
+        } else {
+            self.present_parameter(alloc, name, value)
+        }
+    }
+
+    // There is room for one parameter more afterwards, so that `adopt` takes no memory.
+    fn present_parameter(
+        &mut self,
+        alloc: Global,
+        name: &Text,
+        value: &Text,
+    ) -> Result<Ready, Memory>
+        requires current { IsCurrent self.old }
+        requires alone { is_some (pending_of self.old) ≡ false }
         ensures ok { IfOk result (λ ready. IsReady (with_parameter name.now value.now) (made_of self.new) self.new ready) }
         ensures kept { IsKept self.old self.new }
     {
@@ -527,7 +648,7 @@ impl Held {
         Ok(Ready {
             change: Change::Parameter(name, value),
             next: self.next,
-            came,
+            coming: Coming::Told(came),
         })
     }
 
@@ -537,6 +658,8 @@ impl Held {
         ensures compiled { self.new.compiled ≡ next_compiled change self.old }
         ensures source { self.new.source ≡ next_source change self.old }
         ensures last { last_in self.new ≡ record (last_in self.old) { before = next_before change self.old } }
+        ensures batch { self.new.batch ≡ next_batch change self.old.batch }
+        ensures told { StaysTold self.old self.new }
         ensures below { (first : ℕ) → HasBelow first self.old → IsBelow first change → HasBelow first self.new }
     {
         match change {
@@ -544,6 +667,7 @@ impl Held {
             Change::Module(name, document, compiled) => self.put_module(name, document, compiled),
             Change::Dropped(name, compiled) => self.take_module(&name, compiled),
             Change::Parameter(name, value) => self.put_parameter(name, value),
+            Change::Committed(compiled) => self.put_pending(compiled),
         }
     }
 
@@ -552,38 +676,61 @@ impl Held {
         ensures source { self.new.source ≡ Some document }
         ensures compiled { self.new.compiled ≡ self.old.compiled }
         ensures last { last_in self.new ≡ last_in self.old }
+        ensures batch { self.new.batch ≡ self.old.batch }
+        ensures told { StaysTold self.old self.new }
         ensures below { (first : ℕ) → HasBelow first self.old → AreBelow first document → HasBelow first self.new }
     {
         drop(mem::replace(&mut self.source, Some(document)));
     }
 
     // There is room, so the insertion does not fail.
-    fn put_module(&mut self, name: String, document: Doc, compiled: Option<Compiled>)
+    fn put_module(&mut self, name: String, document: Doc, compiled: Recompiled)
         requires { 0 < spare self.old.modules }
         ensures source { self.new.source ≡ self.old.source }
         ensures documents { documents_of self.new ≡ with_module (chars (string_bytes name)) (plain_of document) (documents_of self.old) }
-        ensures compiled { self.new.compiled ≡ compiled }
-        ensures last { last_in self.new ≡ record (last_in self.old) { before = before_by compiled self.old.compiled self.old.last.before } }
+        ensures compiled { self.new.compiled ≡ compiled_by compiled self.old.compiled }
+        ensures last { last_in self.new ≡ record (last_in self.old) { before = before_with compiled self.old.compiled self.old.last.before } }
+        ensures batch { self.new.batch ≡ option_map with_edit self.old.batch }
+        ensures told { StaysTold self.old self.new }
         ensures below { (first : ℕ) → HasBelow first self.old → AreBelow first document → HasBelow first self.new }
     {
         drop(self.modules.insert(name, document));
-        self.put_compiled(compiled);
+        self.put_edited(compiled);
     }
 
-    fn take_module(&mut self, name: &Text, compiled: Option<Compiled>)
+    fn take_module(&mut self, name: &Text, compiled: Recompiled)
         ensures source { self.new.source ≡ self.old.source }
         ensures documents { documents_of self.new ≡ without_module name.now (documents_of self.old) }
-        ensures compiled { self.new.compiled ≡ compiled }
-        ensures last { last_in self.new ≡ record (last_in self.old) { before = before_by compiled self.old.compiled self.old.last.before } }
+        ensures compiled { self.new.compiled ≡ compiled_by compiled self.old.compiled }
+        ensures last { last_in self.new ≡ record (last_in self.old) { before = before_with compiled self.old.compiled self.old.last.before } }
+        ensures batch { self.new.batch ≡ option_map with_edit self.old.batch }
+        ensures told { StaysTold self.old self.new }
         ensures below { (first : ℕ) → HasBelow first self.old → HasBelow first self.new }
     {
         drop(self.modules.shift_remove(name.as_str()));
-        self.put_compiled(compiled);
+        self.put_edited(compiled);
+    }
+
+    // A batch that is open notes that a module has changed.
+    fn put_edited(&mut self, compiled: Recompiled)
+        ensures { self.new ≡ with_edited_modules compiled self.old }
+    {
+        self.put_recompiled(compiled);
+        self.note_edit();
+    }
+
+    fn put_recompiled(&mut self, compiled: Recompiled)
+        ensures { self.new ≡ with_recompiled compiled self.old }
+    {
+        match compiled {
+            Recompiled::AsBefore => {}
+            Recompiled::Now(compiled) => self.put_compiled(compiled),
+        }
     }
 
     // What the modules were stays where they were a stylesheet and are none.
     fn put_compiled(&mut self, compiled: Option<Compiled>)
-        ensures { self.new ≡ record self.old { compiled = compiled; last = record (last_in self.old) { before = before_by compiled self.old.compiled self.old.last.before } } }
+        ensures { self.new ≡ with_recompiled (recompiled.Now compiled) self.old }
     {
         let is_run = is_stylesheet(&compiled);
         let was = mem::replace(&mut self.compiled, compiled);
@@ -604,9 +751,25 @@ impl Held {
         ensures documents { documents_of self.new ≡ with_parameter (chars (string_bytes name)) value (documents_of self.old) }
         ensures compiled { self.new.compiled ≡ self.old.compiled }
         ensures last { last_in self.new ≡ last_in self.old }
+        ensures batch { self.new.batch ≡ self.old.batch }
+        ensures told { StaysTold self.old self.new }
         ensures below { (first : ℕ) → HasBelow first self.old → HasBelow first self.new }
     {
         self.parameters.keep(name, value);
+    }
+
+    // What is pending is present from then on.
+    fn put_pending(&mut self, compiled: Recompiled)
+        ensures source { self.new.source ≡ self.old.source }
+        ensures documents { documents_of self.new ≡ documents_of self.old }
+        ensures compiled { self.new.compiled ≡ compiled_by compiled self.old.compiled }
+        ensures last { last_in self.new ≡ record (last_in self.old) { before = before_with compiled self.old.compiled self.old.last.before } }
+        ensures batch { self.new.batch ≡ None }
+        ensures told { StaysTold self.old self.new }
+        ensures below { (first : ℕ) → HasBelow first self.old → HasBelow first self.new }
+    {
+        drop(mem::replace(&mut self.batch, None));
+        self.put_recompiled(compiled);
     }
 }
 

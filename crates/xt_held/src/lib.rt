@@ -7,6 +7,9 @@
 //! comes to what a run from nothing would; of its questions those alone are asked again that some change since then marks, also
 //! where refusals came between. `stats` tells what that took. The modules are compiled again where one changes.
 //!
+//! In a batch changes are pending: paths and further changes speak of the documents as they have left them, but nothing is compiled
+//! or run, and outcome and `stats` stay. A commit makes all of them present as one change; or they are dropped.
+//!
 //! ```text
 //! let mut held = Held::new(alloc);                   // S01 -
 //! let ready = held.set_source(alloc, body)?;         // nothing is changed yet
@@ -17,9 +20,13 @@
 //! let ready = held.relocate(alloc, name, &path, &other)?;  // a node of it moved, by two paths
 //! let ready = held.set_param(alloc, name, value)?;   // the same for a parameter
 //! let ready = held.drop_module(alloc, name)?;        // a module taken away
+//! held.begin(alloc)?;                                // changes are pending from here on, and told no outcome
+//! let ready = held.commit(alloc)?;                   // what is pending becomes present: one change
+//! held.abandon()?;                                   // or all goes back to what is present; takes no memory
 //! ```
 #![tactic(auto)]
 
+mod batch;
 mod held;
 mod last_run;
 mod marking;

@@ -1,17 +1,36 @@
 -- What is held stands for the machine's state.
-use Rattle.std.specs.Prelude.{Bool, true, false, Option, Some}
+use Rattle.std.specs.Prelude.{Bool, true, false, Option, None, Some}
 use Rattle.spec_document.specs.Name.{Expanded}
 use Rattle.spec_stylesheet.specs.declared.method.Method.{Method}
 use Rattle.spec_stylesheet.specs.declared.method.Method.TheVariants as method
-use Rattle.spec_session.specs.Machine.{State}
+use Rattle.spec_run.specs.Outcome.{Outcome}
+use Rattle.spec_session.specs.Machine.{State, Answer, Changes, Pends, change_reply}
+use Rattle.spec_session.specs.Reply.{Reply, OkPending}
 use Rattle.spec_session.specs.Request.{DocumentName, SourceName, ModuleName}
-use Rattle.xt_held.specs.View.{documents_of, made_of}
+use Rattle.xt_held.specs.View.{made_of, next_made, next_pending, next_present, pending_of, present_of, told_of}
 use Rattle.xt_held.specs.declared.held.Held.{Held}
+use Rattle.xt_held.specs.declared.ready.Ready.{Ready}
 use Rattle.xt_held.specs.declared.name.DocName.{DocName}
 use Rattle.xt_held.specs.declared.name.DocName.TheVariants as names
 
 abbrev pub state_of : Held → State
-state_of held = record { documents = documents_of held; made = made_of held }
+state_of held = record { documents = present_of held; made = made_of held; pending = pending_of held }
+
+-- and once this is adopted
+abbrev pub next_state : Ready → Held → State
+next_state ready held = record { documents = next_present ready held; made = next_made ready; pending = next_pending ready held }
+
+-- what the machine answers and replies where this is told of what is adopted: a change in a batch has no outcome
+abbrev pub answer_told : Option Outcome → State → Answer
+answer_told (Some outcome) next = Changes next
+answer_told None next = Pends next
+
+abbrev pub reply_told : Option Outcome → Reply
+reply_told (Some outcome) = change_reply outcome
+reply_told None = OkPending
+
+abbrev pub adopted : Ready → Held → Answer
+adopted ready held = answer_told (told_of ready) (next_state ready held)
 
 -- a document's name, by what it is called where it is held
 abbrev pub name_in : DocName → DocumentName

@@ -9,7 +9,9 @@ ghost use Rattle.xt_wire.specs.View.{asked_of, name_of};
 ghost use Rattle.xt_session.specs.State.{state_of};
 ghost use Rattle.xt_session.specs.Turn.{GivesReply, GivesText};
 
-use crate::changes::{drop_module, edit, relocate, set_module, set_parameter, set_source};
+use crate::changes::{
+    abandon, begin, commit, drop_module, edit, relocate, set_module, set_parameter, set_source,
+};
 use crate::command::Command;
 use crate::messages::messages_reply;
 use crate::names::doc_name;
@@ -80,6 +82,9 @@ fn carry_out(alloc: Global, held: &mut Held, asked: xt_wire::Command) -> Result<
             path,
             other,
         } => relocate(alloc, held, &document, &path, &other),
+        xt_wire::Command::Begin => begin(alloc, held),
+        xt_wire::Command::Commit => commit(alloc, held),
+        xt_wire::Command::Abandon => abandon(alloc, held),
     }
 }
 
@@ -120,7 +125,7 @@ fn messages(alloc: Global, held: &Held) -> Result<Text, Memory>
     text_of(alloc, reply)
 }
 
-// Tells what the last accepted change has cost.
+// Tells what the last change of what is present has cost.
 fn statistics(alloc: Global, held: &Held) -> Result<Text, Memory>
     ensures { IfOk result (λ text. GivesText (state_of held.now) TellsCounts text (state_of held.now)) }
 {

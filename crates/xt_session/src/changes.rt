@@ -3,12 +3,13 @@ ghost use Rattle.std.specs.Prelude.{◌≡◌, IfOk, OnErr};
 ghost use Rattle.spec_document.specs.Document.{document_of};
 ghost use Rattle.spec_document.specs.Scope.{root_scope};
 ghost use Rattle.spec_run.specs.Documents.{parameter_fault, with_module, with_source};
-ghost use Rattle.spec_session.specs.Machine.{answer_to, dropped_by, edited_in, given_by, kept_by, Changes};
+ghost use Rattle.spec_session.specs.Machine.{abandoned, answer_to, begun, committed, dropped_by, edited_documents, edited_in, given_by, kept_by};
+ghost use Rattle.spec_session.specs.Reply.{reply_text};
 ghost use Rattle.spec_session.specs.Request.{Move};
 ghost use Rattle.xt_edit.specs.View.{edit_of};
-ghost use Rattle.xt_held.specs.View.{IsCurrent, IsMadeFrom, next_documents, next_made};
+ghost use Rattle.xt_held.specs.View.{IsCurrent, IsMadeFrom, told_of};
 ghost use Rattle.xt_wire.specs.View.{name_of};
-ghost use Rattle.xt_session.specs.State.{state_of};
+ghost use Rattle.xt_session.specs.State.{adopted, reply_told, state_of};
 ghost use Rattle.xt_session.specs.Turn.{GivesText};
 
 use crate::names::doc_name;
@@ -55,7 +56,7 @@ pub(crate) fn set_module(
 /// Drops the module of this name, unless there is none.
 pub(crate) fn drop_module(alloc: Global, held: &mut Held, name: &Text) -> Result<Text, Memory>
     requires { IsCurrent held.old }
-    ensures ok { IfOk result (λ text. GivesText (state_of held.old) (dropped_by name.now (state_of held.old) ((state_of held.old).documents.modules name.now)) text (state_of held.new)) }
+    ensures ok { IfOk result (λ text. GivesText (state_of held.old) (dropped_by name.now (state_of held.old) ((edited_documents (state_of held.old)).modules name.now)) text (state_of held.new)) }
     ensures err { OnErr result (state_of held.new ≡ state_of held.old) }
     ensures current { IsCurrent held.new }
 {
@@ -124,15 +125,69 @@ pub(crate) fn set_parameter(
     }
 }
 
+/// Opens a batch, unless one is open.
+pub(crate) fn begin(alloc: Global, held: &mut Held) -> Result<Text, Memory>
+    requires { IsCurrent held.old }
+    ensures ok { IfOk result (λ text. GivesText (state_of held.old) (begun (state_of held.old) (state_of held.old).pending) text (state_of held.new)) }
+    ensures err { OnErr result (state_of held.new ≡ state_of held.old) }
+    ensures current { IsCurrent held.new }
+{
+    let text = text_of(alloc, Reply::OkPending)?;
+    match held.begin(alloc) {
+        Ok(()) => Ok(text),
+        Err(EditFault::Refused { code, .. }) => text_of(alloc, Reply::No(code)),
+        Err(EditFault::Memory) => Err(Memory),
+    }
+}
+
+/// Makes present what the changes of the batch have made, unless none is open.
+pub(crate) fn commit(alloc: Global, held: &mut Held) -> Result<Text, Memory>
+    requires { IsCurrent held.old }
+    ensures ok { IfOk result (λ text. GivesText (state_of held.old) (committed (state_of held.old) (state_of held.old).pending) text (state_of held.new)) }
+    ensures err { OnErr result (state_of held.new ≡ state_of held.old) }
+    ensures current { IsCurrent held.new }
+{
+    match held.commit(alloc) {
+        Ok(ready) => adopt(alloc, held, ready),
+        Err(EditFault::Refused { code, .. }) => text_of(alloc, Reply::No(code)),
+        Err(EditFault::Memory) => Err(Memory),
+    }
+}
+
+/// Drops what the changes of the batch have made, unless none is open.
+pub(crate) fn abandon(alloc: Global, held: &mut Held) -> Result<Text, Memory>
+    requires { IsCurrent held.old }
+    ensures ok { IfOk result (λ text. GivesText (state_of held.old) (abandoned (state_of held.old) (state_of held.old).pending) text (state_of held.new)) }
+    ensures err { OnErr result (state_of held.new ≡ state_of held.old) }
+    ensures current { IsCurrent held.new }
+{
+    let text = text_of(alloc, Reply::OkDropped)?;
+    match held.abandon() {
+        Ok(()) => Ok(text),
+        Err(EditFault::Refused { code, .. }) => text_of(alloc, Reply::No(code)),
+        Err(EditFault::Memory) => Err(Memory),
+    }
+}
+
 // Adopts what is ready, once the text of the reply is made.
 fn adopt(alloc: Global, held: &mut Held, ready: Ready) -> Result<Text, Memory>
     requires made_from { IsMadeFrom held.old ready }
     requires current { IsCurrent held.old }
-    ensures ok { IfOk result (λ text. GivesText (state_of held.old) (Changes (record { documents = next_documents ready held.old; made = next_made ready })) text (state_of held.new)) }
+    ensures ok { IfOk result (λ text. GivesText (state_of held.old) (adopted ready held.old) text (state_of held.new)) }
     ensures err { OnErr result (state_of held.new ≡ state_of held.old) }
     ensures current { IsCurrent held.new }
 {
-    let text = change_text(alloc, ready.outcome())?;
+    let text = adopted_text(alloc, &ready)?;
     held.adopt(ready);
     Ok(text)
+}
+
+// The text of the reply where this is adopted. A change in a batch has no outcome to tell.
+fn adopted_text(alloc: Global, ready: &Ready) -> Result<Text, Memory>
+    ensures { IfOk result (λ text. text ≡ reply_text (reply_told (told_of ready.now))) }
+{
+    match ready.outcome() {
+        Some(outcome) => change_text(alloc, outcome),
+        None => text_of(alloc, Reply::OkPending),
+    }
 }

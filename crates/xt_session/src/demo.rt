@@ -1,9 +1,9 @@
 // A demonstration: the generated session of a size is answered, and the summary of its replies is written.
-ghost use Rattle.std.specs.Prelude.{◌≡◌, ◌≢◌, ◌≤◌, ◌<◌, ℕ, List, take, IfOk, OnErr};
+ghost use Rattle.std.specs.Prelude.{◌≡◌, ◌≢◌, ◌≤◌, ◌<◌, ℕ, List, None, take, IfOk, OnErr};
 ghost use Rattle.spec_lines.specs.Outside.{Appends, HasRisen};
 ghost use Rattle.spec_run.specs.Documents.{no_documents};
 ghost use Rattle.spec_session.specs.Served.{Demonstrates};
-ghost use Rattle.xt_held.specs.View.{IsCurrent, documents_of, made_of};
+ghost use Rattle.xt_held.specs.View.{IsCurrent, made_of, pending_of, present_of};
 ghost use Rattle.xt_session.specs.State.{state_of};
 ghost use Rattle.xt_session.specs.Counting.{HasAnswered, IsSmall, Turns};
 
@@ -69,7 +69,8 @@ fn answer_all(alloc: Global, size: u16) -> Result<Counts, Memory>
 fn answer_by(alloc: Global, size: u16, held: &mut Held) -> Result<Counts, Memory>
     requires least { 1 ≤ size }
     requires most { size ≤ 1000 }
-    requires documents { documents_of held.old ≡ no_documents }
+    requires present { present_of held.old ≡ no_documents }
+    requires pending { pending_of held.old ≡ None }
     requires made { made_of held.old ≡ 0 }
     requires current { IsCurrent held.old }
     ensures { IfOk result (λ counts. HasAnswered size counts) }

@@ -26,6 +26,9 @@ pub record IsNoCommand (word : List ℕ) : Type 0 where
   pub not_param : word ≡ codes "param" → ⊥
   pub not_messages : word ≡ codes "messages" → ⊥
   pub not_stats : word ≡ codes "stats" → ⊥
+  pub not_begin : word ≡ codes "begin" → ⊥
+  pub not_commit : word ≡ codes "commit" → ⊥
+  pub not_abandon : word ≡ codes "abandon" → ⊥
   pub not_insert : word ≡ codes "insert" → ⊥
   pub not_delete : word ≡ codes "delete" → ⊥
   pub not_text : word ≡ codes "text" → ⊥
@@ -47,6 +50,9 @@ not_asked word rest body u n = rw (
   is_other word (codes "param") u refl n.not_param,
   is_other word (codes "messages") u refl n.not_messages,
   is_other word (codes "stats") u refl n.not_stats,
+  is_other word (codes "begin") u refl n.not_begin,
+  is_other word (codes "commit") u refl n.not_commit,
+  is_other word (codes "abandon") u refl n.not_abandon,
   is_other word (codes "insert") u refl n.not_insert,
   is_other word (codes "delete") u refl n.not_delete,
   is_other word (codes "text") u refl n.not_text,

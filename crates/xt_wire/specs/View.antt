@@ -13,14 +13,14 @@ use Rattle.xt_base.specs.declared.codes.EditCode.TheVariants as edit
 use Rattle.xt_base.specs.declared.place.Place.{Place}
 use Rattle.xt_wire.specs.declared.command.Command.{Command}
 use Rattle.xt_wire.specs.declared.command.Command.TheVariants.{SetSource, SetModule, DropModule, Show, Dump, Write, SetParameter, Messages, Statistics}
-use Rattle.xt_wire.specs.declared.command.Command.TheVariants.{Insert, Delete, SetText, SetAttribute, RemoveAttribute, Rename, Move}
+use Rattle.xt_wire.specs.declared.command.Command.TheVariants.{Insert, Delete, SetText, SetAttribute, RemoveAttribute, Rename, Move, Begin, Commit, Abandon}
 use Rattle.xt_wire.specs.declared.document.DocumentName.{DocumentName}
 use Rattle.xt_wire.specs.declared.document.DocumentName.TheVariants.{Source, Module}
 use Rattle.xt_wire.specs.declared.fault.WireFault.{WireFault}
 use Rattle.xt_wire.specs.declared.fault.WireFault.TheVariants as variant
 use Rattle.xt_wire.specs.declared.replies.Refusal.{Refusal}
 use Rattle.xt_wire.specs.declared.replies.Reply.{Reply}
-use Rattle.xt_wire.specs.declared.replies.Reply.TheVariants.{OkDone, OkRefused, Refused, Shown, Written, Counted, No}
+use Rattle.xt_wire.specs.declared.replies.Reply.TheVariants.{OkDone, OkRefused, OkPending, OkDropped, Refused, Shown, Written, Counted, No}
 use Rattle.xt_wire.specs.declared.target.Target.{Target}
 use Rattle.xt_wire.specs.declared.word.Words.{Words}
 use denote.Ref.{Bor}
@@ -58,6 +58,9 @@ asked_of Write = spec.Write
 asked_of (SetParameter name value) = spec.SetParameter name value
 asked_of Messages = spec.Messages
 asked_of Statistics = spec.Statistics
+asked_of Begin = spec.Begin
+asked_of Commit = spec.Commit
+asked_of Abandon = spec.Abandon
 asked_of (Insert document path body) = spec.Insert (name_of document) path body.items
 asked_of (Delete document path) = spec.Delete (name_of document) path
 asked_of (SetText document path value) = spec.SetText (name_of document) path value
@@ -103,6 +106,8 @@ refusal_of why = record { code = why.code; place = place_of why.place }
 abbrev pub reply_of : Reply → written.Reply
 reply_of OkDone = written.OkDone
 reply_of (OkRefused why) = written.OkRefused (refusal_of why)
+reply_of OkPending = written.OkPending
+reply_of OkDropped = written.OkDropped
 reply_of (Refused why) = written.Refused (refusal_of why)
 reply_of (Shown lines) = written.Shown lines.items
 reply_of (Written text) = written.Written text

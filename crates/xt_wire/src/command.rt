@@ -38,8 +38,14 @@ pub enum Command {
     SetParameter(Text, Text),
     /// `messages`: the messages of the transformation.
     Messages,
-    /// `stats`: what the last accepted change has cost.
+    /// `stats`: what the last change of what is present has cost.
     Statistics,
+    /// `begin`: a batch of changes is opened.
+    Begin,
+    /// `commit`: what the changes of the batch have made becomes present.
+    Commit,
+    /// `abandon`: the batch is dropped.
+    Abandon,
     /// `insert DOC PATH` and a body: the nodes of these lines, before what is at the path.
     Insert(DocumentName, Path, Vec<Line>),
     /// `delete DOC PATH`: the node goes, with all below it.
@@ -113,6 +119,9 @@ fn read_words(
         "param" => read_parameter(alloc, rest),
         "messages" => read_alone(rest, Command::Messages),
         "stats" => read_alone(rest, Command::Statistics),
+        "begin" => read_alone(rest, Command::Begin),
+        "commit" => read_alone(rest, Command::Commit),
+        "abandon" => read_alone(rest, Command::Abandon),
         "insert" => read_insert(alloc, rest, body),
         "delete" => read_delete(alloc, rest),
         "text" => read_set_text(alloc, rest),

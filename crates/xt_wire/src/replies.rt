@@ -18,6 +18,10 @@ pub enum Reply {
     OkDone,
     /// An accepted change; the transformation is refused.
     OkRefused(Refusal),
+    /// A change that is accepted in a batch, or a batch that is opened.
+    OkPending,
+    /// A batch that is dropped.
+    OkDropped,
     /// There is no result to show: the transformation is refused.
     Refused(Refusal),
     /// The lines of a result or a document.

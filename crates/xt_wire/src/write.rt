@@ -20,6 +20,8 @@ pub fn reply(alloc: Global, reply: &Reply) -> Result<Text, Memory>
     match reply {
         Reply::OkDone => Text::from_str(alloc, "ok done\n"),
         Reply::OkRefused(why) => refusal_line(alloc, "ok refused ", why),
+        Reply::OkPending => Text::from_str(alloc, "ok pending\n"),
+        Reply::OkDropped => Text::from_str(alloc, "ok dropped\n"),
         Reply::Refused(why) => refusal_line(alloc, "refused ", why),
         Reply::Shown(lines) => shown_lines(alloc, lines.as_slice()),
         Reply::Written(text) => written_text(alloc, text),

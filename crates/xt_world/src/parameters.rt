@@ -1,11 +1,11 @@
 // Values of parameters.
-ghost use Rattle.std.specs.Prelude.{◌≡◌, None, IfOk, IsSome, OnErr, OnOk, bytes_eq, string_bytes};
+ghost use Rattle.std.specs.Prelude.{◌≡◌, ◌+◌, None, IfOk, IsSome, OnErr, OnOk, bytes_eq, drop, string_bytes};
 ghost use Rattle.std.specs.Map.{lookup, remove_entry};
 ghost use Rattle.std.specs.Option.{option_copied};
 ghost use Rattle.std.specs.Str.{chars};
 ghost use Rattle.std.specs.String.{string_eq};
 ghost use Rattle.indexmap.specs.IndexMap.{insert_entry};
-ghost use Rattle.xt_world.specs.ParameterView.{HasRoomForOne, IsBefore, parameters_of, with_value};
+ghost use Rattle.xt_world.specs.ParameterView.{HasRoomForOne, IsBefore, parameters_of, values_in, with_value};
 
 use indexmap::IndexMap;
 use std::alloc::Global;
@@ -32,6 +32,38 @@ impl Parameters {
         Parameters {
             values: IndexMap::new(alloc),
         }
+    }
+
+    /// The same values, in memory of their own. They are put in from the last on: what is put in later is found in place
+    /// of what has its name, so each is found as before, with nothing known of their names.
+    pub fn copy(&self, alloc: Global) -> Result<Parameters, Memory>
+        ensures { IfOk result (λ copy. parameters_of copy ≡ parameters_of self.now) }
+    {
+        let mut copy = Parameters::new(alloc);
+        for index in (0..self.values.len()).rev() {
+            self.copy_at(alloc, index, &mut copy)?;
+        }
+        Ok(copy)
+    }
+
+    // Copies the value at this index.
+    fn copy_at(&self, alloc: Global, index: usize, copy: &mut Parameters) -> Result<(), Memory>
+        ensures { OnOk result (parameters_of copy.old ≡ values_in (drop (index + 1) self.now.values.entries)
+            → parameters_of copy.new ≡ values_in (drop index self.now.values.entries)) }
+    {
+        match self.values.get_index(index) {
+            None => Ok(()),
+            Some((name, value)) => copy.put_copy(alloc, name, value),
+        }
+    }
+
+    fn put_copy(&mut self, alloc: Global, name: &String, value: &Text) -> Result<(), Memory>
+        ensures { OnOk result (parameters_of self.new ≡ with_value (chars (string_bytes name.now)) value.now (parameters_of self.old)) }
+    {
+        let key = String::from_str(alloc, name.as_str())?;
+        let value = value.copy(alloc)?;
+        self.values.insert(key, value)?;
+        Ok(())
     }
 
     /// The value of the parameter of this name, where one is given. Takes no memory.

@@ -5,7 +5,7 @@ use Rattle.spec_run.specs.Documents.{with_module}
 use Rattle.spec_session.specs.Machine.{State, kept_by}
 use Rattle.xt_session.specs.State.{state_of}
 use Rattle.xt_session.specs.Turn.{GivesText}
-use Rattle.xt_session.proofs.Answering.{if_ok_map, gives_built, gives_fault, on_err_then, same_state}
+use Rattle.xt_session.proofs.Answering.{accepted_so, if_ok_map, gives_built, gives_fault, on_err_then, same_state}
 use Rattle.xt_session.proofs.changes.set_module.Goals as goal
 
 pub returns-in-Ok-clause-ok : goal.returns-in-Ok-clause-ok
@@ -14,7 +14,7 @@ returns-in-Ok-clause-ok c =
     let made = c.in-Ok.ensures.answer in
     if_ok_map _ _ c.adopt.result
     (λ text gives. gives_built (with_module c.args.name.now) (document_of root_scope old.made c.args.body.now) old made.0 (same_state c.in-Ok.ensures.kept)
-    made.1 gives (λ i. record { documents = made.2.documents i; made = made.2.made i })) c.adopt.ensures.ok
+    made.1 gives (accepted_so made.2)) c.adopt.ensures.ok
 
 pub returns-in-Ok-clause-err : goal.returns-in-Ok-clause-err
 returns-in-Ok-clause-err c = on_err_then c.adopt.result _ _ _ (same_state c.in-Ok.ensures.kept) c.adopt.ensures.err

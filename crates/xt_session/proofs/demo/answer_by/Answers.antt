@@ -4,7 +4,7 @@ use Rattle.xt_session.proofs.demo.answer_by.Goals as goal
 pub loop-command-init : goal.loop-command-init
 loop-command-init c = (
   rw c.new-commands.ensures (counted_at_start c.args.size _ c.new-counts.result c.requires.most
-      (λ i. record { documents = c.requires.documents i; made = c.requires.made i }) c.new-counts.ensures.none),
+      (λ i. record { documents = c.requires.present i; made = c.requires.made i; pending = c.requires.pending i }) c.new-counts.ensures.none),
   c.requires.current,
   c.new-counts.ensures.small,
 )

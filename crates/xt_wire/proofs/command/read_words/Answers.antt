@@ -37,6 +37,18 @@ pub returns-in-stats : goal.returns-in-stats
 returns-in-stats c =
     reads_as c.args.word.now (codes "stats") (rest_of c.args.rest) c.args.body.items c.read_alone-in-stats.result refl c.in-stats.is c.read_alone-in-stats.ensures
 
+pub returns-in-begin : goal.returns-in-begin
+returns-in-begin c =
+    reads_as c.args.word.now (codes "begin") (rest_of c.args.rest) c.args.body.items c.read_alone-in-begin.result refl c.in-begin.is c.read_alone-in-begin.ensures
+
+pub returns-in-commit : goal.returns-in-commit
+returns-in-commit c =
+    reads_as c.args.word.now (codes "commit") (rest_of c.args.rest) c.args.body.items c.read_alone-in-commit.result refl c.in-commit.is c.read_alone-in-commit.ensures
+
+pub returns-in-abandon : goal.returns-in-abandon
+returns-in-abandon c =
+    reads_as c.args.word.now (codes "abandon") (rest_of c.args.rest) c.args.body.items c.read_alone-in-abandon.result refl c.in-abandon.is c.read_alone-in-abandon.ensures
+
 pub returns-in-insert : goal.returns-in-insert
 returns-in-insert c =
     reads_as c.args.word.now (codes "insert") (rest_of c.args.rest) c.args.body.items c.read_insert.result refl c.in-insert.is c.read_insert.ensures
@@ -83,6 +95,9 @@ returns-in_default c =
       not_param = c.in_default.not-param;
       not_messages = c.in_default.not-messages;
       not_stats = c.in_default.not-stats;
+      not_begin = c.in_default.not-begin;
+      not_commit = c.in_default.not-commit;
+      not_abandon = c.in_default.not-abandon;
       not_insert = c.in_default.not-insert;
       not_delete = c.in_default.not-delete;
       not_text = c.in_default.not-text;

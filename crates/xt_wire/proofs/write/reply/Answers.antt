@@ -17,6 +17,16 @@ returns-in-OkRefused c =
     (written_refusal (codes "ok refused ") (refusal_of c.in-OkRefused.why) refl ∙ sym (ap (λ r. reply_text (reply_of r)) c.in-OkRefused.is))
     c.refusal_line.ensures
 
+pub returns-in-OkPending : goal.returns-in-OkPending
+returns-in-OkPending c =
+    written c.from_str-in-OkPending.result _ (reply_text (reply_of c.args.reply.now))
+    (ascii_chars (codes "ok pending\n") refl ∙ sym (ap (λ r. reply_text (reply_of r)) c.in-OkPending.is)) c.from_str-in-OkPending.ensures
+
+pub returns-in-OkDropped : goal.returns-in-OkDropped
+returns-in-OkDropped c =
+    written c.from_str-in-OkDropped.result _ (reply_text (reply_of c.args.reply.now))
+    (ascii_chars (codes "ok dropped\n") refl ∙ sym (ap (λ r. reply_text (reply_of r)) c.in-OkDropped.is)) c.from_str-in-OkDropped.ensures
+
 pub returns-in-Refused : goal.returns-in-Refused
 returns-in-Refused c =
     written c.refusal_line-in-Refused.result _ (reply_text (reply_of c.args.reply.now))

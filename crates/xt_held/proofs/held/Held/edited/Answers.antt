@@ -11,5 +11,5 @@ returns-in-Some-clause-edit c =
 pub returns-in-Some-clause-faultless : goal.returns-in-Some-clause-faultless
 returns-in-Some-clause-faultless c =
     let held = c.args.self.now in
-    edit_keeps_faultless held c.found.result c.in-Some.document c.in-Some.is c.requires.last.faultless c.documents_stay_valid.ensures
+    edit_keeps_faultless held c.found.result c.in-Some.document c.in-Some.is c.requires.serves.faultless c.documents_stay_valid.ensures
     c.documents_stay_normal.ensures (made_of held) c.args.name c.found.ensures c.args.edit.now c.requires.below c.apply.result c.apply.ensures.labelled

@@ -1,35 +1,10 @@
-use Rattle.std.proofs.Common.{Option, Some, subst, sym}
-use Rattle.std.specs.Prelude.{IfOk, IfSome}
-use Rattle.xt_touch.specs.View.{since_of}
-use Rattle.xt_world.specs.ParameterView.{parameters_of}
-use Rattle.xt_held.specs.RunView.{KeptHolds, KeptSpared}
-use Rattle.xt_held.specs.StylesheetView.{AreCompiled}
-use Rattle.xt_held.specs.declared.stylesheet.Compiled.{Compiled}
-use Rattle.xt_held.proofs.Left.{left_so, run_spared}
 use Rattle.xt_held.proofs.held.Held.outcome_with_source.Goals as goal
 
-pub outcome_of-requires : goal.outcome_of-requires
-outcome_of-requires c =
-    let held = c.args.self.now in
-    let given = parameters_of held.parameters in
-    let source = Some c.args.document.now in
+pub outcome_after-requires : goal.outcome_after-requires
+outcome_after-requires c =
     let known = c.requires.known.last in
-    let changes = since_of c.in_ok-since.since in
-    subst (λ (o : Option Compiled). KeptSpared o given source held.last.kept changes) (sym c.as_ref-compiled.ensures.value)
-    (run_spared held.compiled held.last.before given source held.last.kept changes
-    (c.in_ok-since.ensures held.last.kept known.answers known.answers known.spared))
-
-pub returns-clause-outcome : goal.returns-clause-outcome
-returns-clause-outcome c = λ modules are.
-    c.outcome_of.ensures.outcome modules (subst (λ (o : Option Compiled). AreCompiled modules o) (sym c.as_ref-compiled.ensures.value) are)
-
-pub returns-clause-last : goal.returns-clause-last
-returns-clause-last c =
-    let held = c.args.self.now in
-    let given = parameters_of held.parameters in
-    let source = Some c.args.document.now in
-    let known = c.requires.known.last in
-    left_so held.compiled held.last.before given source held.last (since_of c.in_ok-since.since) c.outcome_of.result c.outcome_of.ensures.fits
-    (subst (λ (o : Option Compiled). IfOk c.outcome_of.result (λ came. IfSome came.kept (KeptHolds o given source))) c.as_ref-compiled.ensures.value
-    c.outcome_of.ensures.last)
-    c.outcome_of.ensures.since (c.in_ok-since.ensures held.last.kept known.answers known.answers known.spared) known.answers c.requires.faultless
+    record {
+      spared = c.in_ok-since.ensures c.args.self.now.last.kept known.answers known.answers known.spared;
+      answers = known.answers;
+      faultless = c.requires.faultless;
+    }

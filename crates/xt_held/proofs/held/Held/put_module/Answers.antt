@@ -15,7 +15,7 @@ pub returns-clause-documents : goal.returns-clause-documents
 returns-clause-documents c =
     let old = c.args.self.now in
     let entries = ok_of c.insert.result (c.insert.ensures.succeeds c.requires) c.insert.ensures.entries in
-    ap documents_of c.put_compiled.ensures
+    ap documents_of c.put_edited.ensures
     ∙ ap (λ (modules : Modules). record { source = (documents_of old).source; modules = modules; parameters = (documents_of old).parameters })
     (ap modules_in entries ∙ modules-insert c.args.name c.args.document old.modules.entries)
 
@@ -23,6 +23,6 @@ pub returns-clause-below : goal.returns-clause-below
 returns-clause-below c = λ first below it.
     let old = c.args.self.now in
     let entries = ok_of c.insert.result (c.insert.ensures.succeeds c.requires) c.insert.ensures.entries in
-    subst (λ (held : Held). HasBelow first held) (sym c.put_compiled.ensures)
+    subst (λ (held : Held). HasBelow first held) (sym c.put_edited.ensures)
     (subst (λ (es : List (String Global × Document ℕ)). AreAllBelow first old.source es) (sym entries)
     (inserted_below first c.args.name c.args.document old.source old.modules.entries below it))

@@ -11,6 +11,6 @@ returns-in-Some-clause-moved c =
 pub returns-in-Some-clause-faultless : goal.returns-in-Some-clause-faultless
 returns-in-Some-clause-faultless c =
     let held = c.args.self.now in
-    move_keeps_faultless held c.found.result c.in-Some.document c.in-Some.is c.requires.last.faultless c.moves_keep_documents_valid.ensures
+    move_keeps_faultless held c.found.result c.in-Some.document c.in-Some.is c.requires.serves.faultless c.moves_keep_documents_valid.ensures
     c.moves_keep_documents_normal.ensures (made_of held) c.args.name c.found.ensures c.args.path.now c.args.other.now c.requires.below c.relocate.result
     c.relocate.ensures.labelled

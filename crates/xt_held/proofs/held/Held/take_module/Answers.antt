@@ -9,7 +9,7 @@ pub returns-clause-documents : goal.returns-clause-documents
 returns-clause-documents c =
     let old = c.args.self.now in
     let updates = c.shift_remove.ensures.updates in
-    ap documents_of c.put_compiled.ensures
+    ap documents_of c.put_edited.ensures
     ∙ ap (λ (modules : Modules). record { source = (documents_of old).source; modules = modules; parameters = (documents_of old).parameters })
     (modules-taken c.as_str.result.now c.as_str.utf8 c.args.name.now c.as_str.ensures.characters old.modules.entries c.shift_remove.new.self.entries
     (record { gone = updates.1; others = updates.3 }))
@@ -18,6 +18,6 @@ pub returns-clause-below : goal.returns-clause-below
 returns-clause-below c = λ first below.
     let old = c.args.self.now in
     let updates = c.shift_remove.ensures.updates in
-    subst (λ (held : Held). HasBelow first held) (sym c.put_compiled.ensures)
+    subst (λ (held : Held). HasBelow first held) (sym c.put_edited.ensures)
     (taken_below c.as_str.result.now c.as_str.utf8 first old.source old.modules.entries c.shift_remove.new.self.entries
     (record { gone = updates.1; others = updates.3 }) below)

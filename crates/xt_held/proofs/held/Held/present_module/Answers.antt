@@ -13,11 +13,15 @@ use Rattle.xt_world.specs.ParameterView.{parameters_of}
 use Rattle.xt_held.specs.OutcomeView.{outcome_of}
 use Rattle.xt_held.specs.RunView.{AnswersAsSome, LastHolds}
 use Rattle.xt_held.specs.StylesheetView.{AreCompiled, with_one}
-use Rattle.xt_held.specs.View.{AreAllBelow, before_by, left_by, made_of}
+use Rattle.xt_held.specs.View.{AreAllBelow, before_by, documents_of, left_by, made_of, with_edit}
 use Rattle.xt_held.specs.declared.stylesheet.Compiled.{Compiled}
-use Rattle.xt_held.proofs.Keeping.{all_raised, kept_by}
+use Rattle.xt_held.specs.declared.held.Held.{Held}
+use Rattle.xt_held.specs.declared.ready.Change.TheVariants as changes
+use Rattle.xt_held.specs.declared.ready.Recompiled.TheVariants.{Now}
+use Rattle.xt_held.proofs.Keeping.{all_raised, kept_modules}
+use Rattle.xt_held.proofs.Making.{mapped_edit, none_open, told_from}
 use Rattle.xt_held.proofs.Marked.{answers_as_some, known_of}
-use Rattle.xt_held.proofs.held.Held.module_ready.Goals as goal
+use Rattle.xt_held.proofs.held.Held.present_module.Goals as goal
 
 pub outcome_with_modules-requires-clause-known : goal.outcome_with_modules-requires-clause-known
 outcome_with_modules-requires-clause-known c =
@@ -46,40 +50,32 @@ returns-clause-ok c =
     let of_reference : AreCompiled modules (option_copied c.as_ref.result) = subst (λ (o : Option Compiled). AreCompiled modules o) (sym c.as_ref.ensures.value) are in
     let comes : Comes modules (parameters_of held.parameters) (modules main_name) (option_map plain_of held.source) (outcome_of came.came.outcome)
     = came.ensures.outcome modules of_reference in
+    let new : Held = record held { modules = c.reserve.new.self } in
+    let alone = none_open held.batch (documents_of held) c.requires.alone in
+    let change = changes.Module c.in-Ok.key document (Now compiled) in
     record {
-      documents = λ i. with_module (name i) (plain_of (same i))
-          (record { source = option_map plain_of held.source; modules = modules_in c.reserve.new.self.entries; parameters = parameters_of held.parameters });
+      documents = λ i. with_module (name i) (plain_of (same i)) (documents_of new);
       made = refl;
-      from = record {
-        outcome = comes;
-        fits = came.ensures.fits;
-        compiled = are;
-        room = c.in-Ok-reserve.ensures.ok;
-        others = subst (λ (es : List (String Global × Document ℕ)). AreAllBelow c.args.next.number held.source es) (sym entries)
-            (all_raised (made_of held) c.args.next.number held c.requires.grows c.requires.current.below);
-        below = subst (λ (d : Document ℕ). AreBelow c.args.next.number d) (sym same) c.requires.below;
-        last = subst (λ (o : Option Compiled). LastHolds (outcome_of came.came.outcome) o (parameters_of held.parameters) held.source
-            (left_by came.came (before_by o held.compiled held.last.before) held.last)) c.as_ref.ensures.value came.ensures.last;
-      };
+      pending = mapped_edit held.batch _ (documents_of new);
+      from = told_from new change c.args.next came.came
+          (record {
+            outcome = comes;
+            closed = ap (option_map with_edit) alone;
+            fits = came.ensures.fits;
+            compiled = are;
+            last = subst (λ (o : Option Compiled). LastHolds (outcome_of came.came.outcome) o (parameters_of held.parameters) held.source
+                (left_by came.came (before_by o held.compiled held.last.before) held.last)) c.as_ref.ensures.value came.ensures.last;
+          }) c.in-Ok-reserve.ensures.ok
+          (subst (λ (es : List (String Global × Document ℕ)). AreAllBelow c.args.next.number held.source es) (sym entries)
+          (all_raised (made_of held) c.args.next.number held c.requires.grows c.requires.current.below))
+          (subst (λ (d : Document ℕ). AreBelow c.args.next.number d) (sym same) c.requires.below);
     }
 
 pub returns-clause-kept : goal.returns-clause-kept
-returns-clause-kept c =
-    let held = c.args.self.now in
-    let entries : c.reserve.new.self.entries ≡ held.modules.entries = c.in-Ok-reserve.ensures.entries ∙ c.in_ok-tried.ensures.kept in
-    kept_by held _ (λ i. record { source = option_map plain_of held.source; modules = modules_in (entries i); parameters = parameters_of held.parameters })
-    refl refl refl refl entries refl refl
+returns-clause-kept c = kept_modules c.args.self.now _ (c.in-Ok-reserve.ensures.entries ∙ c.in_ok-tried.ensures.kept) refl
 
 pub returns-in_default-reserve-clause-kept : goal.returns-in_default-reserve-clause-kept
-returns-in_default-reserve-clause-kept c =
-    let held = c.args.self.now in
-    let entries : c.reserve.new.self.entries ≡ held.modules.entries = c.reserve.ensures.entries ∙ c.in_ok-tried.ensures.kept in
-    kept_by held _ (λ i. record { source = option_map plain_of held.source; modules = modules_in (entries i); parameters = parameters_of held.parameters })
-    refl refl refl refl entries refl refl
+returns-in_default-reserve-clause-kept c = kept_modules c.args.self.now _ (c.reserve.ensures.entries ∙ c.in_ok-tried.ensures.kept) refl
 
 pub returns-in_default-outcome_with_modules-clause-kept : goal.returns-in_default-outcome_with_modules-clause-kept
-returns-in_default-outcome_with_modules-clause-kept c =
-    let held = c.args.self.now in
-    let entries : c.compiled_with.new.modules.entries ≡ held.modules.entries = c.in_ok-tried.ensures.kept in
-    kept_by held _ (λ i. record { source = option_map plain_of held.source; modules = modules_in (entries i); parameters = parameters_of held.parameters })
-    refl refl refl refl entries refl refl
+returns-in_default-outcome_with_modules-clause-kept c = kept_modules c.args.self.now _ c.in_ok-tried.ensures.kept refl

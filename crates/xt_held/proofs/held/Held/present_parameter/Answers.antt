@@ -15,7 +15,8 @@ use Rattle.xt_held.specs.declared.stylesheet.Compiled.{Compiled}
 use Rattle.xt_held.proofs.Giving.{kept_so, ready_so}
 use Rattle.xt_held.proofs.Keys.{map-copied}
 use Rattle.xt_held.proofs.Left.{last_so, run_spared}
-use Rattle.xt_held.proofs.held.Held.parameter_ready.Goals as goal
+use Rattle.xt_held.proofs.Making.{compiled_alone, none_open}
+use Rattle.xt_held.proofs.held.Held.present_parameter.Goals as goal
 
 pub outcome_with-requires : goal.outcome_with-requires
 outcome_with-requires c =
@@ -24,8 +25,8 @@ outcome_with-requires c =
     let values = with_value c.args.name.now c.args.value.now given in
     let known = last_known held.compiled held.last.before in
     let changes = since_of c.in_ok-since.since in
-    let spared = c.in_ok-since.ensures known given c.args.value.now held.source held.last.kept c.requires.last.answers c.requires.last.answers
-    c.requires.last.spared in
+    let spared = c.in_ok-since.ensures known given c.args.value.now held.source held.last.kept c.requires.current.serves.answers c.requires.current.serves.answers
+    c.requires.current.serves.spared in
     subst (λ (o : Option Compiled). KeptSpared o values (option_copied c.as_ref-source.result) held.last.kept changes) (sym c.as_ref-compiled.ensures.value)
     (subst (λ (s : Option (Document ℕ)). KeptSpared held.compiled values s held.last.kept changes) (sym c.as_ref-source.ensures.value)
     (run_spared held.compiled held.last.before values held.source held.last.kept changes spared))
@@ -38,20 +39,22 @@ returns-clause-ok c =
     let given = parameters_of held.parameters in
     let values = with_value c.args.name.now c.args.value.now given in
     let known = last_known held.compiled held.last.before in
-    let spared = c.in_ok-since.ensures known given c.args.value.now held.source held.last.kept c.requires.last.answers c.requires.last.answers
-    c.requires.last.spared in
+    let spared = c.in_ok-since.ensures known given c.args.value.now held.source held.last.kept c.requires.current.serves.answers c.requires.current.serves.answers
+    c.requires.current.serves.spared in
     let source = map-copied plain_of c.as_ref-source.result ∙ ap (option_map plain_of) c.as_ref-source.ensures.value in
-    let compiled = subst (λ (compiled : Option Compiled). AreCompiled modules compiled) (sym c.as_ref-compiled.ensures.value) c.requires.compiled in
+    let alone = none_open held.batch (documents_of held) c.requires.alone in
+    let are = compiled_alone held alone c.requires.current.compiled in
+    let compiled = subst (λ (compiled : Option Compiled). AreCompiled modules compiled) (sym c.as_ref-compiled.ensures.value) are in
     let kept = subst (λ (o : Option Compiled). IfSome tried.came.kept (KeptHolds o values held.source)) c.as_ref-compiled.ensures.value
     (subst (λ (s : Option (Document ℕ)). IfSome tried.came.kept (KeptHolds (option_copied c.as_ref-compiled.result) values s)) c.as_ref-source.ensures.value
     c.in_ok-tried.ensures.last) in
-    ready_so held c.outcome_with.new.parameters c.args.name.now c.args.value.now tried.name tried.value tried.came
-    c.in_ok-tried.ensures.kept c.in_ok-tried.ensures.name c.in_ok-tried.ensures.value c.requires.compiled c.requires.below
+    ready_so held c.outcome_with.new.parameters c.args.name.now c.args.value.now tried.name tried.value
+    c.in_ok-tried.ensures.kept c.in_ok-tried.ensures.name c.in_ok-tried.ensures.value alone tried.came are c.requires.current.below
     (subst (λ (s : Option Plain). Comes modules values (modules main_name) s (outcome_of tried.came.outcome)) source
     (c.in_ok-tried.ensures.outcome modules compiled))
     c.in_ok-tried.ensures.fits
     (last_so held.compiled held.last.before values held.source held.last (since_of c.in_ok-since.since) tried.came c.in_ok-tried.ensures.fits kept
-    c.in_ok-tried.ensures.since spared c.requires.last.answers c.requires.last.faultless)
+    c.in_ok-tried.ensures.since spared c.requires.current.serves.answers c.requires.current.serves.faultless)
     c.in_ok-tried.ensures.room
 
 pub returns-clause-kept : goal.returns-clause-kept

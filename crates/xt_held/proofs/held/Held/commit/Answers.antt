@@ -1,0 +1,5 @@
+use Rattle.xt_held.proofs.Batches.{unedited_compiled}
+use Rattle.xt_held.proofs.held.Held.commit.Goals as goal
+
+pub commit_as_before-requires-clause-compiled : goal.commit_as_before-requires-clause-compiled
+commit_as_before-requires-clause-compiled c = unedited_compiled c.args.self.now c.in-Some.batch c.in-Some.is c.requires c.if-batch.false

@@ -1,0 +1,49 @@
+use Rattle.std.proofs.Common.{ℕ, Option, ap, refl, subst, sym, ◌∙◌}
+use Rattle.std.specs.Option.{option_map}
+use Rattle.spec_document.specs.Forest.{Document, Plain}
+use Rattle.spec_run.specs.Documents.{main_name}
+use Rattle.spec_run.specs.Outcome.{Comes}
+use Rattle.xt_import.specs.View.{plain_of}
+use Rattle.xt_world.specs.ParameterView.{parameters_of}
+use Rattle.xt_held.specs.OutcomeView.{outcome_of}
+use Rattle.xt_held.specs.RunView.{LastHolds, LastServes}
+use Rattle.xt_held.specs.View.{documents_of, left_by}
+use Rattle.xt_held.specs.declared.ready.Change.TheVariants as changes
+use Rattle.xt_held.specs.declared.ready.Recompiled.TheVariants.{AsBefore}
+use Rattle.xt_held.proofs.Keeping.{serves_since}
+use Rattle.xt_held.proofs.Keys.{map-copied}
+use Rattle.xt_held.proofs.Making.{told_from}
+use Rattle.xt_held.proofs.held.Held.commit_as_before.Goals as goal
+
+pub outcome_after-requires : goal.outcome_after-requires
+outcome_after-requires c =
+    let held = c.args.self.now in
+    let given = parameters_of held.parameters in
+    let since = c.in_ok-since.since in
+    subst (λ (source : Option (Document ℕ)). LastServes held.compiled given source (record held.last { since = since })) (sym c.as_ref.ensures.value)
+    (serves_since held.compiled given held.source held.last since c.in_ok-since.ensures c.requires.current.serves)
+
+pub returns : goal.returns
+returns c =
+    let held = c.args.self.now in
+    let given = parameters_of held.parameters in
+    let modules = (documents_of held).modules in
+    let came = c.in_ok-came in
+    let source = map-copied plain_of c.as_ref.result ∙ ap (option_map plain_of) c.as_ref.ensures.value in
+    record {
+      is_open = c.requires.is_open;
+      present = refl;
+      pending = refl;
+      made = refl;
+      from = told_from held (changes.Committed AsBefore) held.next came.came
+          (record {
+            outcome = subst (λ (s : Option Plain). Comes modules given (modules main_name) s (outcome_of came.came.outcome)) source
+                (came.ensures.outcome modules c.requires.compiled);
+            closed = refl;
+            fits = came.ensures.fits;
+            compiled = c.requires.compiled;
+            last = subst (λ (s : Option (Document ℕ)). LastHolds (outcome_of came.came.outcome) held.compiled given s
+                (left_by came.came held.last.before held.last)) c.as_ref.ensures.value came.ensures.last;
+          }) tt c.requires.current.below tt;
+      told = refl;
+    }

@@ -1,0 +1,30 @@
+use Rattle.std.proofs.Common.{arith, refl}
+use Rattle.spec_run.specs.Documents.{without_module}
+use Rattle.xt_world.specs.ParameterView.{parameters_of}
+use Rattle.xt_held.specs.View.{documents_of, made_of}
+use Rattle.xt_held.specs.declared.ready.Change.TheVariants as changes
+use Rattle.xt_held.specs.declared.ready.Recompiled.TheVariants.{AsBefore}
+use Rattle.xt_held.proofs.Keeping.{serves_since}
+use Rattle.xt_held.proofs.Making.{mapped_edit, open_edited, pending_from}
+use Rattle.xt_held.proofs.held.Held.pending_drop.Goals as goal
+
+pub returns : goal.returns
+returns c =
+    let held = c.args.self.now in
+    let documents = documents_of held in
+    let name = c.in_ok-dropped in
+    let since = c.in_ok-since.since in
+    record {
+      documents = λ i. without_module (name.ensures i) documents;
+      made = refl;
+      pending = mapped_edit held.batch _ documents;
+      from = pending_from held (changes.Dropped name.dropped AsBefore) held.next since
+          (record {
+            current = c.requires.current;
+            is_open = open_edited held.batch documents c.requires.is_open;
+            grows = omega arith;
+            compiled = refl;
+            before = refl;
+            serves = serves_since held.compiled (parameters_of held.parameters) held.source held.last since c.in_ok-since.ensures c.requires.current.serves;
+          }) tt c.requires.current.below tt;
+    }

@@ -1,0 +1,30 @@
+use Rattle.std.proofs.Common.{refl}
+use Rattle.xt_held.specs.View.{documents_of, made_of}
+use Rattle.xt_held.specs.declared.ready.Change.TheVariants as changes
+use Rattle.xt_held.proofs.Keeping.{all_raised}
+use Rattle.xt_held.proofs.Making.{mapped_twice, open_batch, pending_from}
+use Rattle.xt_held.proofs.held.Held.pending_source.Goals as goal
+
+pub returns : goal.returns
+returns c =
+    let held = c.args.self.now in
+    let documents = documents_of held in
+    let known = c.requires.current.serves in
+    record {
+      documents = refl;
+      made = refl;
+      pending = mapped_twice held.batch _ documents;
+      from = pending_from held (changes.Source c.args.document) c.args.next c.in-Ok.since
+          (record {
+            current = c.requires.current;
+            is_open = open_batch held.batch documents c.requires.is_open;
+            grows = c.requires.grows;
+            compiled = refl;
+            before = refl;
+            serves = record {
+              spared = c.in-Ok.ensures held.last.kept known.answers known.answers known.spared;
+              answers = known.answers;
+              faultless = c.requires.faultless;
+            };
+          }) tt (all_raised (made_of held) c.args.next.number held c.requires.grows c.requires.current.below) c.requires.below;
+    }

@@ -1,0 +1,31 @@
+use Rattle.std.proofs.Common.{refl}
+use Rattle.xt_held.specs.View.{documents_of, made_of}
+use Rattle.xt_held.specs.declared.ready.Change.TheVariants as changes
+use Rattle.xt_held.proofs.Keeping.{all_raised}
+use Rattle.xt_held.proofs.Making.{compiled_alone, mapped_twice, none_open, told_from}
+use Rattle.xt_held.proofs.Marked.{known_of}
+use Rattle.xt_held.proofs.held.Held.present_source.Goals as goal
+
+pub outcome_with_source-requires-clause-known : goal.outcome_with_source-requires-clause-known
+outcome_with_source-requires-clause-known c = known_of c.args.self.now c.requires.current
+
+pub returns : goal.returns
+returns c =
+    let held = c.args.self.now in
+    let documents = documents_of held in
+    let change = changes.Source c.args.document in
+    let alone = none_open held.batch documents c.requires.alone in
+    let compiled = compiled_alone held alone c.requires.current.compiled in
+    record {
+      documents = refl;
+      made = refl;
+      pending = mapped_twice held.batch _ documents;
+      from = told_from held change c.args.next c.in-Ok.came
+          (record {
+            outcome = c.in-Ok.ensures.outcome documents.modules compiled;
+            closed = alone;
+            fits = c.in-Ok.ensures.fits;
+            compiled = compiled;
+            last = c.in-Ok.ensures.last;
+          }) tt (all_raised (made_of held) c.args.next.number held c.requires.grows c.requires.current.below) c.requires.below;
+    }
