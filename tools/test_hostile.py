@@ -13,6 +13,7 @@ from lib.crates import TOP
 from lib.faults import End, Script, first_case, lines_of_file, section_of, stored_script
 from lib.preloaded import compiled
 from lib.program import PROGRAM, is_current
+from lib.sessions import Run, session_fault
 from test_tools import Folder, tool
 
 # A program that holds one line: `source` and a body sets its last line, `show` tells it, and each other line is `ok done`.
@@ -136,6 +137,43 @@ def setUpModule():
     for skipped, why in ('the tests on a small program in C', NO_COMPILER), ('those on the proved program', NO_PROGRAM):
         if why:
             print(f'test_hostile: {skipped} are skipped: {why}', file=sys.stderr)
+
+
+class Judging(unittest.TestCase):
+    """What the judge of whole sessions says of replies in batches."""
+
+    def fault(self, session, *replies):
+        data = 'source\n(a\n)a\n.\n' + ''.join(line + '\n' for line in session.split(', '))
+        written = 'ok refused S01 -\n' + ''.join(reply + '\n' for reply in replies)
+        return session_fault(data.encode(), Run(0, written.encode(), b'', 0))[0]
+
+    def test_what_is_right(self):
+        tree, other, pending, refused = '(a\n)a\n.', '(b\n)b\n.', 'ok pending', 'ok refused S01 -'
+        for session, replies in [
+                ('begin, rename source /1 b, dump source, commit, dump source', [pending, pending, other, refused, other]),
+                ('begin, rename source /1 b, begin x, abandon, dump source', [pending, pending, 'no 4', 'ok dropped', tree]),
+                ('begin, show, begin, commit, commit', [pending, 'refused S01 -', 'no 16', refused, 'no 17']),
+                ('begin, begin, commit, abandon', ['no 1', pending, 'no 1', 'ok dropped'])]:
+            self.assertIsNone(self.fault(session, *replies))
+
+    def test_a_batch_that_is_open_or_not(self):
+        done, pending = 'ok refused S01 -', 'ok pending'
+        for session, replies in [
+                ('begin, rename source /1 b', [pending, done]), ('rename source /1 b', [pending]), ('begin', [done]),
+                ('begin', ['no 16']), ('commit', [done]), ('abandon', ['ok dropped']), ('commit', ['no 16']),
+                ('begin, commit', [pending, 'no 17']), ('begin, commit', [pending, pending]),
+                ('begin, abandon', [pending, done]), ('begin, begin', [pending, pending]), ('begin x', [pending])]:
+            self.assertIsNotNone(self.fault(session, *replies), session)
+
+    def test_what_is_told_of_the_pending_and_the_present(self):
+        tree, other, pending, refused = '(a\n)a\n.', '(b\n)b\n.', 'ok pending', 'refused S01 -'
+        edit = 'begin, rename source /1 b'
+        for session, replies in [
+                (f'show, {edit}, show', [refused, pending, pending, 'refused S02 -']),
+                (f'dump source, {edit}, abandon, dump source', [tree, pending, pending, 'ok dropped', other]),
+                (f'{edit}, dump source, commit, dump source', [pending, pending, other, f'ok {refused}', tree])]:
+            self.assertIn('was answered otherwise', self.fault(session, *replies))
+        self.assertIn('does not fit', self.fault(f'{edit}, show', pending, pending, 'refused S02 -'))
 
 
 class Definitions(unittest.TestCase):

@@ -116,6 +116,56 @@ class Pictures(unittest.TestCase):
         self.assertEqual(records.records_picture().count('<rect class="anew"'), anew + 1)
 
 
+class Models(Folder):
+    """The models of clauses in CONTRIBUTING.md, over a file with two functions."""
+
+    SOURCE = '''fn other()
+    ensures {}
+{
+}
+
+pub fn made(
+    of: u64,
+) -> u64
+    requires { of < 9 }
+    ensures result { True }
+    ensures more { True }
+{
+    let again = other();
+}
+'''
+
+    def told(self, row):
+        """What check-architecture says of a page with this row."""
+        self.file('crates/a.rt', self.SOURCE)
+        return list(tool('check-architecture').model_differences(f'\n| {row} | what it shows |\n', self.folder))
+
+    def test_signature(self):
+        self.assertEqual(self.told('`A::made`, `crates/a.rt:6`'), [])
+
+    def test_first_clause(self):
+        self.assertEqual(self.told('`made`, `crates/a.rt:10`'), [])
+
+    def test_moved(self):
+        self.assertEqual(self.told('`made`, `crates/a.rt:11`'),
+                         ['made is at line 6 or 10 of crates/a.rt, and CONTRIBUTING.md says 11'])
+
+    def test_clause_of_another(self):
+        self.assertEqual(self.told('`other`, `crates/a.rt:10`'),
+                         ['other is at line 1 or 2 of crates/a.rt, and CONTRIBUTING.md says 10'])
+
+    def test_no_line(self):
+        self.assertEqual(self.told('`made`, `crates/a.rt`'),
+                         ['made is at line 6 or 10 of crates/a.rt, and CONTRIBUTING.md says none'])
+
+    def test_no_function(self):
+        self.assertEqual(self.told('`mad`, `crates/a.rt:6`'),
+                         ['crates/a.rt has no function mad, which CONTRIBUTING.md has as a model'])
+
+    def test_no_model(self):
+        self.assertEqual(self.told('made, `crates/a.rt:6`'), ['CONTRIBUTING.md has no model of a clause'])
+
+
 class IsCurrent(Folder):
     """Whether ./xt runs the program of a small repository, or ends since it is not current."""
 

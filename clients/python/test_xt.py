@@ -513,6 +513,64 @@ class Sessions(Folder):
         with self.assertRaises(ValueError):
             session.outcome(session.ask('stats'))
 
+    def test_a_batch(self):
+        session = self.session()
+        session.begin()
+        self.assertTrue(session.is_pending)
+        self.assertIsNone(session.text('source', '/1/1/1', 'first'))
+        self.assertIsNone(session.param('mark', '+'))
+        self.assertIn('-first', session.dump('source'))
+        self.assertEqual(session.show(), '<ul><li>*one</li><li>*two</li></ul>')
+        self.not_taken(16, session.begin)
+        self.not_taken(6, session.delete, 'source', '/9')
+        self.assertIsNone(session.commit())
+        self.assertFalse(session.is_pending)
+        self.assertEqual(session.show(), '<ul><li>+first</li><li>+two</li></ul>')
+        self.not_taken(17, session.commit)
+        self.not_taken(17, session.abandon)
+
+    def test_a_batch_that_is_abandoned(self):
+        session = self.session()
+        session.begin()
+        self.assertIsNone(session.delete('source', '/1/1'))
+        self.assertIsNone(session.drop('main'))
+        session.abandon()
+        self.assertEqual(session.dump('source'), xt.lines_of(LIST))
+        self.assertEqual(session.show(), '<ul><li>*one</li><li>*two</li></ul>')
+
+    def test_a_batch_of_a_with(self):
+        session = self.session()
+        with session.batch():
+            session.insert('source', '/1/1', '<item>none</item>')
+            session.delete('source', '/1/3')
+            self.assertEqual(session.show(), '<ul><li>*one</li><li>*two</li></ul>')
+        self.assertIsNone(session.refusal)
+        self.assertEqual(session.show(), '<ul><li>*none</li><li>*one</li></ul>')
+        with self.assertRaises(xt.NotTaken), session.batch():
+            session.text('source', '/1/1/1', 'lost')
+            session.delete('source', '/9')
+        self.assertFalse(session.is_pending)
+        self.assertEqual(session.show(), '<ul><li>*none</li><li>*one</li></ul>')
+
+    def test_refusals_of_batches(self):
+        session = self.session()
+        with session.batch():
+            self.assertIsNone(session.attr('main', '/1/6/2/1', 'select', 'a['))
+        error = session.refusal
+        self.assertEqual((error.code, error.place), ('S10', 'main/1/6/2/1'))
+        self.assertEqual(error.where, '/xsl:stylesheet[1]/xsl:template[2]/li[1]/xsl:value-of[1]')
+        session.begin()
+        self.assertIsNone(session.attr('main', '/1/6/2/1', 'select', '.'))
+        self.assertIsNone(session.delete('main', '/1/1'))
+        for refusal in (error, None):
+            session.refusal = refusal
+            with self.assertRaises(xt.Refused) as caught:
+                session.show()
+            self.assertEqual((caught.exception.code, caught.exception.module), ('S10', 'main'))
+            self.assertEqual(caught.exception.where, error.where if refusal else None)
+        self.assertIsNone(session.commit())
+        self.assertEqual(session.show(), '<ul><li>one</li><li>two</li></ul>')
+
     def test_a_stylesheet_of_files(self):
         session = self.session()
         self.assertIsNone(session.source(EXAMPLES / 'build' / 'site.xml'))

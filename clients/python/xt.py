@@ -24,6 +24,7 @@ import subprocess
 import sys
 import threading
 from collections import Counter
+from contextlib import contextmanager
 from pathlib import Path
 from typing import NamedTuple, Optional
 from urllib.parse import unquote, urlsplit
@@ -49,6 +50,8 @@ MEANINGS = {
     'no 12': 'there are no more numbers for nodes',
     'no 14': 'an element would have two attributes of one name',
     'no 15': 'a node would stand below itself',
+    'no 16': 'a batch of changes is open already',
+    'no 17': 'no batch of changes is open',
     'S01': 'there is no principal module',
     'S02': 'there is no source',
     'S03': 'no module has the name of this href',
@@ -724,7 +727,10 @@ class Session:
 
     Each change gives None where there is a result afterwards, and else the Refused that tells why not, which is not
     raised, and stands in `refusal` until the next change. A change that is not taken raises NotTaken. What asks for the
-    result raises the Refused. A session is for one thread."""
+    result raises the Refused. A session is for one thread.
+
+    While a batch of changes is open (`begin`, or `batch`), a change gives None, since nothing has come of it yet, and
+    `refusal` stays: the result is that of the present documents until `commit`."""
 
     def __init__(self, program=None, external=False):
         """Starts the program: a path, or words; by default those of the environment variable XT, or its own
@@ -733,6 +739,7 @@ class Session:
         self.refusal = None
         self.status = None
         self._modules = {}
+        self._present = None
         self._is_waiting = False
         self._process = started(program, env={**os.environ, 'XT_UNPROVED': 'no'})
 
@@ -804,6 +811,39 @@ class Session:
         """Sets the xsl:param at the top of this name to a string."""
         return self.change(f'param {word(name)} {escaped(value)}')
 
+    # Batches of changes
+
+    def begin(self):
+        """Opens a batch: until it ends, changes are pending, and paths and `dump` speak of the pending documents."""
+        self._told('begin', 'ok pending')
+
+    def commit(self):
+        """Makes what is pending present, in one change, and gives what comes of it, as a change does."""
+        return self.change('commit')
+
+    def abandon(self):
+        """Drops what is pending. All is as it was at `begin`."""
+        self._told('abandon', 'ok dropped')
+
+    @property
+    def is_pending(self):
+        """Whether a batch is open."""
+        return self._present is not None
+
+    @contextmanager
+    def batch(self):
+        """A batch for a `with`. It is committed behind its last line, and what comes of that stands in `refusal`; where
+        an error is raised in it, it is abandoned. Where the commit is not taken it is still open."""
+        self.begin()
+        try:
+            yield self
+        except BaseException:
+            if self.is_pending and self.status is None and not self._is_waiting:
+                self.abandon()
+            raise
+        if self.is_pending:
+            self.commit()
+
     # What is asked
 
     def show(self):
@@ -865,10 +905,18 @@ class Session:
         """What the reply to a change comes to: None, or the Refused; NotTaken is raised."""
         if reply.line.startswith('no '):
             raise not_taken(reply)
+        if reply.line in ('ok pending', 'ok dropped'):
+            return None
         if not reply.line.startswith('ok '):
             raise ValueError(f'this is no reply to a change: {reply.line!r}')
         self.refusal = None if reply.line == 'ok done' else self._refused(*reply.line.split(' ')[2:])
         return self.refusal
+
+    def _told(self, line, wanted):
+        """Sends a command that has this reply and no other but `no N`."""
+        reply = self.ask(line)
+        if reply.line != wanted:
+            raise not_taken(reply)
 
     def _set_module(self, name, document):
         reply = self.ask('module ' + word(name), document.lines)
@@ -889,18 +937,27 @@ class Session:
         return reply
 
     def _note(self, line):
-        """Keeps which modules are held. That of one that was changed is no more as its XML was."""
-        words = line.split(' ')
-        if words[0] == 'drop':
+        """Keeps which modules are held, and in a batch which are present. That of one that was changed is no more as its
+        XML was."""
+        words = line.removesuffix('\r').split(' ')
+        if words[0] == 'begin':
+            self._present = dict(self._modules)
+        elif words[0] == 'commit':
+            self._present = None
+        elif words[0] == 'abandon':
+            self._modules, self._present = self._present, None
+        elif words[0] == 'drop':
             self._modules.pop(words[1], None)
         elif words[0] in OF_DOCUMENTS and words[1] != 'source':
             self._modules[words[1]] = None
 
     def _refused(self, code, place):
-        """The error of a refusal, with its node in words. A module that is as it was sent is not asked for."""
-        module, path = module_and_path(place, self._modules)
-        document = self._modules.get(module)
-        if module is not None and document is None:
+        """The error of a refusal, with its node in words. A module that is as it was sent is not asked for, and in a batch
+        none is: `dump` tells what is pending, and a refusal is of what is present."""
+        modules = self._present if self.is_pending else self._modules
+        module, path = module_and_path(place, modules)
+        document = modules.get(module)
+        if module is not None and document is None and not self.is_pending:
             document = self._dumped(module)
         return refused(code, place, module, path, document)
 

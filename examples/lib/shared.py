@@ -67,7 +67,7 @@ def modules_of(style):
         main, *others = xt.modules_of(style, external=True)
     except xt.NotXml as error:
         say(str(error))
-        raise Stop(4, f'{error.file}: this stylesheet module is no XML')
+        raise Stop(4, f'{error.file}: this stylesheet module cannot be read as XML')
     except xt.BadHref as error:
         raise Stop(5, str(error))
     return [*others, main]
@@ -79,7 +79,7 @@ def source_of(file):
         return xt.lines_of(Path(file), external=True)
     except xt.NotXml as error:
         say(str(error))
-        raise Stop(6, f'{file}: this source is no XML')
+        raise Stop(6, f'{file}: this source cannot be read as XML')
 
 
 def commands_of(modules, settings):

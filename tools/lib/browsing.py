@@ -17,6 +17,9 @@ REPLY = "document.querySelector('#log .reply').textContent"
 COST = "document.querySelector('#log .took').textContent + ' ' + document.querySelector('#log .counts').textContent"
 FRAME = "document.getElementById('look').contentDocument"
 
+# Whether all that is shown has room within its column.
+IS_WITHIN = "[...document.querySelectorAll('.column')].every(column => column.scrollWidth <= column.clientWidth)"
+
 # Markup that would run a script, if a page took it for its own. `taken` is what tells.
 HOSTILE = '<img src="x" onerror="top.taken = true"/><script>top.taken = true</script>'
 
@@ -157,6 +160,7 @@ def refusal_differences(walk):
     yield from walk.note_differences('a fault', 'main', '/1/4/2/1', 'S10')
     yield from walk.result_differences('a fault', 'ok refused S10 main/1/4/2/1',
                                        '<ul><li id="b1">Sky</li><li id="b2">Sea</li></ul>')
+    yield from walk.differences('a fault', width=(IS_WITHIN, True))
     walk.replace('main', '/1/4/2/1', 1, "concat(title, '!')")
     result = '<ul><li id="b1">Sky!</li><li id="b2">Sea!</li></ul>'
     yield from walk.result_differences('its mending', 'ok done', result)
@@ -193,7 +197,7 @@ def page_differences(program):
     """What the page does otherwise than it should in this browser."""
     with Browser(program) as browser:
         with previewed('books.xsl', 'books.xml') as address:
-            walk = Walk(browser, address)
+            walk = Walk(browser, address, width=960)
             yield from edit_differences(walk)
             yield from refusal_differences(walk)
             yield from text_differences(walk)

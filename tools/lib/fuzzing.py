@@ -11,8 +11,10 @@ TOKENS = [
     b'\n', b'.\n', b'\r\n', b'\r', b'\x00', b'\xff', b'\xc3', b'\xed\xa0\x80', b'\xef\xbf\xbe', b'\t', b' ', b'  ',
     b'/', b'/1', b'\\', b'\\n', b'\\q', b'(', b')', b'A', b'-', b'?', b'C', b'&', b'"', b"'", b'[', b']', b'{', b'}',
     b'$', b'xsl:', b'xmlns:p', b'xml:space', b'source\n', b'show\n', b'quit\n', b'dump source\n', b'module main\n',
+    b'begin\n', b'commit\n', b'abandon\n',
     '\U0001F600'.encode(), b'9' * 19]
 WORDS = [word for word in FORMS if word != b'quit']
+OF_BATCHES = [b'begin', b'begin', b'commit', b'commit', b'abandon']
 
 
 def bytes_of(line):
@@ -142,6 +144,8 @@ class Fuzzing:
                                    b'move', b'param'])
         if self.growing.may(6):
             return self.replacement(document)
+        if self.growing.may(8):
+            return Command(self.chance.choice(OF_BATCHES), [])
         path = self.near(self.chance.choice(paths))
         name = self.name()
         value = self.value()
@@ -229,4 +233,6 @@ class Fuzzing:
         return b''.join(command.data for command in asked) + self.asked_at_end(documents)
 
     def asked_at_end(self, documents=(b'main', b'source')):
-        return b''.join(command.data for command in self.requests(documents))
+        """All that can be asked, mostly behind what ends a batch that is open still."""
+        ends = [Command(word, []) for word in self.chance.choice([[], [b'commit'], [b'commit'], [b'abandon']])]
+        return b''.join(command.data for command in [*ends, *self.requests(documents)])

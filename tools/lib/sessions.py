@@ -26,7 +26,8 @@ FORMS = {word: re.compile(b' '.join([word, *parts]) + rest, re.S) for word, part
     (b'insert', [WORD, PATH], b''), (b'delete', [WORD, PATH], b''), (b'text', [WORD, PATH], REST),
     (b'attr', [WORD, PATH, WORD], REST), (b'unattr', [WORD, PATH, WORD], b''), (b'rename', [WORD, PATH, WORD], b''),
     (b'move', [WORD, PATH, PATH], b''), (b'param', [WORD], REST), (b'show', [], b''), (b'write', [], b''),
-    (b'messages', [], b''), (b'stats', [], b''), (b'dump', [WORD], b''), (b'quit', [], b'(?!)')]}
+    (b'messages', [], b''), (b'stats', [], b''), (b'dump', [WORD], b''), (b'begin', [], b''), (b'commit', [], b''),
+    (b'abandon', [], b''), (b'quit', [], b'(?!)')]}
 
 # The numbers by which each command may be refused, but for 1, which any may be, and 2 to 4, which its line decides.
 OF_A_BODY = {8, 9, 10, 11, 12, 14}
@@ -34,13 +35,15 @@ NUMBERS = {
     b'source': OF_A_BODY, b'module': OF_A_BODY, b'drop': {5}, b'insert': {5, 6, 7} | OF_A_BODY, b'delete': {5, 6, 7, 9},
     b'text': {5, 6, 7, 8}, b'attr': {5, 6, 7, 8, 10, 14}, b'unattr': {5, 6, 7, 10, 14}, b'rename': {5, 6, 7, 10},
     b'move': {5, 6, 7, 9, 10, 11, 12, 14, 15}, b'param': {8, 10}, b'dump': {5}, b'show': set(), b'write': set(),
-    b'messages': set(), b'stats': set()}
+    b'messages': set(), b'stats': set(), b'begin': {16}, b'commit': {17}, b'abandon': {17}}
 ASKS = {b'show', b'write', b'messages', b'stats', b'dump'}
 WITH_BODY = (b'source', b'module', b'insert')
 
 REFUSAL = rb'(?:S(?:0[1-9]|1[0-9]|2[0-6])|D(?:0[1-4]|0[6-9]|1[01])) (?:-|[^ \n]+?(?:/[1-9][0-9]{0,17})+)'
 NO = re.compile(rb'no ([1-9][0-9]?)\n')
 OK = re.compile(rb'ok (?:done|refused ' + REFUSAL + rb')\n')
+PENDING = b'ok pending\n'
+DROPPED = b'ok dropped\n'
 REFUSED = re.compile(rb'refused ' + REFUSAL + rb'\n')
 TEXT = re.compile(rb'text (0|[1-9][0-9]*)\n')
 COUNTS = re.compile(rb'ran (0|[1-9][0-9]*) asked (0|[1-9][0-9]*)\n')
@@ -251,7 +254,7 @@ def form_fault(command, reply):
     if number:
         return None
     if command.word not in ASKS:
-        return None if OK.fullmatch(reply) else f'the reply {reply[:80]!r} is none to a change'
+        return None if OK.fullmatch(reply) or reply in (PENDING, DROPPED) else f'the reply {reply[:80]!r} is none to a change'
     if command.word in (b'show', b'write') and REFUSED.fullmatch(reply):
         return None
     if command.word == b'stats':
@@ -269,24 +272,33 @@ def is_utf8(data):
     return True
 
 
+class Batch(NamedTuple):
+    """What was known of a session when a batch was opened: to this it goes back where the batch is dropped."""
+    held: set
+    dumped: dict
+    parameters: list
+
+
 class Seen:
-    """What is known of a session by its replies so far: which documents it holds, what its last change came to, and
-    what was answered to requests since anything changed of what they ask."""
+    """What is known of a session by its replies so far: which documents it holds (in a batch, which are pending), what
+    its last change came to, what was answered to requests since anything changed of what they ask, and the batch that
+    is open."""
 
     def __init__(self):
         self.held = set()
         self.outcome = b'refused S01 -\n'
         self.answers = {}
         self.parameters = []
+        self.batch = None
 
     def fault(self, command, reply):
         """What is wrong with the next reply, or nothing. It takes the reply in."""
-        fault = form_fault(command, reply) or self.held_fault(command, reply)
+        fault = form_fault(command, reply) or self.held_fault(command, reply) or self.batch_fault(command, reply)
         if fault:
             return fault
         if command.word in ASKS and not NO.fullmatch(reply):
             return self.answer_fault(command, reply)
-        if OK.fullmatch(reply):
+        if not NO.fullmatch(reply):
             self.change(command, reply)
         return None
 
@@ -298,6 +310,24 @@ class Seen:
             return None
         return f'the reply {reply[:80]!r} does not fit that the document is {"" if is_held else "not "}held'
 
+    def batch_fault(self, command, reply):
+        """A batch is begun, committed and dropped as one is open or not, and a change is pending exactly in one."""
+        if command.word in ASKS or reply == b'no 1\n' or refusal_by_line(command):
+            return None
+        is_open = self.batch is not None
+        refused = {b'begin': is_open, b'commit': not is_open, b'abandon': not is_open}.get(command.word)
+        if NO.fullmatch(reply):
+            fits = refused is not False
+        elif command.word == b'abandon':
+            fits = not refused and reply == DROPPED
+        elif command.word == b'begin' or is_open and command.word != b'commit':
+            fits = not refused and reply == PENDING
+        else:
+            fits = not refused and OK.fullmatch(reply)
+        if fits:
+            return None
+        return f'the reply {reply[:80]!r} does not fit that {"a" if is_open else "no"} batch is open'
+
     def answer_fault(self, command, reply):
         known = self.answers.setdefault(command.line, reply)
         if known != reply:
@@ -307,16 +337,40 @@ class Seen:
         return None
 
     def change(self, command, reply):
-        """Takes in an accepted change."""
-        self.outcome = None if reply == b'ok done\n' else reply.removeprefix(b'ok ')
-        for asked in (b'show', b'write', b'messages', b'stats', b'dump ' + (command.document or b'')):
-            self.answers.pop(asked, None)
+        """Takes in an accepted change, or what begins or ends a batch. What is pending is dumped, and else counts for
+        nothing before it is present."""
+        if command.word == b'begin':
+            self.batch = Batch(set(self.held), self.dumped(), list(self.parameters))
+        elif command.word == b'abandon':
+            self.held, self.parameters = self.batch.held, self.batch.parameters
+            self.answers = {line: self.answers[line] for line in self.answers if line in ASKS} | self.batch.dumped
+            self.batch = None
+        else:
+            self.edit(command)
+            if command.word == b'commit':
+                self.batch = None
+            if OK.fullmatch(reply):
+                self.tell(reply)
+
+    def dumped(self):
+        """What is known of how documents are dumped."""
+        return {line: reply for line, reply in self.answers.items() if line.startswith(b'dump ')}
+
+    def edit(self, command):
+        """Takes in what a change makes of the documents and parameters that it speaks of."""
+        self.answers.pop(b'dump ' + (command.document or b''), None)
         if command.word == b'param':
             self.parameters.append(command)
         elif command.word == b'drop':
             self.held.discard(command.document)
-        else:
+        elif command.document:
             self.held.add(command.document)
+
+    def tell(self, reply):
+        """Takes in what a change has come to."""
+        self.outcome = None if reply == b'ok done\n' else reply.removeprefix(b'ok ')
+        for asked in ASKS:
+            self.answers.pop(asked, None)
 
 
 def session_fault(data, done):
