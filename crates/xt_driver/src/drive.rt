@@ -57,7 +57,7 @@ pub fn first_means<E: Engine, W: World>(
     ensures truth { (W.state world.new).truth ≡ (W.state world.old).truth }
     ensures name { W.name world.new ≡ W.name world.old }
     ensures last { reuse.new.last ≡ reuse.old.last }
-    ensures since { reuse.new.since ≡ reuse.old.since }
+    ensures spared { reuse.new.spared ≡ reuse.old.spared }
 {
     if levels == 0 {
         return too_deep(alloc, call);
@@ -96,7 +96,7 @@ fn means<E: Engine, W: World>(
     ensures truth { (W.state world.new).truth ≡ (W.state world.old).truth }
     ensures name { W.name world.new ≡ W.name world.old }
     ensures last { reuse.new.last ≡ reuse.old.last }
-    ensures since { reuse.new.since ≡ reuse.old.since }
+    ensures spared { reuse.new.spared ≡ reuse.old.spared }
 {
     if levels == 0 {
         return too_deep(alloc, call);
@@ -133,7 +133,7 @@ fn serve<E: Engine, W: World>(
     ensures truth { (W.state world.new).truth ≡ (W.state world.old).truth }
     ensures name { W.name world.new ≡ W.name world.old }
     ensures last { reuse.new.last ≡ reuse.old.last }
-    ensures since { reuse.new.since ≡ reuse.old.since }
+    ensures spared { reuse.new.spared ≡ reuse.old.spared }
 {
     let mut from = 0;
     loop {
@@ -184,7 +184,7 @@ fn follow<E: Engine, W: World>(
     ensures truth { (W.state world.new).truth ≡ (W.state world.old).truth }
     ensures name { W.name world.new ≡ W.name world.old }
     ensures last { reuse.new.last ≡ reuse.old.last }
-    ensures since { reuse.new.since ≡ reuse.old.since }
+    ensures spared { reuse.new.spared ≡ reuse.old.spared }
 {
     a_record_lasts(kept);
     let events = kept.ran.events.as_slice();
@@ -227,7 +227,7 @@ fn go_on<E: Engine, W: World>(
     ensures truth { (W.state world.new).truth ≡ (W.state world.old).truth }
     ensures name { W.name world.new ≡ W.name world.old }
     ensures last { reuse.new.last ≡ reuse.old.last }
-    ensures since { reuse.new.since ≡ reuse.old.since }
+    ensures spared { reuse.new.spared ≡ reuse.old.spared }
 {
     match next_done(alloc, event, call, below, way.parts.as_slice())? {
         Next::Holds => Ok(Gone::On),
@@ -270,7 +270,7 @@ fn run_call<E: Engine, W: World>(
     ensures truth { (W.state world.new).truth ≡ (W.state world.old).truth }
     ensures name { W.name world.new ≡ W.name world.old }
     ensures last { reuse.new.last ≡ reuse.old.last }
-    ensures since { reuse.new.since ≡ reuse.old.since }
+    ensures spared { reuse.new.spared ≡ reuse.old.spared }
 {
     let mut standing = begin(alloc, engine, call, below)?;
     reuse.count_run();
@@ -329,7 +329,7 @@ fn need<E: Engine, W: World>(
     ensures truth { (W.state world.new).truth ≡ (W.state world.old).truth }
     ensures name { W.name world.new ≡ W.name world.old }
     ensures last { reuse.new.last ≡ reuse.old.last }
-    ensures since { reuse.new.since ≡ reuse.old.since }
+    ensures spared { reuse.new.spared ≡ reuse.old.spared }
 {
     match regained_reference(alloc, lost, needed, levels)? {
         Some(referred) => Ok(referred),
@@ -357,7 +357,7 @@ fn refer<E: Engine, W: World>(
     ensures truth { (W.state world.new).truth ≡ (W.state world.old).truth }
     ensures name { W.name world.new ≡ W.name world.old }
     ensures last { reuse.new.last ≡ reuse.old.last }
-    ensures since { reuse.new.since ≡ reuse.old.since }
+    ensures spared { reuse.new.spared ≡ reuse.old.spared }
 {
     match look_up(alloc, globals, memo, &needed.name, levels)? {
         Reference::Given(given) => Ok(given),

@@ -31,7 +31,7 @@ pub fn keep_ended(
     ensures outcome { IfOk result (λ o. o ≡ ended.outcome) }
     ensures sure { OnOk result ((ask : Question NodeRef → Answer NodeRef) → IsSure ask reuse.old → MadeHolds ask ended.ran → IsSure ask reuse.new) }
     ensures last { reuse.new.last ≡ reuse.old.last }
-    ensures since { reuse.new.since ≡ reuse.old.since }
+    ensures spared { reuse.new.spared ≡ reuse.old.spared }
 {
     let Ended { outcome, ran } = ended;
     match ran {
@@ -48,7 +48,7 @@ fn keep_run(alloc: Global, reuse: &mut Reuse<'_>, call: &Call, ran: Box<Ran>) ->
     requires { IsTrue same_ref (kept_with (call_of call.now) (ran_of ran.value)) }
     ensures sure { OnOk result ((ask : Question NodeRef → Answer NodeRef) → IsSure ask reuse.old → AsksHold ask (ran_of ran.value).trace → IsSure ask reuse.new) }
     ensures last { reuse.new.last ≡ reuse.old.last }
-    ensures since { reuse.new.since ≡ reuse.old.since }
+    ensures spared { reuse.new.spared ≡ reuse.old.spared }
 {
     let call = call.copy(alloc)?;
     let ran = Box::into_inner(ran);
@@ -66,7 +66,7 @@ pub fn tried(
 ) -> Result<Option<Served>, Memory>
     ensures sure { OnOk result ((ask : Question NodeRef → Answer NodeRef) → IsSure ask reuse.old → AsksHold ask (kept_in found.record.value).trace → IsSure ask reuse.new) }
     ensures last { reuse.new.last ≡ reuse.old.last }
-    ensures since { reuse.new.since ≡ reuse.old.since }
+    ensures spared { reuse.new.spared ≡ reuse.old.spared }
     ensures came { OnOk result (IsOk served) }
     ensures served { IfOk result (λ o. IfSome o (λ s. served ≡ Ok s)) }
 {
@@ -92,7 +92,7 @@ pub fn next_turn(found: &Found) -> u64
 fn keep_found(alloc: Global, reuse: &mut Reuse<'_>, found: Found) -> Result<(), Memory>
     ensures sure { OnOk result ((ask : Question NodeRef → Answer NodeRef) → IsSure ask reuse.old → AsksHold ask (kept_in found.record.value).trace → IsSure ask reuse.new) }
     ensures last { reuse.new.last ≡ reuse.old.last }
-    ensures since { reuse.new.since ≡ reuse.old.since }
+    ensures spared { reuse.new.spared ≡ reuse.old.spared }
 {
     if found.is_kept {
         return Ok(());

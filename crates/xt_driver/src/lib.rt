@@ -4,7 +4,7 @@
 //! (`specs/Meaning.antt`), whatever was kept, and for whatever engine does what the plans of its calls say.
 //!
 //! ```text
-//! let mut reuse = Reuse::new(alloc, &last, &since)?;
+//! let mut reuse = Reuse::new(alloc, &last, &spared)?;
 //! let whole = run(alloc, &mut engine, &mut world, root, &globals, &mut reuse)?;
 //! whole.content       // the stream of the root
 //! whole.refusal       // why there is none

@@ -75,7 +75,7 @@ fn evaluated_at_turn<E: Engine, W: World>(
     ensures truth { (W.state world.new).truth ≡ (W.state world.old).truth }
     ensures name { W.name world.new ≡ W.name world.old }
     ensures last { reuse.new.last ≡ reuse.old.last }
-    ensures since { reuse.new.since ≡ reuse.old.since }
+    ensures spared { reuse.new.spared ≡ reuse.old.spared }
 {
     let name = copy_name(alloc, &global.name)?;
     let under_way = with_name(alloc, name, globals.under_way)?;
@@ -120,7 +120,7 @@ fn turn<E: Engine, W: World>(
     ensures truth { (W.state world.new).truth ≡ (W.state world.old).truth }
     ensures name { W.name world.new ≡ W.name world.old }
     ensures last { reuse.new.last ≡ reuse.old.last }
-    ensures since { reuse.new.since ≡ reuse.old.since }
+    ensures spared { reuse.new.spared ≡ reuse.old.spared }
 {
     let known = recall_turn(alloc, memo.entries.as_slice(), global, levels)?;
     match known {
@@ -245,7 +245,7 @@ fn run_in<E: Engine, W: World>(
     ensures truth { (W.state world.new).truth ≡ (W.state world.old).truth }
     ensures name { W.name world.new ≡ W.name world.old }
     ensures last { reuse.new.last ≡ reuse.old.last }
-    ensures since { reuse.new.since ≡ reuse.old.since }
+    ensures spared { reuse.new.spared ≡ reuse.old.spared }
 {
     let mut values: Vec<HeldGlobal> = Vec::new(alloc);
     let mut told: Vec<Text> = Vec::new(alloc);
@@ -301,7 +301,7 @@ pub fn run<E: Engine, W: World>(
     ensures truth { (W.state world.new).truth ≡ (W.state world.old).truth }
     ensures name { W.name world.new ≡ W.name world.old }
     ensures last { reuse.new.last ≡ reuse.old.last }
-    ensures since { reuse.new.since ≡ reuse.old.since }
+    ensures spared { reuse.new.spared ≡ reuse.old.spared }
 {
     run_in(
         alloc,

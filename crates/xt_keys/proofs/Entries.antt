@@ -33,10 +33,10 @@ added_at false n m (t ∷ ts) e =
     ap (λ b. map (λ (d : Entry NodeRef). d.text) (cond b (entry m t ∷ filter (λ d. same_ref n d.node) (map (entry m) ts)) (filter (λ d. same_ref n d.node) (map (entry m) ts)))) e
     ∙ added_at false n m ts e
 
-its_own : (m : NodeRef) (es : List (Entry NodeRef)) (ts : List (List ℕ)) → same_ref m m ≡ true → texts_at (es ++ map (entry m) ts) m ≡ texts_at es m ++ ts
+pub its_own : (m : NodeRef) (es : List (Entry NodeRef)) (ts : List (List ℕ)) → same_ref m m ≡ true → texts_at (es ++ map (entry m) ts) m ≡ texts_at es m ++ ts
 its_own m es ts e = texts_append m es (map (entry m) ts) ∙ ap (λ l. texts_at es m ++ l) (added_at true m m ts e)
 
-another : (n m : NodeRef) (es : List (Entry NodeRef)) (ts : List (List ℕ)) → same_ref n m ≡ false → texts_at (es ++ map (entry m) ts) n ≡ texts_at es n
+pub another : (n m : NodeRef) (es : List (Entry NodeRef)) (ts : List (List ℕ)) → same_ref n m ≡ false → texts_at (es ++ map (entry m) ts) n ≡ texts_at es n
 another n m es ts e = texts_append n es (map (entry m) ts) ∙ ap (λ l. texts_at es n ++ l) (added_at false n m ts e) ∙ append-nil (texts_at es n)
 
 -- ---- All nodes

@@ -1,5 +1,5 @@
 -- What an index of keys stands for, and what is found on the way to it.
-use Rattle.std.specs.Prelude.{ℕ, ◌≡◌, Bool, false, List, [], ◌∷◌, ◌++◌, map, Option, None, Some, Vec, Result, bytes_eq, string_bytes, if◌then◌else◌}
+use Rattle.std.specs.Prelude.{ℕ, ◌≡◌, Bool, true, false, List, [], ◌∷◌, ◌++◌, map, Option, None, Some, Vec, Result, bytes_eq, string_bytes, if◌then◌else◌}
 use Rattle.std.specs.List.{filter, list_any}
 use Rattle.std.specs.Map.{lookup}
 use Rattle.std.specs.Str.{chars}
@@ -7,7 +7,8 @@ use Rattle.std.specs.declared.alloc.Global.{Global}
 use Rattle.std.specs.declared.string.String.{String}
 use Rattle.spec_meaning.specs.Naming.{AreApart}
 use Rattle.spec_meaning.specs.Program.{Program, Give, Supply, State, then}
-use Rattle.spec_transform.specs.Key.{KeyAt, Entry}
+use Rattle.spec_transform.specs.Match.{matches}
+use Rattle.spec_transform.specs.Key.{KeyAt, Entry, pattern_context}
 use Rattle.spec_node.specs.declared.node_ref.NodeRef.{NodeRef}
 use Rattle.spec_node.specs.Naming.{same_ref}
 use Rattle.xt_syntax.specs.PartView.{site_of}
@@ -94,3 +95,23 @@ with_node node nodes = if is_last node nodes then nodes else nodes ++ node ∷ [
 abbrev pub with_each : List ℕ → NodeRef → List (List ℕ) → List NodeRef → List NodeRef
 with_each text node [] nodes = nodes
 with_each text node (t ∷ ts) nodes = with_each text node ts (if bytes_eq t text then with_node node nodes else nodes)
+
+-- ---- One node
+
+-- whether it matches a key
+abbrev pub matches_at : KeyAt → NodeRef → Program NodeRef Bool
+matches_at k node = matches same_ref (pattern_context k node) k.key.pattern node
+
+-- whether it matches one of these keys; or whether it did so before
+abbrev pub matched : List KeyAt → NodeRef → Program NodeRef Bool
+matched [] node = Give false
+matched (k ∷ ks) node = (then) (matches_at k node) (λ before. if before then Give true else matched ks node)
+
+abbrev pub matched_or : List KeyAt → NodeRef → Bool → Program NodeRef Bool
+matched_or ks node before = if before then Give true else matched ks node
+
+-- the list at the end
+abbrev pub last_list : List (List (List ℕ)) → List (List ℕ)
+last_list [] = []
+last_list (l ∷ []) = l
+last_list (l ∷ m ∷ lists) = last_list (m ∷ lists)

@@ -1,6 +1,6 @@
 //! The keys of one name (XSLT 1.0, section 12.2): an index of the nodes that have a value in them. The keys are
 //! asked in the order of the stylesheet, each for all nodes, so what is refused first is the same, whichever
-//! value is sought. To find the nodes of a value then takes no memory and one look-up.
+//! value is sought. To find the nodes of a value then takes no memory and one look-up. One node may be asked by itself too.
 //!
 //! ```text
 //! let nodes = all_nodes(alloc, &doc)?;
@@ -12,9 +12,11 @@
 mod asking;
 mod filling;
 mod groups;
+mod node;
 mod nodes;
 mod values;
 
 pub use asking::index;
 pub use groups::KeyIndex;
+pub use node::{is_matched, texts_at_node};
 pub use nodes::all_nodes;

@@ -7,7 +7,7 @@ use Rattle.xt_engine.specs.View.{event_of}
 use Rattle.xt_engine.specs.declared.event.Event.{Event as CodeEvent}
 use Rattle.xt_record.specs.View.{AsksHold}
 use Rattle.xt_record.specs.Sure.{AsksSpared}
-use Rattle.spec_touch.specs.Marks.{WorldChange}
+use Rattle.xt_spared.specs.declared.spared.Spared.{Spared}
 
 module _ (ask : Question NodeRef → Answer NodeRef) where
   first_answered : (e : Event NodeRef) (es : List (Event NodeRef)) → AsksHold ask (e ∷ es) → AsksHold ask (e ∷ [])
@@ -38,23 +38,23 @@ module _ (ask : Question NodeRef → Answer NodeRef) where
       both_answered (event_of x) (map event_of (take (suc i) es)) (first_answered (event_of x) before h)
       (answered_more es i e (omega arith) at k (others_answered (event_of x) before h))
 
--- what is not marked among all, at each place
-module _ (ask : Question NodeRef → Answer NodeRef) (changes : List WorldChange) where
-  first_spared : (e : Event NodeRef) (es : List (Event NodeRef)) → AsksSpared ask changes (e ∷ es) → AsksSpared ask changes (e ∷ [])
+-- what is spared among all, at each place
+module _ (ask : Question NodeRef → Answer NodeRef) (spared : Spared) where
+  first_spared : (e : Event NodeRef) (es : List (Event NodeRef)) → AsksSpared ask spared (e ∷ es) → AsksSpared ask spared (e ∷ [])
   first_spared (Asked q a) es h = (h.0, tt)
   first_spared (Saw w d l x) es h = tt
   first_spared (Entered c d) es h = tt
   first_spared (Held j xs) es h = tt
 
-  others_spared : (e : Event NodeRef) (es : List (Event NodeRef)) → AsksSpared ask changes (e ∷ es) → AsksSpared ask changes es
+  others_spared : (e : Event NodeRef) (es : List (Event NodeRef)) → AsksSpared ask spared (e ∷ es) → AsksSpared ask spared es
   others_spared (Asked q a) es h = h.1
   others_spared (Saw w d l x) es h = h
   others_spared (Entered c d) es h = h
   others_spared (Held j xs) es h = h
 
-  pub spared_at : (es : List CodeEvent) (i : ℕ) (e : CodeEvent) → i < length es → e ≡ get_or es i e → AsksSpared ask changes (map event_of es)
-      → AsksSpared ask changes (event_of e ∷ [])
+  pub spared_at : (es : List CodeEvent) (i : ℕ) (e : CodeEvent) → i < length es → e ≡ get_or es i e → AsksSpared ask spared (map event_of es)
+      → AsksSpared ask spared (event_of e ∷ [])
   spared_at [] i e lt at h = absurd (omega arith)
   spared_at (x ∷ es) zero e lt at h =
-      let P : CodeEvent → Type 0 = λ y. AsksSpared ask changes (event_of y ∷ []) in subst P (sym at) (first_spared (event_of x) (map event_of es) h)
+      let P : CodeEvent → Type 0 = λ y. AsksSpared ask spared (event_of y ∷ []) in subst P (sym at) (first_spared (event_of x) (map event_of es) h)
   spared_at (x ∷ es) (suc i) e lt at h = spared_at es i e (omega arith) at (others_spared (event_of x) (map event_of es) h)

@@ -5,7 +5,7 @@ use Rattle.std.specs.declared.alloc.Global.{Global}
 use Rattle.spec_meaning.specs.Question.{Question, Answer}
 use Rattle.spec_node.specs.declared.node_ref.NodeRef.{NodeRef}
 use Rattle.xt_record.specs.View.{kept_in, AsksHold}
-use Rattle.spec_touch.specs.Marks.{WorldChange}
+use Rattle.xt_spared.specs.declared.spared.Spared.{Spared}
 use Rattle.xt_record.specs.Sure.{AllHold, AllJudged, AllSpared, AsksSpared, verdict_of}
 use Rattle.xt_record.specs.declared.record.Record.{Record}
 use Rattle.xt_record.specs.declared.reuse.Verdict.{Verdict}
@@ -72,12 +72,12 @@ read_at [] i r s lt at e = absurd (omega arith)
 read_at (x ∷ rs) zero r s lt at e = sym e ∙ ap (λ (y : Rc Record Global). y.value) at
 read_at (x ∷ rs) (suc i) r s lt at e = read_at rs i r s (omega arith) at e
 
--- what is not marked of a record among others
-module _ (ask : Question NodeRef → Answer NodeRef) (changes : List WorldChange) where
+-- what is spared of a record among others
+module _ (ask : Question NodeRef → Answer NodeRef) (spared : Spared) where
   abbrev SparedIn : Record → Type 0
-  SparedIn r = AsksSpared ask changes (kept_in r).trace
+  SparedIn r = AsksSpared ask spared (kept_in r).trace
 
-  pub all_spared_at : (rs : List (Rc Record Global)) (i : ℕ) (r : Rc Record Global) → i < length rs → r.value ≡ (get_or rs i r).value → AllSpared ask changes rs
+  pub all_spared_at : (rs : List (Rc Record Global)) (i : ℕ) (r : Rc Record Global) → i < length rs → r.value ≡ (get_or rs i r).value → AllSpared ask spared rs
       → SparedIn r.value
   all_spared_at [] i r lt at h = absurd (omega arith)
   all_spared_at (x ∷ rs) zero r lt at h = subst SparedIn (sym at) h.0

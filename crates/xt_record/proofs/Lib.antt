@@ -5,3 +5,4 @@ pub mod Parameters
 pub mod Answered
 pub mod Judging
 pub mod Counting
+pub mod Sparing

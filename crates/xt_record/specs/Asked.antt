@@ -58,7 +58,7 @@ pub record Asks (changes : List WorldChange) (trace : List (Event NodeRef)) (bef
 -- records of the last run were judged, and nothing else was done
 pub record Judges (before after : Reuse) : Type 0 where
   pub last : after.last ≡ before.last
-  pub since : after.since ≡ before.since
+  pub spared : after.spared ≡ before.spared
   pub kept : after.kept ≡ before.kept
   pub ran : after.steps.ran ≡ before.steps.ran
   pub asked : before.steps.asked ≤ after.steps.asked

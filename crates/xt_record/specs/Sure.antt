@@ -5,8 +5,9 @@ use Rattle.std.specs.declared.alloc.Global.{Global}
 use Rattle.spec_meaning.specs.Question.{Question, Answer}
 use Rattle.spec_run.specs.Going.{Event, Asked, Saw, Entered, Held}
 use Rattle.spec_node.specs.declared.node_ref.NodeRef.{NodeRef}
-use Rattle.spec_touch.specs.Marks.{WorldChange, any_marks}
 use Rattle.xt_touch.specs.View.{since_of}
+use Rattle.xt_spared.specs.View.{IsSparedBy}
+use Rattle.xt_spared.specs.declared.spared.Spared.{Spared}
 use Rattle.xt_record.specs.View.{kept_in, AsksHold}
 use Rattle.xt_record.specs.Asked.{marked_left, marked_of}
 use Rattle.xt_record.specs.declared.pool.Pool.{Pool}
@@ -37,31 +38,28 @@ AllJudged ask (Fails ∷ vs) (r ∷ rs) = AllJudged ask vs rs
 abbrev pub AreAnswered : (Question NodeRef → Answer NodeRef) → Pool → Type 0
 AreAnswered ask pool = AllHold ask pool.records.items
 
--- ---- What changed since
+-- ---- What need not be asked again
 
--- each question among what was done that none of these changes marks has its answer
-abbrev pub AsksSpared : (Question NodeRef → Answer NodeRef) → List WorldChange → List (Event NodeRef) → Type 0
-AsksSpared ask changes [] = Unit {0}
-AsksSpared ask changes (Asked question answer ∷ es) = (any_marks changes question ≡ false → ask question ≡ answer) × AsksSpared ask changes es
-AsksSpared ask changes (Saw wanted depth place supplied ∷ es) = AsksSpared ask changes es
-AsksSpared ask changes (Entered call depth ∷ es) = AsksSpared ask changes es
-AsksSpared ask changes (Held first contents ∷ es) = AsksSpared ask changes es
+-- each question among what was done that is spared has its answer
+abbrev pub AsksSpared : (Question NodeRef → Answer NodeRef) → Spared → List (Event NodeRef) → Type 0
+AsksSpared ask spared [] = Unit {0}
+AsksSpared ask spared (Asked question answer ∷ es) = (IsSparedBy spared question → ask question ≡ answer) × AsksSpared ask spared es
+AsksSpared ask spared (Saw wanted depth place supplied ∷ es) = AsksSpared ask spared es
+AsksSpared ask spared (Entered call depth ∷ es) = AsksSpared ask spared es
+AsksSpared ask spared (Held first contents ∷ es) = AsksSpared ask spared es
 
-abbrev pub AllSpared : (Question NodeRef → Answer NodeRef) → List WorldChange → List (Rc Record Global) → Type 0
-AllSpared ask changes [] = Unit {0}
-AllSpared ask changes (r ∷ rs) = AsksSpared ask changes (kept_in r.value).trace × AllSpared ask changes rs
-
--- each question of what a run kept that none of these changes marks has its answer
-abbrev pub Spares : (Question NodeRef → Answer NodeRef) → Pool → List WorldChange → Type 0
-Spares ask pool changes = AllSpared ask changes pool.records.items
+-- and of each of these records
+abbrev pub AllSpared : (Question NodeRef → Answer NodeRef) → Spared → List (Rc Record Global) → Type 0
+AllSpared ask spared [] = Unit {0}
+AllSpared ask spared (r ∷ rs) = AsksSpared ask spared (kept_in r.value).trace × AllSpared ask spared rs
 
 -- ---- What a run may reuse
 
 -- the questions of what this run kept have these answers, and those of each record of the last run that was found to hold, and each question of the
--- last run that no change since marks. No more questions were asked than these changes mark of the records of the last run that were judged
+-- last run that is spared. No more questions were asked than these changes mark of the records of the last run that were judged
 pub record IsSure (ask : Question NodeRef → Answer NodeRef) (reuse : Reuse) : Type 0 where
   pub kept : AllHold ask reuse.kept.records.items
   pub judged : AllJudged ask reuse.verdicts.items reuse.last.now.records.items
-  pub spared : Spares ask reuse.last.now (since_of reuse.since.now)
-  pub counted : reuse.steps.asked + marked_left (since_of reuse.since.now) reuse.verdicts.items reuse.last.now.records.items
-      ≤ marked_of (since_of reuse.since.now) reuse.last.now
+  pub spared : AllSpared ask reuse.spared.now reuse.last.now.records.items
+  pub counted : reuse.steps.asked + marked_left (since_of reuse.spared.now.since.now) reuse.verdicts.items reuse.last.now.records.items
+      ≤ marked_of (since_of reuse.spared.now.since.now) reuse.last.now

@@ -11,49 +11,49 @@ use crate::Steps;
 use std::alloc::Global;
 use xt_engine::Event;
 use xt_questions::{Answer, Question, World};
+use xt_spared::Spared;
 use xt_text::Memory;
-use xt_touch::Since;
 
-/// Where it says so, each question has its answer: those that are marked are asked up to the first that has another, and
+/// Where it says so, each question has its answer: those that are not spared are asked up to the first that has another, and
 /// counted. The others have theirs.
 pub(crate) fn asks_hold<W: World>(
     alloc: Global,
     events: &[Event],
-    since: &Since,
+    spared: &Spared<'_>,
     world: &mut W,
     steps: &mut Steps,
 ) -> Result<bool, Memory>
-    requires spared { AsksSpared (W.state world.now).truth (since_of since.now) (map event_of events.now) }
+    requires spared { AsksSpared (W.state world.now).truth spared.now (map event_of events.now) }
     ensures holds { IfOk result (λ b. b ≡ true → AsksHold (W.state world.old).truth (map event_of events.now)) }
-    ensures steps { Asks (since_of since.now) (map event_of events.now) steps.old steps.new }
+    ensures steps { Asks (since_of spared.now.since.now) (map event_of events.now) steps.old steps.new }
     ensures truth { (W.state world.new).truth ≡ (W.state world.old).truth }
     ensures name { W.name world.new ≡ W.name world.old }
 {
     for event in events {
-        if !asks_so(alloc, event, since, world, steps)? {
+        if !asks_so(alloc, event, spared, world, steps)? {
             return Ok(false);
         }
     }
     Ok(true)
 }
 
-// Where it says so, the question has its answer, if it is one. It is asked where it is marked.
+// Where it says so, the question has its answer, if it is one. It is asked where it is not spared.
 fn asks_so<W: World>(
     alloc: Global,
     event: &Event,
-    since: &Since,
+    spared: &Spared<'_>,
     world: &mut W,
     steps: &mut Steps,
 ) -> Result<bool, Memory>
-    requires spared { AsksSpared (W.state world.now).truth (since_of since.now) (event_of event.now ∷ []) }
+    requires spared { AsksSpared (W.state world.now).truth spared.now (event_of event.now ∷ []) }
     ensures holds { IfOk result (λ b. b ≡ true → AsksHold (W.state world.old).truth (event_of event.now ∷ [])) }
-    ensures steps { Asks (since_of since.now) (event_of event.now ∷ []) steps.old steps.new }
+    ensures steps { Asks (since_of spared.now.since.now) (event_of event.now ∷ []) steps.old steps.new }
     ensures truth { (W.state world.new).truth ≡ (W.state world.old).truth }
     ensures name { W.name world.new ≡ W.name world.old }
 {
     match event {
         Event::Asked(question, answer) => {
-            if !since.marks(question) {
+            if spared.spares(question) {
                 return Ok(true);
             }
             steps.asked = steps.asked.saturating_add(1);

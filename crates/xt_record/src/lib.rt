@@ -2,10 +2,10 @@
 //!
 //! A record never goes stale, since all on which it depends is among what it did (`specs/View.antt`); only what it read
 //! may no longer hold. `Reuse` has what the last finished run kept, and what this run keeps: it finds what may serve a
-//! call, and asks each question of the last run at most once, and none that a change since then does not mark.
+//! call, and asks each question of the last run at most once, and none that is spared (`xt_spared`).
 //!
 //! ```text
-//! let mut reuse = Reuse::new(alloc, &last, &since)?;
+//! let mut reuse = Reuse::new(alloc, &last, &spared)?;
 //! let found = reuse.find(alloc, &mut world, &call, below, 0)?;     // a record whose questions have their answers
 //! reuse.keep(alloc, record)?;                                      // for calls after this one, and for the next run
 //! let (kept, steps) = reuse.ended();

@@ -45,6 +45,13 @@ impl Pool {
         }
     }
 
+    /// The records, in the order in which they were kept.
+    pub fn records(&self) -> &[Rc<Record>]
+        ensures { result.now ≡ self.now.records.items }
+    {
+        self.records.as_slice()
+    }
+
     /// How many records there are.
     pub(crate) fn count(&self) -> usize
         ensures { result ≡ length self.now.records.items }

@@ -5,8 +5,9 @@ ghost use Rattle.spec_node.specs.declared.node_ref.NodeRef.{NodeRef};
 ghost use Rattle.xt_engine.specs.View.{call_of};
 ghost use Rattle.xt_record.specs.View.{AsksHold, MayServe, kept_in};
 ghost use Rattle.xt_record.specs.Asked.{Judges, marked_of};
-ghost use Rattle.xt_record.specs.Sure.{AreAnswered, IsSure, Spares, verdict_of};
+ghost use Rattle.xt_record.specs.Sure.{AreAnswered, IsSure, verdict_of};
 ghost use Rattle.xt_record.specs.declared.reuse.Verdict.TheVariants as Verdict;
+ghost use Rattle.xt_spared.specs.View.{Spares};
 ghost use Rattle.xt_touch.specs.View.{since_of};
 
 use crate::asking::asks_hold;
@@ -15,8 +16,8 @@ use std::alloc::Global;
 use std::rc::Rc;
 use xt_engine::Call;
 use xt_questions::World;
+use xt_spared::Spared;
 use xt_text::Memory;
-use xt_touch::Since;
 
 /// What a run cost, as far as it is counted.
 #[derive(Clone, Copy, Debug, PartialEq, Eq)]
@@ -57,8 +58,8 @@ pub struct Found {
 #[derive(Drop)]
 pub struct Reuse<'a> {
     last: &'a Pool,
-    // What changed since: it marks the questions that may have other answers now.
-    since: &'a Since,
+    // Which questions need not be asked again, by what changed since. The others may have other answers now.
+    spared: &'a Spared<'a>,
     // One for each record of the last run.
     verdicts: Vec<Verdict>,
     kept: Pool,
@@ -66,19 +67,19 @@ pub struct Reuse<'a> {
 }
 
 impl<'a> Reuse<'a> {
-    /// Nothing is kept yet and nothing counted, and no question of the last run was asked. Those that are not marked have
-    /// the answers that they had.
-    pub fn new(alloc: Global, last: &'a Pool, since: &'a Since) -> Result<Reuse<'a>, Memory>
-        ensures sure { IfOk result (λ reuse. (ask : Question NodeRef → Answer NodeRef) → Spares ask last.now (since_of since.now) → IsSure ask reuse) }
+    /// Nothing is kept yet and nothing counted, and no question of the last run was asked. Those that are spared have the
+    /// answers that they had.
+    pub fn new(alloc: Global, last: &'a Pool, spared: &'a Spared<'a>) -> Result<Reuse<'a>, Memory>
+        ensures sure { IfOk result (λ reuse. (was ask : Question NodeRef → Answer NodeRef) → AreAnswered was last.now → Spares was ask spared.now → IsSure ask reuse) }
         ensures last { IfOk result (λ reuse. reuse.last.now ≡ last.now) }
-        ensures since { IfOk result (λ reuse. reuse.since.now ≡ since.now) }
+        ensures spared { IfOk result (λ reuse. reuse.spared.now ≡ spared.now) }
         ensures kept { IfOk result (λ reuse. reuse.kept.records.items ≡ []) }
         ensures ran { IfOk result (λ reuse. reuse.steps.ran ≡ 0) }
         ensures asked { IfOk result (λ reuse. reuse.steps.asked ≡ 0) }
     {
         Ok(Reuse {
             last,
-            since,
+            spared,
             verdicts: vec![in alloc; Verdict::Unasked; last.count()]?,
             kept: Pool::new(alloc),
             steps: Steps { ran: 0, asked: 0 },
@@ -87,7 +88,7 @@ impl<'a> Reuse<'a> {
 
     /// A record that may serve the call, with so many levels below the call's own: among those that this run kept, and then
     /// among those of the last, in both the latest first. From 0 on, or from where one that was found says; from there on
-    /// nothing is found twice. Where the questions of a record were not asked in this run, those that are marked are asked
+    /// nothing is found twice. Where the questions of a record were not asked in this run, those that are not spared are asked
     /// up to the first that has another answer, and counted.
     pub fn find<W: World>(
         &mut self,
@@ -239,7 +240,7 @@ impl<'a> Reuse<'a> {
             Verdict::Fails => Ok(false),
             Verdict::Unasked => {
                 let events = kept.ran.events.as_slice();
-                let holds = asks_hold(alloc, events, self.since, world, &mut self.steps)?;
+                let holds = asks_hold(alloc, events, self.spared, world, &mut self.steps)?;
                 self.verdicts[turn] = verdict_of(holds);
                 Ok(holds)
             }
@@ -251,7 +252,7 @@ impl<'a> Reuse<'a> {
         ensures sure { OnOk result ((ask : Question NodeRef → Answer NodeRef) → IsSure ask self.old → AsksHold ask (kept_in kept.value).trace → IsSure ask self.new) }
         ensures kept { OnOk result (self.new.kept.records.items ≡ self.old.kept.records.items ++ kept ∷ []) }
         ensures last { self.new.last ≡ self.old.last }
-        ensures since { self.new.since ≡ self.old.since }
+        ensures spared { self.new.spared ≡ self.old.spared }
         ensures steps { self.new.steps ≡ self.old.steps }
     {
         let _ = alloc;
@@ -262,7 +263,7 @@ impl<'a> Reuse<'a> {
     pub fn count_run(&mut self)
         ensures sure { (ask : Question NodeRef → Answer NodeRef) → IsSure ask self.old → IsSure ask self.new }
         ensures last { self.new.last ≡ self.old.last }
-        ensures since { self.new.since ≡ self.old.since }
+        ensures spared { self.new.spared ≡ self.old.spared }
         ensures kept { self.new.kept ≡ self.old.kept }
         ensures ran { self.new.steps.ran ≡ min (self.old.steps.ran + 1) u64.MAX }
         ensures asked { self.new.steps.asked ≡ self.old.steps.asked }
@@ -275,11 +276,11 @@ impl<'a> Reuse<'a> {
         ensures kept { result.0 ≡ self.entry.kept }
         ensures steps { result.1 ≡ self.entry.steps }
         ensures answered { (ask : Question NodeRef → Answer NodeRef) → IsSure ask self.entry → AreAnswered ask result.0 }
-        ensures asked { (ask : Question NodeRef → Answer NodeRef) → IsSure ask self.entry → result.1.asked ≤ marked_of (since_of self.entry.since.now) self.entry.last.now }
+        ensures asked { (ask : Question NodeRef → Answer NodeRef) → IsSure ask self.entry → result.1.asked ≤ marked_of (since_of self.entry.spared.now.since.now) self.entry.last.now }
     {
         let Reuse {
             last,
-            since,
+            spared,
             verdicts,
             kept,
             steps,

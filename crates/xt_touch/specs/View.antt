@@ -1,5 +1,6 @@
 -- What the types of this crate stand for.
-use Rattle.std.specs.Prelude.{ℕ, List, [], ◌∷◌, ◌++◌, length, map, nat_lt, if◌then◌else◌}
+use Rattle.std.specs.Prelude.{ℕ, Bool, true, false, List, [], ◌∷◌, ◌++◌, length, map, nat_lt, if◌then◌else◌}
+use Rattle.std.specs.List.{list_all, list_any}
 use Rattle.spec_move.specs.Changed.{MoveChange, in_order, between}
 use Rattle.spec_touch.specs.Marks as spec
 use Rattle.xt_edit.specs.MoveTelling.{move_change_in}
@@ -47,3 +48,24 @@ most_remembered = 256
 -- one more; where there are too many, anything may be another
 abbrev pub remembered : List spec.WorldChange → spec.WorldChange → List spec.WorldChange
 remembered changes change = if nat_lt (length changes) most_remembered then changes ++ change ∷ [] else spec.Anything ∷ []
+
+-- what leaves the stylesheet as it was
+abbrev pub keeps_sheet : spec.WorldChange → Bool
+keeps_sheet (spec.SourceEdited change asking) = true
+keeps_sheet (spec.SourceMoved change asking) = true
+keeps_sheet (spec.ModulesChanged units asking) = false
+keeps_sheet (spec.ParameterGiven name) = true
+keeps_sheet spec.Anything = false
+
+abbrev pub keep_sheet : List spec.WorldChange → Bool
+keep_sheet changes = list_all keeps_sheet changes
+
+abbrev pub is_move : spec.WorldChange → Bool
+is_move (spec.SourceEdited change asking) = false
+is_move (spec.SourceMoved change asking) = true
+is_move (spec.ModulesChanged units asking) = false
+is_move (spec.ParameterGiven name) = false
+is_move spec.Anything = false
+
+abbrev pub some_move : List spec.WorldChange → Bool
+some_move changes = list_any is_move changes

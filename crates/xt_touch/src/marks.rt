@@ -2,7 +2,7 @@
 ghost use Rattle.std.specs.Prelude.{◌≡◌, IfOk};
 ghost use Rattle.spec_touch.specs.Marks as spec;
 ghost use Rattle.xt_questions.specs.View.{question_of};
-ghost use Rattle.xt_touch.specs.View.{marked_by, world_change_of};
+ghost use Rattle.xt_touch.specs.View.{is_move, keeps_sheet, marked_by, world_change_of};
 
 use crate::moved::MoveMarks;
 use crate::source::SourceMarks;
@@ -77,6 +77,50 @@ impl Marks {
             Cause::Modules { units, asking } => by_modules(units, asking, question),
             Cause::Parameter(name) => by_parameter(name, question),
             Cause::Anything => true,
+        }
+    }
+
+    /// Whether it leaves the stylesheet as it was. Takes no memory.
+    pub(crate) fn keeps_stylesheet(&self) -> bool
+        ensures { result ≡ keeps_sheet (marked_by self.now) }
+    {
+        match &self.cause {
+            Cause::Edit {
+                source: _,
+                asking: _,
+            } => true,
+            Cause::Move {
+                moved: _,
+                asking: _,
+            } => true,
+            Cause::Modules {
+                units: _,
+                asking: _,
+            } => false,
+            Cause::Parameter(_) => true,
+            Cause::Anything => false,
+        }
+    }
+
+    /// Whether it moves a node of the source. Takes no memory.
+    pub(crate) fn is_move(&self) -> bool
+        ensures { result ≡ is_move (marked_by self.now) }
+    {
+        match &self.cause {
+            Cause::Edit {
+                source: _,
+                asking: _,
+            } => false,
+            Cause::Move {
+                moved: _,
+                asking: _,
+            } => true,
+            Cause::Modules {
+                units: _,
+                asking: _,
+            } => false,
+            Cause::Parameter(_) => false,
+            Cause::Anything => false,
         }
     }
 }

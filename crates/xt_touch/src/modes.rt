@@ -1,5 +1,5 @@
 // Modes in which the choice of a template rule asks more than what nodes are called.
-ghost use Rattle.std.specs.Prelude.{◌≡◌, true, false, IfOk, List, [], ◌∷◌, ◌++◌, Option, OnOk, map};
+ghost use Rattle.std.specs.Prelude.{◌≡◌, ◌==◌, true, false, length, IfOk, List, [], ◌∷◌, ◌++◌, Option, OnOk, map};
 ghost use Rattle.std.specs.List.{list_all};
 ghost use Rattle.spec_document.specs.Name as name;
 ghost use Rattle.spec_expression.specs.Syntax.{exprs};
@@ -46,8 +46,15 @@ impl Modes {
         Ok(Modes { list })
     }
 
+    /// Whether there are none. Takes no memory.
+    pub fn is_empty(&self) -> bool
+        ensures { result ≡ (length self.now == 0) }
+    {
+        self.list.is_empty()
+    }
+
     /// Whether the mode is one of them. Takes no memory.
-    pub(crate) fn has(&self, mode: &Option<Expanded>) -> bool
+    pub fn has(&self, mode: &Option<Expanded>) -> bool
         ensures { result ≡ spec.is_mode_among self.now mode.now }
     {
         is_among(self.list.as_slice(), mode)

@@ -2,7 +2,7 @@
 ghost use Rattle.std.specs.Prelude.{◌≡◌, ◌∷◌, ◌++◌, [], length, nat_lt, IfOk};
 ghost use Rattle.spec_touch.specs.Marks as spec;
 ghost use Rattle.xt_questions.specs.View.{question_of};
-ghost use Rattle.xt_touch.specs.View.{marked_by, most_remembered, remembered, since_of, world_change_of};
+ghost use Rattle.xt_touch.specs.View.{keep_sheet, marked_by, most_remembered, remembered, since_of, some_move, world_change_of};
 
 use crate::{Marks, WorldChange};
 use std::alloc::Global;
@@ -87,6 +87,29 @@ impl Since {
     {
         for marks in &self.changes {
             if marks.is_marked(question) {
+                return true;
+            }
+        }
+        false
+    }
+    /// Whether each of them leaves the stylesheet as it was: an edit or a move of the source, or a parameter. Takes no memory.
+    pub fn keeps_stylesheet(&self) -> bool
+        ensures { result ≡ keep_sheet (since_of self.now) }
+    {
+        for marks in &self.changes {
+            if !marks.keeps_stylesheet() {
+                return false;
+            }
+        }
+        true
+    }
+
+    /// Whether one of them moves a node of the source. Takes no memory.
+    pub fn moves(&self) -> bool
+        ensures { result ≡ some_move (since_of self.now) }
+    {
+        for marks in &self.changes {
+            if marks.is_move() {
                 return true;
             }
         }

@@ -1,7 +1,7 @@
 //! The world of a stylesheet and a source: it answers truly what is asked of the source's tree and of its keys, for
 //! copies of its nodes, for their template rules, for the units of the stylesheet and for the values that
 //! parameters are given from outside. Of what it was asked it keeps the keys alone: all keys of a name are found
-//! for all nodes when a first value is asked for.
+//! for all nodes when a first value is asked for. `Source` is the part of it that knows the tree and the keys alone.
 //!
 //! ```text
 //! let stylesheet = Stylesheet::new(alloc, sheet, numbers)?;   // of the elements of its units, if they serve
@@ -25,5 +25,6 @@ mod world;
 pub use common::{same_rules, same_units};
 pub use laws::{same_plain_choices, same_run};
 pub use parameters::{Before, Parameters};
+pub use source::Source;
 pub use stylesheet::Stylesheet;
 pub use world::SheetWorld;

@@ -30,6 +30,23 @@ pub struct Source<'a> {
     pub keys: Vec<FoundKeys>,
 }
 
+impl<'a> Source<'a> {
+    ghost use Rattle.std.specs.Prelude.{◌≡◌, []};
+    ghost use Rattle.xt_world.specs.SourceView.{source_in, source_of};
+
+    /// This source with the keys of this stylesheet, of which none were found yet. Takes no memory.
+    pub fn new(alloc: Global, document: &'a Doc, stylesheet: &'a Stylesheet) -> Source<'a>
+        ensures { source_of result ≡ source_in stylesheet.now document.now [] }
+    {
+        Source {
+            alloc,
+            document,
+            stylesheet,
+            keys: Vec::new(alloc),
+        }
+    }
+}
+
 impl<'a> World for Source<'a> {
     ghost use Rattle.std.specs.Prelude.{[], None};
     ghost use Rattle.xt_world.specs.SourceView.{source_in};

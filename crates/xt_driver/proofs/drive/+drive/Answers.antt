@@ -111,7 +111,7 @@ run_call-loop-standing-preserved-in-Continue-branch-4 g t c =
       truth = c.means-came.ensures.truth ∙ resumed;
       name = c.means-came.ensures.name ∙ c.advance.ensures.name ∙ inv.name;
       last = c.means-came.ensures.last ∙ inv.last;
-      since = c.means-came.ensures.since ∙ inv.since;
+      spared = c.means-came.ensures.spared ∙ inv.spared;
     }
 
 pub run_call-loop-standing-smaller : goal.run_call-loop-standing-smaller
@@ -180,7 +180,7 @@ run_call-loop-standing-preserved g t c =
       truth = c.need-came.ensures.truth ∙ resumed;
       name = c.need-came.ensures.name ∙ c.advance.ensures.name ∙ inv.name;
       last = c.need-came.ensures.last ∙ inv.last;
-      since = c.need-came.ensures.since ∙ inv.since;
+      spared = c.need-came.ensures.spared ∙ inv.spared;
     }
 
 pub run_call-done-requires : goal.run_call-done-requires
@@ -361,7 +361,7 @@ follow-loop-event-init g t c =
     let ss = streams_of way.parts.items in
     let P : List (Event NodeRef) → Type 0 = λ es. IsFollowed s i first first way.spare k ss es in
     let begun = followed_begun s i first way.spare k c.requires.remembers c.requires.serves.asks c.a_record_lasts.ensures (ap streams_of c.in_ok-way.ensures) in
-    record { followed = subst P (rest_all c.as_slice-events.result.now c.as_slice-events.ensures.value) begun; sure = c.requires.sure; truth = refl; name = refl; last = refl; since = refl }
+    record { followed = subst P (rest_all c.as_slice-events.result.now c.as_slice-events.ensures.value) begun; sure = c.requires.sure; truth = refl; name = refl; last = refl; spared = refl }
 
 pub follow-go_on-requires : goal.follow-go_on-requires
 follow-go_on-requires g t c =
@@ -397,7 +397,7 @@ follow-loop-event-preserved g t c =
       truth = c.go_on.ensures.truth ∙ inv.truth;
       name = c.go_on.ensures.name ∙ inv.name;
       last = c.go_on.ensures.last ∙ inv.last;
-      since = c.go_on.ensures.since ∙ inv.since;
+      spared = c.go_on.ensures.spared ∙ inv.spared;
     }
 
 pub follow-returns-in-Not-clause-keeps : goal.follow-returns-in-Not-clause-keeps
@@ -668,7 +668,7 @@ go_on-returns-in-Refer-clause-sure g t c =
 
 pub serve-loop-found-init : goal.serve-loop-found-init
 serve-loop-found-init g t c =
-    record { keeps = keeps_all c.requires.remembers; sure = c.requires.sure; truth = refl; name = refl; last = refl; since = refl }
+    record { keeps = keeps_all c.requires.remembers; sure = c.requires.sure; truth = refl; name = refl; last = refl; spared = refl }
 
 pub serve-find-requires : goal.serve-find-requires
 serve-find-requires g t c =
@@ -727,7 +727,7 @@ serve-loop-found-preserved g t c =
       truth = c.follow-served.ensures.truth ∙ here;
       name = c.follow-served.ensures.name ∙ c.find.ensures.name ∙ inv.name;
       last = c.in_ok-tried-in-Some.ensures.last ∙ c.follow-served.ensures.last ∙ c.find.ensures.judges.last ∙ inv.last;
-      since = c.in_ok-tried-in-Some.ensures.since ∙ c.follow-served.ensures.since ∙ c.find.ensures.judges.since ∙ inv.since;
+      spared = c.in_ok-tried-in-Some.ensures.spared ∙ c.follow-served.ensures.spared ∙ c.find.ensures.judges.spared ∙ inv.spared;
     }
 
 pub serve-returns-in-Some-2-clause-keeps : goal.serve-returns-in-Some-2-clause-keeps
@@ -981,7 +981,7 @@ run_call-loop-standing-init g t c =
       truth = refl;
       name = refl;
       last = c.count_run.ensures.last;
-      since = c.count_run.ensures.since;
+      spared = c.count_run.ensures.spared;
     }
 
 pub run_call-returns-in-Failed-clause-lasts : goal.run_call-returns-in-Failed-clause-lasts

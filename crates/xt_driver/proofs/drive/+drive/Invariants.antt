@@ -44,7 +44,7 @@ invariant-serve-loop-found g l =
       truth : (g.W.World.state l.world).truth ≡ truth;
       name : g.W.World.name l.world ≡ g.W.World.name l.fn.world;
       last : l.reuse.last ≡ l.fn.reuse.last;
-      since : l.reuse.since ≡ l.fn.reuse.since;
+      spared : l.reuse.spared ≡ l.fn.reuse.spared;
     }
 
 abbrev pub decreases-serve-loop-found : goal.decreases-serve-loop-found
@@ -62,7 +62,7 @@ invariant-follow-loop-event g l =
       truth : (g.W.World.state l.world).truth ≡ truth;
       name : g.W.World.name l.world ≡ g.W.World.name l.fn.world;
       last : l.reuse.last ≡ l.fn.reuse.last;
-      since : l.reuse.since ≡ l.fn.reuse.since;
+      spared : l.reuse.spared ≡ l.fn.reuse.spared;
     }
 
 abbrev pub invariant-run_call-loop-standing : goal.invariant-run_call-loop-standing
@@ -76,7 +76,7 @@ invariant-run_call-loop-standing g l =
       truth : (g.W.World.state l.world).truth ≡ truth;
       name : g.W.World.name l.world ≡ g.W.World.name l.fn.world;
       last : l.reuse.last ≡ l.fn.reuse.last;
-      since : l.reuse.since ≡ l.fn.reuse.since;
+      spared : l.reuse.spared ≡ l.fn.reuse.spared;
     }
 
 abbrev pub decreases-run_call-loop-standing : goal.decreases-run_call-loop-standing

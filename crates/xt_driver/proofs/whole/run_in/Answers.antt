@@ -22,7 +22,7 @@ loop-global-init g c =
       truth = refl;
       name = refl;
       last = refl;
-      since = refl;
+      spared = refl;
     }
 
 pub turn-requires-clause-sure : goal.turn-requires-clause-sure
@@ -64,7 +64,7 @@ loop-global-preserved g c =
       truth = c.turn.ensures.truth ∙ inv.truth;
       name = c.turn.ensures.name ∙ inv.name;
       last = c.in_ok-turned.ensures.last ∙ inv.last;
-      since = c.in_ok-turned.ensures.since ∙ inv.since;
+      spared = c.in_ok-turned.ensures.spared ∙ inv.spared;
     }
 
 pub returns-in-Some-clause-run : goal.returns-in-Some-clause-run

@@ -18,5 +18,5 @@ invariant-loop-global g l =
       truth : (g.W.World.state l.world).truth ≡ truth;
       name : g.W.World.name l.world ≡ g.W.World.name l.fn.world;
       last : l.reuse.last ≡ l.fn.reuse.last;
-      since : l.reuse.since ≡ l.fn.reuse.since;
+      spared : l.reuse.spared ≡ l.fn.reuse.spared;
     }

@@ -12,18 +12,18 @@ use Rattle.xt_record.proofs.asking.asks_hold.Goals as goal
 pub asks_so-requires : goal.asks_so-requires
 asks_so-requires g c =
     let truth = (g.W.World.state c.args.world.now).truth in
-    let changes = since_of c.args.since.now in
+    let spared = c.args.spared.now in
     let event = c.event-item.result in
-    let Spared : (Question NodeRef → Answer NodeRef) → Type 0 = λ t. AsksSpared t changes (event_of event ∷ []) in
+    let Spared : (Question NodeRef → Answer NodeRef) → Type 0 = λ t. AsksSpared t spared (event_of event ∷ []) in
     record {
       spared = subst Spared (sym c.loop-event.invariant.truth)
-          (spared_at truth changes c.args.events.now c.loop-event.event-index event (omega arith) c.event-item.is c.requires.spared);
+          (spared_at truth spared c.args.events.now c.loop-event.event-index event (omega arith) c.event-item.is c.requires.spared);
     }
 
 pub loop-event-preserved : goal.loop-event-preserved
 loop-event-preserved g c =
     let truth = (g.W.World.state c.args.world.now).truth in
-    let changes = since_of c.args.since.now in
+    let changes = since_of c.args.spared.now.since.now in
     let es = c.args.events.now in
     let i = c.loop-event.event-index in
     let event = c.event-item.result in
@@ -38,10 +38,10 @@ loop-event-preserved g c =
 
 pub returns-in_err-asks_so-clause-steps : goal.returns-in_err-asks_so-clause-steps
 returns-in_err-asks_so-clause-steps g c =
-    asks_up_to (since_of c.args.since.now) c.args.events.now c.loop-event.event-index c.event-item.result (omega arith) c.event-item.is
+    asks_up_to (since_of c.args.spared.now.since.now) c.args.events.now c.loop-event.event-index c.event-item.result (omega arith) c.event-item.is
     c.loop-event.invariant.steps c.asks_so.ensures.steps
 
 pub returns-then-not-branch-clause-steps : goal.returns-then-not-branch-clause-steps
 returns-then-not-branch-clause-steps g c =
-    asks_up_to (since_of c.args.since.now) c.args.events.now c.loop-event.event-index c.event-item.result (omega arith) c.event-item.is
+    asks_up_to (since_of c.args.spared.now.since.now) c.args.events.now c.loop-event.event-index c.event-item.result (omega arith) c.event-item.is
     c.loop-event.invariant.steps c.asks_so.ensures.steps

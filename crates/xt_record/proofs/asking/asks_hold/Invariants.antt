@@ -11,7 +11,7 @@ invariant-loop-event g l =
     let state = g.W.World.state in
     record {
       holds : AsksHold (state l.fn.world).truth (map event_of (take l.event-index l.events));
-      steps : Asks (since_of l.since) (map event_of (take l.event-index l.events)) l.fn.steps l.steps;
+      steps : Asks (since_of l.spared.since.now) (map event_of (take l.event-index l.events)) l.fn.steps l.steps;
       truth : (state l.world).truth ≡ (state l.fn.world).truth;
       name : g.W.World.name l.world ≡ g.W.World.name l.fn.world;
     }

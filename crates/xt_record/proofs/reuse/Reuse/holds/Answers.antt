@@ -21,12 +21,12 @@ pub asks_hold-requires : goal.asks_hold-requires
 asks_hold-requires g c =
     let truth = (g.W.World.state c.args.world.now).truth in
     let self = c.args.self.now in
-    let changes = since_of self.since.now in
-    let Spared : List Event → Type 0 = λ es. AsksSpared truth changes (map event_of es) in
+    let spared = self.spared.now in
+    let Spared : List Event → Type 0 = λ es. AsksSpared truth spared (map event_of es) in
     let InIt : Record → Type 0 = λ r. Spared r.ran.events.items in
     record {
       spared = subst Spared (sym c.as_slice-events.ensures.value) (subst InIt (sym c.deref.ensures)
-          (all_spared_at truth changes self.last.now.records.items c.args.turn c.args.kept.now c.requires.within c.requires.at c.requires.sure.spared));
+          (all_spared_at truth spared self.last.now.records.items c.args.turn c.args.kept.now c.requires.within c.requires.at c.requires.sure.spared));
     }
 
 pub returns-in_ok-holds-in-Unasked-clause-sure : goal.returns-in_ok-holds-in-Unasked-clause-sure
@@ -40,7 +40,7 @@ returns-in_ok-holds-in-Unasked-clause-sure g c =
     let now = c.verdict_of.result in
     let holds = c.in_ok-holds-in-Unasked.holds in
     let k = c.requires in
-    let changes = since_of self.since.now in
+    let changes = since_of self.spared.now.since.now in
     let Hold : List Event → Type 0 = λ es. AsksHold truth (map event_of es) in
     let InIt : Record → Type 0 = λ r. Hold r.ran.events.items in
     let same = ap (λ es. marked_in changes (map event_of es)) c.as_slice-events.ensures.value ∙ ap (λ r. marked_in changes (map event_of r.ran.events.items)) c.deref.ensures in

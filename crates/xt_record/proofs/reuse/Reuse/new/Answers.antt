@@ -7,17 +7,18 @@ use Rattle.xt_record.specs.declared.reuse.Verdict.{Verdict}
 use Rattle.xt_record.specs.Asked.{marked_among, marked_left}
 use Rattle.xt_record.proofs.Counting.{unasked_left}
 use Rattle.xt_record.proofs.Judging.{unasked}
+use Rattle.xt_record.proofs.Sparing.{all_spared}
 use Rattle.xt_touch.specs.View.{since_of}
 use Rattle.xt_record.proofs.reuse.Reuse.new.Goals as goal
 
 pub returns-clause-sure : goal.returns-clause-sure
-returns-clause-sure c = λ ask spares.
+returns-clause-sure c = λ was ask answered spares.
     let rs = c.args.last.now.records.items in
-    let changes = since_of c.args.since.now in
+    let changes = since_of c.args.spared.now.since.now in
     record {
       kept = subst (λ (kept : List (Rc Record Global)). AllHold ask kept) (sym c.new.ensures) tt;
       judged = subst (λ (vs : List Verdict). AllJudged ask vs rs) (sym (c.in_ok-vec.ensures.items_if_clones_equal (λ y e. e))) (unasked ask c.count.result rs);
-      spared = spares;
+      spared = all_spared was ask c.args.spared.now spares rs answered;
       counted = subst (λ (vs : List Verdict). 0 + marked_left changes vs rs ≤ marked_among changes rs) (sym (c.in_ok-vec.ensures.items_if_clones_equal (λ y e. e)))
           (unasked_left changes c.count.result rs);
     }

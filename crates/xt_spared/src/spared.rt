@@ -1,0 +1,110 @@
+// What need not be asked again.
+ghost use Rattle.std.specs.Prelude.{◌≡◌, true, false, IfSome};
+ghost use Rattle.std.specs.List.{list_any};
+ghost use Rattle.spec_document.specs.Name.{same_name};
+ghost use Rattle.spec_touch.specs.Marks.{any_marks};
+ghost use Rattle.xt_questions.specs.View.{question_of};
+ghost use Rattle.xt_touch.specs.View.{since_of};
+ghost use Rattle.xt_spared.specs.View.{IsAmong, IsSparedBy, all_stay, is_key_among, own_of, owns_in, questions_of, stays};
+
+use crate::{OwnChoice, OwnChoices};
+use std::rc::Rc;
+use xt_names::Expanded;
+use xt_questions::Question;
+use xt_touch::Since;
+
+/// Which questions need not be asked again: those that no change since marks, those of keys that stay, and the choices of which
+/// this is so of each question that was asked for them.
+#[derive(Drop)]
+pub struct Spared<'a> {
+    since: &'a Since,
+    // The names of keys that stay.
+    keys: Vec<Expanded>,
+    choices: Option<&'a OwnChoices>,
+}
+
+impl<'a> Spared<'a> {
+    /// What these changes, these keys that stay and these choices let one spare.
+    pub fn new(since: &'a Since, keys: Vec<Expanded>, choices: Option<&'a OwnChoices>) -> Spared<'a>
+        ensures since { result.since.now ≡ since.now }
+        ensures keys { result.keys.items ≡ keys.items }
+        ensures choices { owns_in result.choices ≡ owns_in choices.entry }
+    {
+        Spared {
+            since,
+            keys,
+            choices,
+        }
+    }
+
+    /// Whether the question need not be asked again. Takes no memory.
+    pub fn spares(&self, question: &Question) -> bool
+        ensures spared { result ≡ true → IsSparedBy self.now (question_of question.now) }
+        ensures marked { result ≡ false → any_marks (since_of self.now.since.now) (question_of question.now) ≡ true }
+    {
+        if self.stays(question) {
+            return true;
+        }
+        self.own_choice(question).is_some()
+    }
+
+    /// The choice of this question of which each question that was asked for it need not be asked again. Takes no memory.
+    pub fn own_choice(&self, question: &Question) -> Option<&'a Rc<OwnChoice>>
+        ensures question { IfSome result (λ own. question_of own.now.value.question ≡ question_of question.now) }
+        ensures among { IfSome result (λ own. IsAmong (own_of own.now.value) (owns_in self.now.choices)) }
+        ensures stays { IfSome result (λ own. all_stay (since_of self.now.since.now) self.now.keys.items (own_of own.now.value).reads ≡ true) }
+    {
+        let own = self.choices?.find(question)?;
+        if self.all_stay(own.reads.as_slice()) {
+            Some(own)
+        } else {
+            None
+        }
+    }
+
+    fn all_stay(&self, questions: &[Question]) -> bool
+        ensures { result ≡ all_stay (since_of self.now.since.now) self.now.keys.items (questions_of questions.now) }
+    {
+        for question in questions {
+            if !self.stays(question) {
+                return false;
+            }
+        }
+        true
+    }
+
+    fn stays(&self, question: &Question) -> bool
+        ensures { result ≡ stays (since_of self.now.since.now) self.now.keys.items (question_of question.now) }
+    {
+        !self.since.marks(question) || is_key_among(self.keys.as_slice(), question)
+    }
+}
+
+// Whether it asks of a key of one of these names.
+fn is_key_among(names: &[Expanded], question: &Question) -> bool
+    ensures { result ≡ is_key_among names.now (question_of question.now) }
+{
+    match question {
+        Question::Step(_, _, _) => false,
+        Question::Text(_) => false,
+        Question::Name(_) => false,
+        Question::Place(_) => false,
+        Question::Order(_) => false,
+        Question::Key(name, _) => is_named(names, name),
+        Question::Choice(_, _, _) => false,
+        Question::Copy(_) => false,
+        Question::Unit(_) => false,
+        Question::External(_) => false,
+    }
+}
+
+fn is_named(names: &[Expanded], name: &Expanded) -> bool
+    ensures { result ≡ list_any (same_name name.now) names.now }
+{
+    for other in names {
+        if name.same(other) {
+            return true;
+        }
+    }
+    false
+}
