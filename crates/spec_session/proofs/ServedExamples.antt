@@ -36,30 +36,18 @@ show_is_answered = record {
   bytes = refl;
 }
 
--- the counts at the start, and any others: the machine allows both
+-- the counts at the start, where nothing was run
 counts_are_answered : AreReplies (session_of (codes "stats" ∷ [])).commands (codes "ran 0 asked 0\n")
 unfolding chars is_utf8 encode digits
 counts_are_answered = record {
   replies = Counted 0 0 ∷ [];
   state = initial;
-  run = (initial, inl (record { ran = 0; asked = 0; ran_fits = lit< tt; asked_fits = lit< tt; is = refl }, refl), refl);
-  bytes = refl;
-}
-
-other_counts_are_answered : AreReplies (session_of (codes "stats" ∷ [])).commands (codes "ran 12 asked 304\n")
-unfolding chars is_utf8 encode digits
-other_counts_are_answered = record {
-  replies = Counted 12 304 ∷ [];
-  state = initial;
-  run = (initial, inl (record { ran = 12; asked = 304; ran_fits = lit< tt; asked_fits = lit< tt; is = refl }, refl), refl);
+  run = (initial, inl ((Failed no_main [], refl, record { ran = 0; asked = 0; ran_fits = lit< tt; asked_fits = lit< tt; free = (refl, refl); is = refl }), refl), refl);
   bytes = refl;
 }
 
 pub counts_answered : IsServed 100 (codes "stats\n") 0 (codes "ran 0 asked 0\n")
 counts_answered = record { answered = counts_are_answered; ends = refl }
-
-pub other_counts_answered : IsServed 100 (codes "stats\n") 0 (codes "ran 12 asked 304\n")
-other_counts_answered = record { answered = other_counts_are_answered; ends = refl }
 
 -- a batch of no change is opened and dropped, and then there is none
 abbrev open_at_start : State

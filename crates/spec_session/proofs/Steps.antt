@@ -12,7 +12,9 @@ use Rattle.spec_structure.specs.Modules.{is_among}
 use Rattle.spec_run.specs.Documents.{Documents}
 use Rattle.spec_run.specs.Outcome.{Outcome, Done, Failed, IsOutcome}
 use Rattle.spec_session.specs.Machine.{State, Answer, Refuses, Changes, Pends, Drops, ShowsResult, WritesResult, ShowsMessages, ShowsDocument, TellsCounts}
-use Rattle.spec_session.specs.Machine.{Gives, Step}
+use Rattle.spec_session.specs.Machine.{Gives, Step, IsFreeAt, IsFreeFor, TellsNumbers}
+use Rattle.spec_expression.specs.declared.code.Code.{Code}
+use Rattle.spec_expression.specs.declared.code.Code.TheVariants.{Static, Dynamic}
 use Rattle.spec_session.specs.Machine.{change_reply, result_reply, written_by, written_reply, messages_reply, answer_of}
 use Rattle.spec_session.proofs.Counts.{no_counts}
 
@@ -89,6 +91,18 @@ written_differs : (o : Outcome) → written_reply o ≢ No 1
 written_differs (Done result m messages) = by_differs m result
 written_differs (Failed why messages) = λ h. cc
 
+-- both numbers may be 0 in any case
+free_at : (code : Code) → IsFreeAt code 0 0
+free_at (Static code) = (refl, refl)
+free_at (Dynamic code) = tt
+
+free_for : (o : Outcome) → IsFreeFor o 0 0
+free_for (Done result m messages) = tt
+free_for (Failed why messages) = free_at why.code
+
+none_told : (o : Outcome) → TellsNumbers o (Counted 0 0)
+none_told o = record { ran = 0; asked = 0; ran_fits = lit< tt; asked_fits = lit< tt; free = free_for o; is = refl }
+
 pub gives : NoWant → (old : State) → HasFinite old → (answer : Answer) → IsOther answer → HasReply old answer
 unfolding number_in
 gives some old finite (Refuses number) h none = none (No number, old, (refl, refl), λ e. above number h (ap number_in e))
@@ -104,7 +118,8 @@ gives some old finite ShowsMessages h none =
     some old.documents finite.present.names finite.present.all (λ o. none (messages_reply o.0, old, ((o.0, o.1, refl), refl), λ e. cc))
 gives some old finite (ShowsDocument tree) h none = none (Shown _, old, (refl, refl), λ e. cc)
 gives some old finite TellsCounts h none =
-    none (Counted 0 0, old, (record { ran = 0; asked = 0; ran_fits = lit< tt; asked_fits = lit< tt; is = refl }, refl), λ e. cc)
+    some old.documents finite.present.names finite.present.all
+    (λ o. none (Counted 0 0, old, ((o.0, o.1, none_told o.0), refl), λ e. cc))
 
 -- what one answer gives is one state, and one reply but for the counts
 one_state : (old : State) (answer : Answer) (reply other : Reply) (new another : State) → Gives old answer reply new → Gives old answer other another

@@ -9,6 +9,8 @@ use Rattle.spec_document.specs.Fault.{Fault}
 use Rattle.spec_document.specs.Document.{document_of}
 use Rattle.spec_document.specs.Name.{Expanded}
 use Rattle.spec_edit.specs.Edit as edits
+use Rattle.spec_expression.specs.declared.code.Code.{Code}
+use Rattle.spec_expression.specs.declared.code.Code.TheVariants.{Static, Dynamic}
 use Rattle.spec_edit.specs.Edit.{Edit, Edited, edited_document}
 use Rattle.spec_move.specs.Move.{moved_document}
 use Rattle.spec_stylesheet.specs.declared.method.Method.{Method}
@@ -176,12 +178,23 @@ messages_in (Failed why messages) = messages
 abbrev pub messages_reply : Outcome → Reply
 messages_reply outcome = Shown (map (λ text. line_of (Data text)) (messages_in outcome))
 
--- The reply tells two numbers of 64 bits. For now any two are allowed: nothing is said here of what was run or asked
-pub record TellsNumbers (reply : Reply) : Type 0 where
+-- without a stylesheet or without a source nothing is run, and nothing asked
+abbrev pub IsFreeAt : Code → (ran asked : ℕ) → Type 0
+IsFreeAt (Static code) ran asked = (ran ≡ 0) × (asked ≡ 0)
+IsFreeAt (Dynamic code) ran asked = Unit {0}
+
+abbrev pub IsFreeFor : Outcome → (ran asked : ℕ) → Type 0
+IsFreeFor (Done result method messages) ran asked = Unit {0}
+IsFreeFor (Failed why messages) ran asked = IsFreeAt why.code ran asked
+
+-- With this outcome the reply tells two numbers of 64 bits, which are 0 where nothing was run. Where something was, any two are allowed for now: nothing
+-- is said here of what was run or asked
+pub record TellsNumbers (outcome : Outcome) (reply : Reply) : Type 0 where
   pub ran : ℕ
   pub asked : ℕ
   pub ran_fits : ran < 2 ^ 64
   pub asked_fits : asked < 2 ^ 64
+  pub free : IsFreeFor outcome ran asked
   pub is : reply ≡ Counted ran asked
 
 -- from old, with this answer, the machine gives this reply and goes on to new
@@ -194,7 +207,7 @@ Gives old ShowsResult reply new = ((outcome : Outcome) × IsOutcome old.document
 Gives old WritesResult reply new = ((outcome : Outcome) × IsOutcome old.documents outcome × (reply ≡ written_reply outcome)) × (new ≡ old)
 Gives old ShowsMessages reply new = ((outcome : Outcome) × IsOutcome old.documents outcome × (reply ≡ messages_reply outcome)) × (new ≡ old)
 Gives old (ShowsDocument tree) reply new = (reply ≡ Shown (lines_of tree)) × (new ≡ old)
-Gives old TellsCounts reply new = TellsNumbers reply × (new ≡ old)
+Gives old TellsCounts reply new = ((outcome : Outcome) × IsOutcome old.documents outcome × TellsNumbers outcome reply) × (new ≡ old)
 
 -- Each command gets its answer. Want of memory, which changes nothing, may come in its place at any command
 abbrev pub Step : State → Command → Reply → State → Type 0

@@ -1,5 +1,5 @@
 -- What is held once a batch is opened, committed or abandoned.
-use Rattle.std.proofs.Common.{◌≡◌, ℕ, ◌+◌, ◌≤◌, false, cond, true, List, [], ◌∷◌, drop, length, Option, None, Some, bytes_eq, string_bytes, refl, sym, ap, subst, ◌∙◌}
+use Rattle.std.proofs.Common.{◌≡◌, ℕ, ◌+◌, ◌≤◌, false, cond, List, [], ◌∷◌, drop, length, Option, None, Some, bytes_eq, string_bytes, refl, sym, ap, subst, ◌∙◌}
 use Rattle.std.specs.Prelude.{IfSome, slice_get}
 use Rattle.std.specs.Map.{lookup}
 use Rattle.std.specs.Option.{is_some, option_map}
@@ -13,13 +13,13 @@ use Rattle.indexmap.specs.IndexMap.{insert_entry}
 use Rattle.spec_document.specs.Forest.{Document}
 use Rattle.spec_run.specs.Documents.{Documents}
 use Rattle.spec_structure.specs.Modules.{Modules}
-use Rattle.xt_import.specs.View.{is_name, modules_in, plain_of}
+use Rattle.xt_import.specs.View.{is_name, plain_of}
 use Rattle.xt_touch.specs.View.{since_of}
 use Rattle.xt_world.specs.ParameterView.{parameters_of}
 use Rattle.xt_world.proofs.Keys.{lookup-insert}
 use Rattle.xt_held.specs.StylesheetView.{AreCompiled}
 use Rattle.xt_held.specs.Tried.{AreSame}
-use Rattle.xt_held.specs.View.{AreAllBelow, Basis, IsAbandoned, IsBatchOf, IsBegun, IsCurrent, documents_in, documents_of, edited_basis, gone_back, made_of, outcome_in, pending_of, present_basis, present_by, present_of}
+use Rattle.xt_held.specs.View.{AreAllBelow, Basis, IsAbandoned, IsBatchOf, IsBegun, IsCurrent, documents_in, documents_of, edited_basis, gone_back, made_of, outcome_in, present_basis, present_by}
 use Rattle.xt_held.specs.declared.batch.Batch.{Batch}
 use Rattle.xt_held.specs.declared.held.Held.{Held}
 use Rattle.xt_held.proofs.Dropping.{same_below, same_modules}
@@ -104,7 +104,7 @@ module _ (held : Held) (batch : Batch) (none : held.batch ≡ None) (h : IsCopyO
   pub opened_current : IsCurrent held → IsCurrent (opened batch held)
   opened_current now =
       current_by (opened batch held) (copied_told now) now.below now.serves
-      (record { below = copied_below now.below; same = λ e. sym (ap (λ (ds : Documents). ds.modules) copied_documents) })
+      (record { below = copied_below now.below; same = λ e. sym (ap (λ (ds : Documents). ds.modules) copied_documents) }) now.free
 
 -- ---- A batch that is open
 
@@ -142,4 +142,4 @@ module _ (held : Held) (batch : Batch) (some : held.batch ≡ Some batch) (now :
   }
 
   pub abandoned_current : IsCurrent (left_behind batch held)
-  abandoned_current = current_by (left_behind batch held) told_present known_batch.below told_present.last.serves tt
+  abandoned_current = current_by (left_behind batch held) told_present known_batch.below told_present.last.serves tt now.free

@@ -41,11 +41,14 @@ use Rattle.xt_world.specs.declared.stylesheet.Stylesheet as world
 use Rattle.xt_record.specs.Sure.{AreAnswered, IsSure}
 use Rattle.xt_record.specs.declared.pool.Pool.{Pool}
 use Rattle.xt_record.specs.declared.reuse.Reuse.{Reuse}
-use Rattle.xt_held.specs.RunView.{Ask}
+use Rattle.xt_own.specs.View.{OwnDecides}
+use Rattle.xt_held.specs.RunView.{Ask, HoldsWith}
 use Rattle.xt_held.specs.OutcomeView.{Fits, IsFreeFor, is_done, no_steps, outcome_of, plain_in}
 use Rattle.xt_held.specs.StylesheetView.{AnswersAs, AreCompiled, AreCompiledBy, Holds, IsCompiledFrom, IsThere}
 use Rattle.xt_held.specs.declared.outcome.Came.{Came}
+use Rattle.xt_held.specs.declared.last_run.Kept.{Kept}
 use Rattle.xt_held.specs.declared.outcome.Over.{Over}
+use Rattle.xt_held.specs.declared.outcome.Recorded.{Recorded}
 use Rattle.xt_held.specs.declared.tried.Tried.{Tried}
 use Rattle.xt_held.specs.declared.stylesheet.Compiled.{Compiled}
 use Rattle.xt_held.specs.declared.stylesheet.Compiled.TheVariants.{Stylesheet, Refused}
@@ -178,33 +181,44 @@ run_so same parameters document numbered held sheet answers root is globals are 
     (same_whole same parameters document numbered held sheet answers root is globals are)
     (subst (λ (t : Question NodeRef → Answer NodeRef). IfOk r (λ w. whole_of w ≡ run_of (setting_in t root globals))) told h)
 
--- what comes of the run is what it came to with what it kept
-pub over_so : (r : Result Whole Memory) (t : Result Over Memory) (meant : means.Whole) → IfOk t (λ over. r ≡ Ok over.whole) → IfOk r (λ w. whole_of w ≡ meant)
-    → IfOk t (λ over. whole_of over.whole ≡ meant)
-over_so r t meant told h =
+-- what comes of the run is what it came to with the records that it keeps
+pub recorded_so : (r : Result Whole Memory) (t : Result Recorded Memory) (meant : means.Whole) → IfOk t (λ over. r ≡ Ok over.whole)
+    → IfOk r (λ w. whole_of w ≡ meant) → IfOk t (λ over. whole_of over.whole ≡ meant)
+recorded_so r t meant told h =
     IfOk-weaker t _ _ (λ over is. subst (λ (x : Result Whole Memory). IfOk x (λ w. whole_of w ≡ meant)) is h) told
 
 -- where it was sure of all that the run kept, the questions of that have their answers
-pub kept_so : (r : Result Whole Memory) (t : Result Over Memory) (reuse : Reuse) (ask : Ask) → IfOk t (λ over. r ≡ Ok over.whole)
-    → IfOk t (λ over. (ask : Ask) → IsSure ask reuse → AreAnswered ask over.kept) → OnOk r (IsSure ask reuse) → IfOk t (λ over. AreAnswered ask over.kept)
+pub kept_so : (r : Result Whole Memory) (t : Result Recorded Memory) (reuse : Reuse) (ask : Ask) → IfOk t (λ over. r ≡ Ok over.whole)
+    → IfOk t (λ over. (ask : Ask) → IsSure ask reuse → AreAnswered ask over.records) → OnOk r (IsSure ask reuse) → IfOk t (λ over. AreAnswered ask over.records)
 kept_so r t reuse ask told kept sure = by t told kept
   where
-    by : (t : Result Over Memory) → IfOk t (λ over. r ≡ Ok over.whole) → IfOk t (λ over. (ask : Ask) → IsSure ask reuse → AreAnswered ask over.kept)
-        → IfOk t (λ over. AreAnswered ask over.kept)
+    by : (t : Result Recorded Memory) → IfOk t (λ over. r ≡ Ok over.whole) → IfOk t (λ over. (ask : Ask) → IsSure ask reuse → AreAnswered ask over.records)
+        → IfOk t (λ over. AreAnswered ask over.records)
     by (Ok over) is kept = kept ask (subst (λ (x : Result Whole Memory). OnOk x (IsSure ask reuse)) is sure)
     by (Err memory) is kept = tt
 
+-- with what else it keeps
+pub whole_so : (recorded : Recorded) (t : Result Over Memory) (meant : means.Whole) → IfOk t (λ over. over.whole ≡ recorded.whole)
+    → whole_of recorded.whole ≡ meant → IfOk t (λ over. whole_of over.whole ≡ meant)
+whole_so recorded t meant told h = IfOk-weaker t _ _ (λ over is. ap whole_of is ∙ h) told
+
+pub holds_so : (held : world.Stylesheet) (ask : Ask) (recorded : Recorded) (t : Result Over Memory) → IfOk t (λ over. over.kept.records ≡ recorded.records)
+    → IfOk t (λ over. OwnDecides held ask over.kept.own) → AreAnswered ask recorded.records → IfOk t (λ over. HoldsWith held ask over.kept)
+holds_so held ask recorded (Ok over) is own answered =
+    record { answered = subst (λ (pool : Pool). AreAnswered ask pool) (sym is) answered; own = own }
+holds_so held ask recorded (Err memory) is own answered = tt
+
 -- what a run of what is seen kept is what the run kept
-pub ended_so : (r : Result Came Memory) (pool : Pool) (P : Pool → Type 0) → IfOk r (λ came. IfSome came.kept (λ kept. kept ≡ pool)) → P pool
+pub ended_so : (r : Result Came Memory) (kept : Kept) (P : Kept → Type 0) → IfOk r (λ came. IfSome came.kept (λ other. other ≡ kept)) → P kept
     → IfOk r (λ came. IfSome came.kept P)
-ended_so r pool P told h = IfOk-weaker r _ _ (λ came is. by came.kept is) told
+ended_so r kept P told h = IfOk-weaker r _ _ (λ came is. by came.kept is) told
   where
-    by : (kept : Option Pool) → IfSome kept (λ other. other ≡ pool) → IfSome kept P
+    by : (o : Option Kept) → IfSome o (λ other. other ≡ kept) → IfSome o P
     by None is = tt
     by (Some other) is = subst P (sym is) h
 
-pub none_kept : (r : Result Came Memory) (P : Pool → Type 0) → IfOk r (λ came. came.kept ≡ None) → IfOk r (λ came. IfSome came.kept P)
-none_kept r P told = IfOk-weaker r _ _ (λ came is. subst (λ (kept : Option Pool). IfSome kept P) (sym is) tt) told
+pub none_kept : (r : Result Came Memory) (P : Kept → Type 0) → IfOk r (λ came. came.kept ≡ None) → IfOk r (λ came. IfSome came.kept P)
+none_kept r P told = IfOk-weaker r _ _ (λ came is. subst (λ (kept : Option Kept). IfSome kept P) (sym is) tt) told
 
 -- ---- Where nothing is run
 

@@ -19,6 +19,8 @@ use Rattle.xt_world.specs.ParameterView.{parameters_of}
 use Rattle.xt_world.proofs.Keys.{lookup-insert}
 use Rattle.xt_touch.specs.View.{since_of}
 use Rattle.xt_touch.specs.declared.since.Since.{Since}
+use Rattle.xt_record.specs.declared.reuse.Steps.{Steps}
+use Rattle.xt_held.specs.OutcomeView.{IsFreeFor}
 use Rattle.xt_held.specs.RunView.{KeptSpared, LastHolds, LastServes, last_known}
 use Rattle.xt_held.specs.StylesheetView.{AreCompiled}
 use Rattle.xt_held.specs.Tried.{AreSame}
@@ -90,9 +92,14 @@ same_told outcome now compiled kept basis other o k b h =
 -- what is told of what is present, and what is known of what is pending
 pub current_by : (held : Held) → IsToldOn (outcome_in held) held.compiled (present_basis held) → HasBelow (made_of held) held
     → LastServes held.compiled (parameters_of held.parameters) held.source held.last
-    → IfSome held.batch (IsBatchOf (made_of held) (documents_of held).modules) → IsCurrent held
-current_by held told below serves batch =
-    record { outcome = told.outcome; compiled = told.compiled; below = below; last = told.last; serves = serves; batch = batch }
+    → IfSome held.batch (IsBatchOf (made_of held) (documents_of held).modules) → IsFreeFor (outcome_in held) (steps_in held) → IsCurrent held
+current_by held told below serves batch free =
+    record { outcome = told.outcome; compiled = told.compiled; below = below; last = told.last; serves = serves; batch = batch; free = free }
+
+-- what is told and what it took are the same
+pub same_free : (outcome now : spec.Outcome) (steps took : Steps) → now ≡ outcome → took ≡ steps → IsFreeFor outcome steps → IsFreeFor now took
+same_free outcome now steps took o s h =
+    subst (λ (x : spec.Outcome). IsFreeFor x took) (sym o) (subst (λ (x : Steps). IsFreeFor outcome x) (sym s) h)
 
 -- ---- What is kept
 
@@ -143,6 +150,7 @@ module _ (old new : Held) (h : IsReordered old new) where
       (still_below now.below)
       (same_serves new.compiled old.compiled (parameters_of new.parameters) (parameters_of old.parameters) new.source old.source new.last old.last h.compiled
       h.parameters h.source h.last now.serves) (still_batch now.batch)
+      (same_free (outcome_in old) (outcome_in new) (steps_in old) (steps_in new) h.outcome h.steps now.free)
 
   pub kept_so : IsKept old new
   kept_so = record {

@@ -3,12 +3,15 @@ use Rattle.std.proofs.Common.{◌≡◌, ◌≤◌, ℕ, ◌+◌, true, List, []
 use Rattle.std.specs.Prelude.{IfOk, IfSome, IsTrue, nat_eq, nat_lt}
 use Rattle.std.specs.List.{list_all, IsDistinct}
 use Rattle.std.specs.Option.{is_some, option_copied, unwrap_or}
+use Rattle.std.specs.declared.alloc.Global.{Global}
+use Rattle.std.specs.declared.rc.Rc.{Rc}
 use Rattle.spec_document.specs.Document.{document_of}
 use Rattle.spec_document.specs.Forest.{Document, IsNormal, height, labels, size}
 use Rattle.spec_document.specs.NodeFaults.{greatest_depth}
 use Rattle.spec_document.specs.Numbering.{number_limit}
 use Rattle.spec_document.specs.Scope.{Scope, root_scope}
 use Rattle.spec_edit.specs.Depth.{ElementsFit}
+use Rattle.spec_meaning.specs.Question.{Gone}
 use Rattle.spec_run.specs.Documents.{Parameters}
 use Rattle.spec_edit.specs.Edit as spec
 use Rattle.spec_edit.specs.Valid.{IsValid}
@@ -25,7 +28,8 @@ use Rattle.xt_edit.specs.declared.edit.Edit.{Edit}
 use Rattle.xt_edit.specs.declared.edit.Edited.{Edited}
 use Rattle.xt_edit.specs.declared.fault.EditFault.{EditFault}
 use Rattle.xt_touch.specs.View.{since_of}
-use Rattle.xt_record.specs.declared.pool.Pool.{Pool}
+use Rattle.xt_record.specs.Sure.{AllHold}
+use Rattle.xt_record.specs.declared.record.Record.{Record}
 use Rattle.xt_held.specs.OutcomeView.{Fits, is_done, outcome_of, since_after}
 use Rattle.xt_touch.specs.declared.since.Since.{Since}
 use Rattle.xt_held.specs.declared.origin.Origin.{Origin}
@@ -33,22 +37,40 @@ use Rattle.xt_held.specs.declared.origin.Origin.TheVariants as origins
 use Rattle.xt_held.specs.RunView.{AnswersAsSome, IsFaultless, IsMadeBy, IsMadeByEdit, IsMadeByMove, KeptHolds, KeptSpared, LastHolds, StaysSpared, last_known, truth_seen}
 use Rattle.xt_held.specs.View.{HasBelow, IsFaultlessAs, before_by, left_by, numbered_document}
 use Rattle.xt_held.specs.declared.held.Held.{Held}
+use Rattle.xt_held.specs.declared.last_run.Kept.{Kept}
 use Rattle.xt_held.specs.declared.last_run.LastRun.{LastRun}
 use Rattle.xt_held.specs.declared.name.DocName.{DocName}
 use Rattle.xt_held.specs.declared.name.DocName.TheVariants as names
 use Rattle.xt_held.specs.declared.outcome.Came.{Came}
 use Rattle.xt_held.specs.declared.stylesheet.Compiled.{Compiled}
 use Rattle.xt_held.specs.declared.stylesheet.Compiled.TheVariants.{Stylesheet, Refused}
-use Rattle.xt_held.proofs.Sparing.{held_spared}
 use denote.Ref.{Bor}
 
 -- ---- What is told of what is known last, where modules are run
 
-pub run_spared : (compiled before : Option Compiled) (parameters : Parameters) (source : Option (Document ℕ)) (pool : Pool) (changes : List WorldChange)
-    → KeptSpared (last_known compiled before) parameters source pool changes → KeptSpared compiled parameters source pool changes
-run_spared None before parameters source pool changes h = tt
-run_spared (Some (Refused why)) before parameters source pool changes h = tt
-run_spared (Some (Stylesheet held rules method)) before parameters source pool changes h = h
+pub run_spared : (compiled before : Option Compiled) (parameters : Parameters) (source : Option (Document ℕ)) (kept : Kept) (changes : List WorldChange)
+    → KeptSpared (last_known compiled before) parameters source kept changes → KeptSpared compiled parameters source kept changes
+run_spared None before parameters source kept changes h =
+    record { was = h.was; answered = h.answered; agreed = record { agrees = tt; own = λ keeps. tt } }
+run_spared (Some (Refused why)) before parameters source kept changes h =
+    record { was = h.was; answered = h.answered; agreed = record { agrees = tt; own = λ keeps. tt } }
+run_spared (Some (Stylesheet held rules method)) before parameters source kept changes h = h
+
+-- where no records were kept and no modules are there, all that is known of what was kept is so
+pub nothing_kept : (parameters : Parameters) (source : Option (Document ℕ)) (kept : Kept) (changes : List WorldChange) → kept.records.records.items ≡ []
+    → KeptSpared None parameters source kept changes
+nothing_kept parameters source kept changes none = record {
+  was = λ question. Gone;
+  answered = subst (λ (rs : List (Rc Record Global)). AllHold (λ question. Gone) rs) (sym none) tt;
+  agreed = record { agrees = tt; own = λ keeps. tt };
+}
+
+-- what a change leaves of what is answered is so of what was kept
+pub kept_stays : (old new : Option Compiled) (before after : Parameters) (was is : Option (Document ℕ)) (changes others : List WorldChange)
+    → StaysSpared old new before after was is changes others → (kept : Kept) → AnswersAsSome old → AnswersAsSome new
+    → KeptSpared old before was kept changes → KeptSpared new after is kept others
+kept_stays old new before after was is changes others stays kept answers other h =
+    record { was = h.was; answered = h.answered; agreed = stays h.was kept.own answers other h.agreed }
 
 -- what they were before is told by what they were until now
 pub known_before : (compiled was before : Option Compiled) → last_known compiled (before_by compiled was before) ≡ last_known compiled (last_known was before)
@@ -64,30 +86,34 @@ known_answers (Some (Stylesheet held rules method)) before h g = h
 -- ---- What is adopted
 
 -- where there is a result, what the run kept is what the last one did from then on
-adopted_last : (came : Came) (last : Pool) (P : Pool → Type 0) → Fits came → IfSome came.kept P → is_done (outcome_of came.outcome) ≡ true
+adopted_last : (came : Came) (last : Kept) (P : Kept → Type 0) → Fits came → IfSome came.kept P → is_done (outcome_of came.outcome) ≡ true
     → P (unwrap_or came.kept last)
 adopted_last came last P fits kept done = by came.kept (fits.kept ∙ done) kept
   where
-    by : (kept : Option Pool) → is_some kept ≡ true → IfSome kept P → P (unwrap_or kept last)
+    by : (kept : Option Kept) → is_some kept ≡ true → IfSome kept P → P (unwrap_or kept last)
     by None none h = absurd (cc)
-    by (Some pool) some h = h
+    by (Some new) some h = h
 
-run_held : (compiled before : Option Compiled) (parameters : Parameters) (source : Option (Document ℕ)) (pool : Pool)
-    → KeptHolds compiled parameters source pool → KeptSpared (last_known compiled before) parameters source pool []
-run_held None before parameters source pool h = absurd h
-run_held (Some (Refused why)) before parameters source pool h = absurd h
-run_held (Some (Stylesheet held rules method)) before parameters None pool h = absurd h
-run_held (Some (Stylesheet held rules method)) before parameters (Some source) pool h = held_spared (truth_seen held rules parameters source) [] pool h
+run_held : (compiled before : Option Compiled) (parameters : Parameters) (source : Option (Document ℕ)) (kept : Kept)
+    → KeptHolds compiled parameters source kept → KeptSpared (last_known compiled before) parameters source kept []
+run_held None before parameters source kept h = absurd h
+run_held (Some (Refused why)) before parameters source kept h = absurd h
+run_held (Some (Stylesheet held rules method)) before parameters None kept h = absurd h
+run_held (Some (Stylesheet held rules method)) before parameters (Some source) kept h = record {
+  was = truth_seen held rules parameters source;
+  answered = h.answered;
+  agreed = record { agrees = λ q unmarked. refl; own = λ keeps. h.own };
+}
 
 module _ (compiled before : Option Compiled) (parameters : Parameters) (source : Option (Document ℕ)) (last : LastRun) (changes : List WorldChange) where
-  left_spared : (kept : Option Pool) (since : List WorldChange) → IfSome kept (KeptHolds compiled parameters source) → since ≡ since_after kept changes
+  left_spared : (kept : Option Kept) (since : List WorldChange) → IfSome kept (KeptHolds compiled parameters source) → since ≡ since_after kept changes
       → KeptSpared (last_known compiled before) parameters source last.kept changes
       → KeptSpared (last_known compiled before) parameters source (unwrap_or kept last.kept) since
   left_spared None since h e spared =
       subst (λ (cs : List WorldChange). KeptSpared (last_known compiled before) parameters source last.kept cs) (sym e) spared
-  left_spared (Some pool) since h e spared =
-      subst (λ (cs : List WorldChange). KeptSpared (last_known compiled before) parameters source pool cs) (sym e)
-      (run_held compiled before parameters source pool h)
+  left_spared (Some new) since h e spared =
+      subst (λ (cs : List WorldChange). KeptSpared (last_known compiled before) parameters source new cs) (sym e)
+      (run_held compiled before parameters source new h)
 
   pub last_so : (came : Came) → Fits came → IfSome came.kept (KeptHolds compiled parameters source) → since_of came.since ≡ since_after came.kept changes
       → KeptSpared (last_known compiled before) parameters source last.kept changes → AnswersAsSome (last_known compiled before) → IfSome source IsFaultless

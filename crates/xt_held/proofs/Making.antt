@@ -1,17 +1,15 @@
 -- Changes that were made ready, and what is held once they are adopted.
-use Rattle.std.proofs.Common.{◌≡◌, ℕ, ◌≤◌, Bool, true, false, Option, None, Some, refl, sym, ap, subst, ◌∙◌}
+use Rattle.std.proofs.Common.{◌≡◌, ℕ, ◌≤◌, true, false, Option, None, Some, refl, sym, ap, subst, ◌∙◌}
 use Rattle.std.specs.Prelude.{IfSome}
 use Rattle.std.specs.Option.{is_some, option_map, unwrap_or}
 use Rattle.spec_node.specs.declared.node_ref.NodeId.{NodeId}
 use Rattle.spec_run.specs.Documents.{Documents}
-use Rattle.spec_run.specs.Outcome as spec
 use Rattle.spec_run.specs.Outcome.{IsOutcome}
 use Rattle.xt_touch.specs.declared.since.Since.{Since}
 use Rattle.xt_world.specs.ParameterView.{parameters_of}
 use Rattle.xt_held.specs.OutcomeView.{outcome_of}
-use Rattle.xt_held.specs.RunView.{LastServes}
 use Rattle.xt_held.specs.StylesheetView.{AreCompiled}
-use Rattle.xt_held.specs.View.{Basis, HasBelow, HasRoom, IsBatchOf, IsBelow, IsComing, IsCurrent, IsMadeFrom, IsPending, IsTold, IsToldOf, StaysTold, changed_by, documents_in, documents_of, edited_basis, last_in, left_after, made_of, next_basis, next_batch, next_before, next_compiled, next_documents, next_last, next_made, next_outcome, next_pending, next_present, next_source, outcome_after, outcome_in, pending_of, present_basis, present_by, present_of, told_by, told_of, with_coming, with_edit}
+use Rattle.xt_held.specs.View.{Basis, HasBelow, HasRoom, IsBatchOf, IsBelow, IsComing, IsCurrent, IsMadeFrom, IsPending, IsTold, IsToldOf, StaysTold, changed_by, documents_in, documents_of, edited_basis, last_in, left_after, made_of, next_basis, next_batch, next_before, next_compiled, next_documents, next_last, next_made, next_outcome, next_pending, next_present, next_source, outcome_after, outcome_in, pending_of, present_basis, present_by, present_of, next_steps, steps_by, steps_in, told_by, with_coming, with_edit}
 use Rattle.xt_held.specs.declared.batch.Batch.{Batch}
 use Rattle.xt_held.specs.declared.held.Held.{Held}
 use Rattle.xt_held.specs.declared.last_run.LastRun.{LastRun}
@@ -23,7 +21,7 @@ use Rattle.xt_held.specs.declared.ready.Coming.{Coming}
 use Rattle.xt_held.specs.declared.ready.Coming.TheVariants.{Told, Pending}
 use Rattle.xt_held.specs.declared.ready.Ready.{Ready}
 use Rattle.xt_held.specs.declared.stylesheet.Compiled.{Compiled}
-use Rattle.xt_held.proofs.Keeping.{IsToldOn, current_by, raised_all, same_serves, same_told, told_on}
+use Rattle.xt_held.proofs.Keeping.{current_by, raised_all, same_free, same_serves, same_told, told_on}
 
 abbrev pub told_ready : Change → NodeId → Came → Ready
 told_ready change next came = record { change = change; next = next; coming = Told came }
@@ -169,6 +167,7 @@ pub record IsAdopted (ready : Ready) (old new : Held) : Type 0 where
   pub batch : new.batch ≡ next_batch ready.change old.batch
   pub made : made_of new ≡ next_made ready
   pub outcome : outcome_in new ≡ next_outcome ready old
+  pub steps : steps_in new ≡ next_steps ready old
   pub below : HasBelow (made_of new) new
 
 -- what is taken over of an outcome
@@ -203,6 +202,7 @@ adopted_so ready old put new taken is others below =
       batch = ap (λ (held : Held). held.batch) taken ∙ is.batch;
       made = ap made_of taken;
       outcome = ap outcome_in taken ∙ outcome_so ready.coming put.outcome ∙ ap (unwrap_or (told_by ready.coming)) is.told.outcome;
+      steps = ap steps_in taken ∙ ap (steps_by ready.coming) is.told.steps;
       below = subst (λ (held : Held). HasBelow (made_of held) held) (sym taken) (is.below (next_made ready) others below);
     }
 
@@ -226,6 +226,7 @@ module _ (change : Change) (next : NodeId) (old new : Held) where
       (same_serves new.compiled (next_compiled change old) (parameters_of new.parameters) (next_documents ready old).parameters new.source (next_source change old)
       new.last (next_last ready old) h.compiled (ap (λ (ds : Documents). ds.parameters) h.documents) h.source h.last told.last.serves)
       (subst (λ (batch : Option Batch). IfSome batch (IsBatchOf (made_of new) (documents_of new).modules)) (sym closed) tt)
+      (same_free (outcome_of came.outcome) (outcome_in new) came.steps (steps_in new) h.outcome h.steps told.fits.steps)
 
   pending_current : (since : Since) → IsAdopted (pending_ready change next since) old new → IsPending (pending_ready change next since) old → IsCurrent new
   pending_current since h is =
@@ -242,6 +243,7 @@ module _ (change : Change) (next : NodeId) (old new : Held) where
       (subst (λ (first : ℕ). IfSome (next_batch change old.batch) (IsBatchOf first (documents_of new).modules)) (sym h.made)
       (subst (λ (ds : Documents). IfSome (next_batch change old.batch) (IsBatchOf next.number ds.modules)) (sym h.documents)
       (batch_stays change old.batch (made_of old) next.number (documents_of old) is.grows is.current.batch))))
+      (same_free (outcome_in old) (outcome_in new) (steps_in old) (steps_in new) h.outcome h.steps is.current.free)
 
   current_so : (coming : Coming) → IsAdopted (record { change = change; next = next; coming = coming }) old new
       → IsComing coming (record { change = change; next = next; coming = coming }) old → IsCurrent new

@@ -1,5 +1,5 @@
--- What was kept is spared after each kind of change.
-use Rattle.std.proofs.Common.{◌≡◌, ℕ, List, [], ◌∷◌, Option, None, Some, ap, sym, subst, ◌∙◌}
+-- What was answered is so after each kind of change.
+use Rattle.std.proofs.Common.{◌≡◌, ℕ, List, [], ◌∷◌, Option, None, Some, ap, refl, sym, subst, ◌∙◌}
 use Rattle.spec_document.specs.Forest.{Document, Plain}
 use Rattle.spec_document.specs.Name.{Expanded}
 use Rattle.spec_stylesheet.specs.Place.{Place}
@@ -19,22 +19,21 @@ use Rattle.spec_touch.specs.Plain.{AreAsking}
 use Rattle.xt_touch.specs.View.{remembered}
 use Rattle.xt_syntax.specs.SheetView.{rules_of, space_rules_of}
 use Rattle.xt_syntax.specs.declared.space_rules.SpaceRules.{SpaceRules}
-use Rattle.xt_record.specs.Sure.{Spares}
-use Rattle.xt_record.specs.declared.pool.Pool.{Pool}
+use Rattle.xt_own.specs.View.{OwnDecides}
 use Rattle.xt_world.specs.Numbered.{element_called}
 use Rattle.xt_world.specs.ParameterView.{with_value}
 use Rattle.xt_world.specs.View.{truth_in}
 use Rattle.xt_world.specs.declared.stylesheet.Stylesheet as world
 use Rattle.xt_tree.specs.Numbers.{IsNumbered}
 use Rattle.xt_held.specs.Alike.{ChooseAlike, HaveUnitsAlike}
-use Rattle.xt_held.specs.RunView.{AnswersAsSome, IsFaultless, KeptSpared, SeesAll, StaysSpared, truth_seen}
+use Rattle.xt_held.specs.RunView.{Agreed, Agrees, AnswersAsSome, Ask, IfRun, IfSheet, IsFaultless, SeesAll, StaysSpared, truth_seen}
 use Rattle.xt_held.specs.StylesheetView.{AnswersAs, AreCompiled, AreCompiledBy, IsCompiledFrom}
 use Rattle.xt_held.specs.View.{IsCurrent, IsKnown}
 use Rattle.xt_held.specs.declared.held.Held.{Held}
 use Rattle.xt_held.specs.declared.stylesheet.Compiled.{Compiled}
 use Rattle.xt_held.specs.declared.stylesheet.Compiled.TheVariants.{Stylesheet, Refused}
-use Rattle.xt_held.proofs.Sparing.{Answering, KeepingSpace, Leading, alike, edit_comes, leads_so, modules_come, move_comes, none_spared, seen_whole}
-use Rattle.xt_held.proofs.Sparing.{sound_of, spared_after, value_comes, world_of}
+use Rattle.xt_held.proofs.Sparing.{Answering, KeepingSpace, Leading, agrees_after, alike, edit_comes, leads_so, modules_come, move_comes, none_agree}
+use Rattle.xt_held.proofs.Sparing.{none_keep, seen_whole, sheet_lost, sheet_stays, sound_of, value_comes, world_of}
 
 -- ---- What modules are answers as some stylesheet does
 
@@ -57,29 +56,32 @@ known_of held h = record { last = h.serves }
 abbrev named_by : (held : world.Stylesheet) (sheet : plain.Sheet) → AnswersAs held sheet → Place → NodeRef
 named_by held sheet h = element_called h.numbers
 
-answered : (held : world.Stylesheet) (sheet : plain.Sheet) (h : AnswersAs held sheet) (parameters : Parameters) (document : Document ℕ) (q : Question NodeRef)
+answers_so : (held : world.Stylesheet) (sheet : plain.Sheet) (h : AnswersAs held sheet) (parameters : Parameters) (document : Document ℕ) (q : Question NodeRef)
     → truth_in held parameters document q ≡ answers (world_of sheet (named_by held sheet h) parameters document) q
-answered held sheet h parameters document q = h.truth parameters document q
+answers_so held sheet h parameters document q = h.truth parameters document q
 
 -- ---- Where anything may be another
 
-all_marked : (compiled : Option Compiled) (parameters : Parameters) (source : Option (Document ℕ)) (pool : Pool)
-    → KeptSpared compiled parameters source pool (Anything ∷ [])
-all_marked None parameters source pool = tt
-all_marked (Some (Refused why)) parameters source pool = tt
-all_marked (Some (Stylesheet held rules method)) parameters None pool = tt
-all_marked (Some (Stylesheet held rules method)) parameters (Some source) pool = none_spared (truth_seen held rules parameters source) pool
+all_marked : (was : Ask) (compiled : Option Compiled) (parameters : Parameters) (source : Option (Document ℕ))
+    → IfRun (λ ask. Agrees was ask (Anything ∷ [])) compiled parameters source
+all_marked was None parameters source = tt
+all_marked was (Some (Refused why)) parameters source = tt
+all_marked was (Some (Stylesheet held rules method)) parameters None = tt
+all_marked was (Some (Stylesheet held rules method)) parameters (Some source) = none_agree was (truth_seen held rules parameters source)
 
 pub anything_stays : (old new : Option Compiled) (before after : Parameters) (was is : Option (Document ℕ)) (changes next : List WorldChange)
     → next ≡ Anything ∷ [] → StaysSpared old new before after was is changes next
-anything_stays old new before after was is changes next e = λ pool answers others h.
-    subst (λ (cs : List WorldChange). KeptSpared new after is pool cs) (sym e) (all_marked new after is pool)
+anything_stays old new before after was is changes next e = λ answered own answers others h.
+    record {
+      agrees = subst (λ (cs : List WorldChange). IfRun (λ ask. Agrees answered ask cs) new after is) (sym e) (all_marked answered new after is);
+      own = none_keep next (IfSheet (λ held. OwnDecides held answered own) new) e;
+    }
 
 -- where nothing changes
 pub same_stays : (known : Option Compiled) (parameters : Parameters) (source : Option (Document ℕ)) (changes next : List WorldChange) → next ≡ changes
     → StaysSpared known known parameters parameters source source changes next
-same_stays known parameters source changes next e = λ pool answers others h.
-    subst (λ (cs : List WorldChange). KeptSpared known parameters source pool cs) (sym e) h
+same_stays known parameters source changes next e = λ answered own answers others h.
+    subst (λ (cs : List WorldChange). Agreed answered own known parameters source cs) (sym e) h
 
 -- ---- After an edit of the source, and after a move in it
 
@@ -93,7 +95,7 @@ pub edit_stays : Answering → Leading → KeepingSpace → (held : world.Styles
     → (changes next : List WorldChange) → next ≡ remembered changes (SourceEdited change asking)
     → StaysSpared (Some (Stylesheet held rules method)) (Some (Stylesheet held rules method)) parameters parameters (Some old) (Some new) changes next
 edit_stays answering leading keeping held rules method parameters edit old new faultless numbers q told change is seen_so asking asks changes next e =
-    λ pool answers others h.
+    λ answered own answers others h.
     let sight = (space_rules_of rules).rules in
     let sheet = answers.0 in
     let called = named_by held sheet answers.1 in
@@ -104,10 +106,14 @@ edit_stays answering leading keeping held rules method parameters edit old new f
     (subst (λ (rs : plain.Rules). AreAsking asking rs.rules) answers.1.rules asks) in
     let before = truth_seen held rules parameters old in
     let after = truth_seen held rules parameters new in
-    subst (λ (cs : List WorldChange). Spares after pool cs) (sym (e ∙ ap (λ (c : Change). remembered changes (SourceEdited c asking)) same))
-    (spared_after changes (SourceEdited made asking) before after
-    (alike answering (SourceEdited made asking) (world_of sheet called parameters (seen sight old)) (world_of sheet called parameters (seen sight new))
-    comes before after (answered held sheet answers.1 parameters (seen sight old)) (answered held sheet answers.1 parameters (seen sight new))) pool h)
+    let is_next : next ≡ remembered changes (SourceEdited made asking) = e ∙ ap (λ (c : Change). remembered changes (SourceEdited c asking)) same in
+    record {
+      agrees = subst (λ (cs : List WorldChange). Agrees answered after cs) (sym is_next)
+          (agrees_after changes (SourceEdited made asking) answered before after
+          (alike answering (SourceEdited made asking) (world_of sheet called parameters (seen sight old)) (world_of sheet called parameters (seen sight new))
+          comes before after (answers_so held sheet answers.1 parameters (seen sight old)) (answers_so held sheet answers.1 parameters (seen sight new))) h.agrees);
+      own = sheet_stays changes next (SourceEdited made asking) (OwnDecides held answered own) is_next h.own;
+    }
 
 pub move_stays : Answering → (held : world.Stylesheet) (rules : SpaceRules) (method : Option (Method Expanded)) (parameters : Parameters)
     (path other : List ℕ) (old new : Document ℕ) → SeesAll rules → IsFaultless old → IsNumbered old → IsMove path other old new
@@ -116,7 +122,7 @@ pub move_stays : Answering → (held : world.Stylesheet) (rules : SpaceRules) (m
     → (changes next : List WorldChange) → next ≡ remembered changes (SourceMoved change asking)
     → StaysSpared (Some (Stylesheet held rules method)) (Some (Stylesheet held rules method)) parameters parameters (Some old) (Some new) changes next
 move_stays answering held rules method parameters path other old new all faultless numbers q change is asking asks changes next e =
-    λ pool answers others h.
+    λ answered own answers others h.
     let sight = (space_rules_of rules).rules in
     let sheet = answers.0 in
     let called = named_by held sheet answers.1 in
@@ -124,13 +130,16 @@ move_stays answering held rules method parameters path other old new all faultle
     (subst (λ (rs : plain.Rules). AreAsking asking rs.rules) answers.1.rules asks) in
     let before = truth_in held parameters old in
     let after = truth_in held parameters new in
-    let moved = spared_after changes (SourceMoved change asking) before after
+    let moved = agrees_after changes (SourceMoved change asking) answered before after
     (alike answering (SourceMoved change asking) (world_of sheet called parameters old) (world_of sheet called parameters new)
-    comes before after (answered held sheet answers.1 parameters old) (answered held sheet answers.1 parameters new)) pool
-    (subst (λ (d : Document ℕ). Spares (truth_in held parameters d) pool changes) (seen_whole sight old all) h) in
-    subst (λ (cs : List WorldChange). Spares (truth_seen held rules parameters new) pool cs) (sym e)
-    (subst (λ (d : Document ℕ). Spares (truth_in held parameters d) pool (remembered changes (SourceMoved change asking))) (sym (seen_whole sight new all))
-    moved)
+    comes before after (answers_so held sheet answers.1 parameters old) (answers_so held sheet answers.1 parameters new))
+    (subst (λ (d : Document ℕ). Agrees answered (truth_in held parameters d) changes) (seen_whole sight old all) h.agrees) in
+    record {
+      agrees = subst (λ (cs : List WorldChange). Agrees answered (truth_seen held rules parameters new) cs) (sym e)
+          (subst (λ (d : Document ℕ). Agrees answered (truth_in held parameters d) (remembered changes (SourceMoved change asking)))
+          (sym (seen_whole sight new all)) moved);
+      own = sheet_stays changes next (SourceMoved change asking) (OwnDecides held answered own) e h.own;
+    }
 
 -- ---- After a change of modules
 
@@ -139,40 +148,50 @@ pub modules_stay : Answering → (held other : world.Stylesheet) (rules others :
     → HaveUnitsAlike held other units → ChooseAlike held other asking
     → (changes next : List WorldChange) → next ≡ remembered changes (ModulesChanged units asking)
     → StaysSpared (Some (Stylesheet held rules method)) (Some (Stylesheet other others another)) parameters parameters source source changes next
-modules_stay answering held other rules others method another parameters None see units asking kept choosing changes next e = λ pool was is h. tt
-modules_stay answering held other rules others method another parameters (Some source) see units asking kept choosing changes next e = λ pool was is h.
+modules_stay answering held other rules others method another parameters None see units asking kept choosing changes next e = λ answered own was is h.
+    record { agrees = tt; own = sheet_lost changes next (ModulesChanged units asking) (OwnDecides other answered own) e refl }
+modules_stay answering held other rules others method another parameters (Some source) see units asking kept choosing changes next e = λ answered own was is h.
     let old = seen (space_rules_of rules).rules source in
     let new = seen (space_rules_of others).rules source in
     let same : new ≡ old = ap (λ (rs : plain.SpaceRules). seen rs.rules source) see in
     let before = world_of was.0 (named_by held was.0 was.1) parameters old in
     let after = world_of is.0 (named_by other is.0 is.1) parameters new in
     let units_kept : KeepsUnits units before after = λ element m.
-    sym (answered held was.0 was.1 parameters old (Unit element)) ∙ kept element m ∙ answered other is.0 is.1 parameters new (Unit element) in
+    sym (answers_so held was.0 was.1 parameters old (Unit element)) ∙ kept element m ∙ answers_so other is.0 is.1 parameters new (Unit element) in
     let choices_kept : KeepsPlain asking before after = λ node mode candidates m.
     let q = Choice node mode candidates in
-    sym (answered held was.0 was.1 parameters old q) ∙ choosing parameters old node mode candidates m
-    ∙ ap (λ (d : Document ℕ). truth_in other parameters d q) (sym same) ∙ answered other is.0 is.1 parameters new q in
+    sym (answers_so held was.0 was.1 parameters old q) ∙ choosing parameters old node mode candidates m
+    ∙ ap (λ (d : Document ℕ). truth_in other parameters d q) (sym same) ∙ answers_so other is.0 is.1 parameters new q in
     let comes = modules_come was.0 is.0 (named_by held was.0 was.1) (named_by other is.0 is.1) parameters old new same units asking units_kept choices_kept in
-    subst (λ (cs : List WorldChange). Spares (truth_in other parameters new) pool cs) (sym e)
-    (spared_after changes (ModulesChanged units asking) (truth_in held parameters old) (truth_in other parameters new)
-    (alike answering (ModulesChanged units asking) before after comes (truth_in held parameters old) (truth_in other parameters new)
-    (answered held was.0 was.1 parameters old) (answered other is.0 is.1 parameters new)) pool h)
+    record {
+      agrees = subst (λ (cs : List WorldChange). Agrees answered (truth_in other parameters new) cs) (sym e)
+          (agrees_after changes (ModulesChanged units asking) answered (truth_in held parameters old) (truth_in other parameters new)
+          (alike answering (ModulesChanged units asking) before after comes (truth_in held parameters old) (truth_in other parameters new)
+          (answers_so held was.0 was.1 parameters old) (answers_so other is.0 is.1 parameters new)) h.agrees);
+      own = sheet_lost changes next (ModulesChanged units asking) (OwnDecides other answered own) e refl;
+    }
 
 -- ---- After a parameter is given another value
 
 pub value_stays : Answering → (name : List ℕ) (known : Option Compiled) (parameters : Parameters) (value : List ℕ) (source : Option (Document ℕ))
     (changes next : List WorldChange) → next ≡ remembered changes (ParameterGiven name)
     → StaysSpared known known parameters (with_value name value parameters) source source changes next
-value_stays answering name None parameters value source changes next e = λ pool answers others h. tt
-value_stays answering name (Some (Refused why)) parameters value source changes next e = λ pool answers others h. tt
-value_stays answering name (Some (Stylesheet held rules method)) parameters value None changes next e = λ pool answers others h. tt
-value_stays answering name (Some (Stylesheet held rules method)) parameters value (Some source) changes next e = λ pool answers others h.
+value_stays answering name None parameters value source changes next e = λ answered own answers others h.
+    record { agrees = tt; own = λ keeps. tt }
+value_stays answering name (Some (Refused why)) parameters value source changes next e = λ answered own answers others h.
+    record { agrees = tt; own = λ keeps. tt }
+value_stays answering name (Some (Stylesheet held rules method)) parameters value None changes next e = λ answered own answers others h.
+    record { agrees = tt; own = sheet_stays changes next (ParameterGiven name) (OwnDecides held answered own) e h.own }
+value_stays answering name (Some (Stylesheet held rules method)) parameters value (Some source) changes next e = λ answered own answers others h.
     let sheet = answers.0 in
     let called = named_by held sheet answers.1 in
     let sight = seen (space_rules_of rules).rules source in
     let given = with_value name value parameters in
-    subst (λ (cs : List WorldChange). Spares (truth_in held given sight) pool cs) (sym e)
-    (spared_after changes (ParameterGiven name) (truth_in held parameters sight) (truth_in held given sight)
-    (alike answering (ParameterGiven name) (world_of sheet called parameters sight) (world_of sheet called given sight)
-    (value_comes sheet called parameters name value sight) (truth_in held parameters sight) (truth_in held given sight)
-    (answered held sheet answers.1 parameters sight) (answered held sheet answers.1 given sight)) pool h)
+    record {
+      agrees = subst (λ (cs : List WorldChange). Agrees answered (truth_in held given sight) cs) (sym e)
+          (agrees_after changes (ParameterGiven name) answered (truth_in held parameters sight) (truth_in held given sight)
+          (alike answering (ParameterGiven name) (world_of sheet called parameters sight) (world_of sheet called given sight)
+          (value_comes sheet called parameters name value sight) (truth_in held parameters sight) (truth_in held given sight)
+          (answers_so held sheet answers.1 parameters sight) (answers_so held sheet answers.1 given sight)) h.agrees);
+      own = sheet_stays changes next (ParameterGiven name) (OwnDecides held answered own) e h.own;
+    }

@@ -4,8 +4,6 @@ use Rattle.std.specs.Prelude.{◌&&◌, ◌||◌, IsTrue, length, nat_eq, nat_lt
 use Rattle.std.specs.Option.{option_and_then}
 use Rattle.std.specs.List.{list_all, IsDistinct}
 use Rattle.std.proofs.lemmas.Slice.Eq.{bytes_eq-Decides}
-use Rattle.std.specs.declared.rc.Rc.{Rc}
-use Rattle.std.specs.declared.alloc.Global.{Global}
 use Rattle.spec_document.specs.Declaration.{declared_all, element_name}
 use Rattle.spec_document.specs.Name.{Expanded, qname_of}
 use Rattle.spec_document.specs.Forest.{Document, Written, Forest, Empty, Node, Element, Text, Comment, Instruction, IsNormal, labels}
@@ -15,7 +13,6 @@ use Rattle.spec_stylesheet.specs.Sheet.{Sheet, SpaceRule}
 use Rattle.spec_seen.specs.Seen.{Around, around_in, at_root, seen, seen_among, strips}
 use Rattle.spec_meaning.specs.Question.{Question}
 use Rattle.spec_run.specs.Documents.{Parameters}
-use Rattle.spec_run.specs.Going.{Event, Asked, Saw, Entered, Held}
 use Rattle.spec_edit.specs.Edit.{Edit, Edited, edited_nodes}
 use Rattle.spec_edit.specs.Valid.{IsValid}
 use Rattle.spec_edit.proofs.Numbers.{distinct-once, once-from}
@@ -29,13 +26,9 @@ use Rattle.spec_touch.specs.Marks.{ComesTo, by_edit, by_move, by_modules_alone, 
 use Rattle.spec_touch.specs.Marks.{IsSound, KeepsPlain, KeepsUnits, SameButSource, World, WorldChange, answers, any_marks, marks}
 use Rattle.spec_touch.specs.Plain.{AreAsking}
 use Rattle.spec_touch.proofs.Answering.{neither-first, neither-second}
-use Rattle.xt_touch.specs.View.{most_remembered, remembered}
-use Rattle.xt_record.specs.View.{kept_in, AsksHold}
-use Rattle.xt_record.specs.Sure.{AllHold, AllSpared, AreAnswered, AsksSpared, Spares}
-use Rattle.xt_record.specs.declared.pool.Pool.{Pool}
-use Rattle.xt_record.specs.declared.record.Record.{Record}
+use Rattle.xt_touch.specs.View.{keep_sheet, keeps_sheet, most_remembered, remembered}
 use Rattle.xt_world.specs.ParameterView.{with_value}
-use Rattle.xt_held.specs.RunView.{Ask, IsFaultless}
+use Rattle.xt_held.specs.RunView.{Agrees, Ask, IsFaultless}
 
 -- the laws on which this rests: of worlds, and of edits
 abbrev pub Answering : Type 0
@@ -163,7 +156,7 @@ pub value_comes : (sheet : Sheet) (called : Place → NodeRef) (parameters : Par
 value_comes sheet called parameters name value source =
     by_value (λ other apart. ap (λ (b : Bool). if b then Some value else parameters other) (other_way name other apart)) refl refl refl
 
--- ---- What was kept
+-- ---- What is answered as it was
 
 abbrev pub AreAlike : WorldChange → (before after : Ask) → Type 0
 AreAlike change before after = (q : Question NodeRef) → marks change q ≡ false → before q ≡ after q
@@ -190,51 +183,51 @@ unmarked q change changes h = by (nat_lt (length changes) most_remembered) h
     by true h = neither q change changes h
     by false h = absurd (true_false h)
 
-module _ (changes : List WorldChange) (change : WorldChange) (before after : Ask) (same : AreAlike change before after) where
-  asks_spared : (es : List (Event NodeRef)) → AsksSpared before changes es → AsksSpared after (remembered changes change) es
-  asks_spared [] h = tt
-  asks_spared (Asked question answer ∷ es) h =
-      (λ u. (let both = unmarked question change changes u in sym (same question both.1) ∙ h.0 both.0), asks_spared es h.1)
-  asks_spared (Saw wanted depth place supplied ∷ es) h = asks_spared es h
-  asks_spared (Entered call depth ∷ es) h = asks_spared es h
-  asks_spared (Held first contents ∷ es) h = asks_spared es h
+-- what answers as it was where the changes so far do not mark it does so where one more does not, where what that does not mark has its answers
+pub agrees_after : (changes : List WorldChange) (change : WorldChange) (was before after : Ask) → AreAlike change before after → Agrees was before changes
+    → Agrees was after (remembered changes change)
+agrees_after changes change was before after same h = λ q u.
+    let both = unmarked q change changes u in
+    sym (same q both.1) ∙ h q both.0
 
-  all_spared : (rs : List (Rc Record Global)) → AllSpared before changes rs → AllSpared after (remembered changes change) rs
-  all_spared [] h = tt
-  all_spared (r ∷ rs) h = (asks_spared (kept_in r.value).trace h.0, all_spared rs h.1)
+-- where anything may be another
+pub none_agree : (was ask : Ask) → Agrees was ask (Anything ∷ [])
+none_agree was ask = λ q u. absurd (true_false u)
 
--- what was spared by the changes so far is spared by one more, where what that does not mark has its answers
-pub spared_after : (changes : List WorldChange) (change : WorldChange) (before after : Ask) → AreAlike change before after → (pool : Pool)
-    → Spares before pool changes → Spares after pool (remembered changes change)
-spared_after changes change before after same pool h = all_spared changes change before after same pool.records.items h
+-- ---- Whether the stylesheet is what it was
 
-module _ (ask : Ask) where
-  -- where anything may be another
-  none_spared_of : (es : List (Event NodeRef)) → AsksSpared ask (Anything ∷ []) es
-  none_spared_of [] = tt
-  none_spared_of (Asked question answer ∷ es) = (λ e. absurd (true_false e), none_spared_of es)
-  none_spared_of (Saw wanted depth place supplied ∷ es) = none_spared_of es
-  none_spared_of (Entered call depth ∷ es) = none_spared_of es
-  none_spared_of (Held first contents ∷ es) = none_spared_of es
+second_of : (a b : Bool) → (a && b) ≡ true → b ≡ true
+second_of true b h = h
+second_of false b h = absurd (cc)
 
-  none_spared_among : (rs : List (Rc Record Global)) → AllSpared ask (Anything ∷ []) rs
-  none_spared_among [] = tt
-  none_spared_among (r ∷ rs) = (none_spared_of (kept_in r.value).trace, none_spared_among rs)
+-- what keeps it together keeps it so far, and with the change alone
+both_keep : (change : WorldChange) (changes : List WorldChange) → keep_sheet (changes ++ change ∷ []) ≡ true
+    → (keep_sheet changes ≡ true) × (keeps_sheet change ≡ true)
+both_keep change [] h = (refl, first_of (keeps_sheet change) true h)
+both_keep change (c ∷ cs) h =
+    let rest = both_keep change cs (second_of (keeps_sheet c) (keep_sheet (cs ++ change ∷ [])) h) in
+    let first = first_of (keeps_sheet c) (keep_sheet (cs ++ change ∷ [])) h in
+    (ap (λ b. b && keep_sheet cs) first ∙ rest.0, rest.1)
 
-  pub none_spared : (pool : Pool) → Spares ask pool (Anything ∷ [])
-  none_spared pool = none_spared_among pool.records.items
+sheet_kept : (change : WorldChange) (changes : List WorldChange) → keep_sheet (remembered changes change) ≡ true
+    → (keep_sheet changes ≡ true) × (keeps_sheet change ≡ true)
+sheet_kept change changes h = by (nat_lt (length changes) most_remembered) h
+  where
+    by : (b : Bool) → keep_sheet (cond b (changes ++ change ∷ []) (Anything ∷ [])) ≡ true → (keep_sheet changes ≡ true) × (keeps_sheet change ≡ true)
+    by true h = both_keep change changes h
+    by false h = absurd (true_false (sym h))
 
-  -- where all has its answers
-  held_spared_of : (changes : List WorldChange) (es : List (Event NodeRef)) → AsksHold ask es → AsksSpared ask changes es
-  held_spared_of changes [] h = tt
-  held_spared_of changes (Asked question answer ∷ es) h = (λ e. h.0, held_spared_of changes es h.1)
-  held_spared_of changes (Saw wanted depth place supplied ∷ es) h = held_spared_of changes es h
-  held_spared_of changes (Entered call depth ∷ es) h = held_spared_of changes es h
-  held_spared_of changes (Held first contents ∷ es) h = held_spared_of changes es h
+-- what is so of it where the changes so far keep it is so where these do that are with one more
+pub sheet_stays : (changes next : List WorldChange) (change : WorldChange) (P : Type 0) → next ≡ remembered changes change → (keep_sheet changes ≡ true → P)
+    → keep_sheet next ≡ true → P
+sheet_stays changes next change P e h keeps =
+    h (sheet_kept change changes (subst (λ (cs : List WorldChange). keep_sheet cs ≡ true) e keeps)).0
 
-  held_spared_among : (changes : List WorldChange) (rs : List (Rc Record Global)) → AllHold ask rs → AllSpared ask changes rs
-  held_spared_among changes [] h = tt
-  held_spared_among changes (r ∷ rs) h = (held_spared_of changes (kept_in r.value).trace h.0, held_spared_among changes rs h.1)
+-- where the modules have changed, nothing is said of it, and where anything has
+pub sheet_lost : (changes next : List WorldChange) (change : WorldChange) (P : Type 0) → next ≡ remembered changes change → keeps_sheet change ≡ false
+    → keep_sheet next ≡ true → P
+sheet_lost changes next change P e lost keeps =
+    absurd (true_false (sym (sheet_kept change changes (subst (λ (cs : List WorldChange). keep_sheet cs ≡ true) e keeps)).1 ∙ lost))
 
-  pub held_spared : (changes : List WorldChange) (pool : Pool) → AreAnswered ask pool → Spares ask pool changes
-  held_spared changes pool h = held_spared_among changes pool.records.items h
+pub none_keep : (next : List WorldChange) (P : Type 0) → next ≡ Anything ∷ [] → keep_sheet next ≡ true → P
+none_keep next P e keeps = absurd (true_false (sym (subst (λ (cs : List WorldChange). keep_sheet cs ≡ true) e keeps)))

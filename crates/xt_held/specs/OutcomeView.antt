@@ -8,8 +8,8 @@ use Rattle.spec_run.specs.Outcome as spec
 use Rattle.xt_syntax.specs.PartView.{place_of}
 use Rattle.xt_import.specs.View.{plain_of}
 use Rattle.spec_touch.specs.Marks.{WorldChange}
-use Rattle.xt_record.specs.declared.pool.Pool.{Pool}
 use Rattle.xt_record.specs.declared.reuse.Steps.{Steps}
+use Rattle.xt_held.specs.declared.last_run.Kept.{Kept}
 use Rattle.xt_held.specs.declared.outcome.Came.{Came}
 use Rattle.xt_held.specs.declared.outcome.Outcome.{Outcome}
 use Rattle.xt_held.specs.declared.outcome.Outcome.TheVariants as outcomes
@@ -48,6 +48,6 @@ pub record Fits (came : Came) : Type 0 where
   pub steps : IsFreeFor (outcome_of came.outcome) came.steps
 
 -- what changed since the last run that ended with a result: nothing after such a run
-abbrev pub since_after : (kept : Option Pool) → List WorldChange → List WorldChange
+abbrev pub since_after : (kept : Option Kept) → List WorldChange → List WorldChange
 since_after None changes = changes
-since_after (Some pool) changes = []
+since_after (Some kept) changes = []

@@ -23,7 +23,7 @@ use Rattle.xt_edit.specs.declared.fault.EditFault.TheVariants as faults
 use Rattle.xt_import.specs.View.{is_name, modules_in, plain_of}
 use Rattle.xt_record.specs.declared.reuse.Steps.{Steps}
 use Rattle.xt_world.specs.ParameterView.{HasRoomForOne, parameters_of}
-use Rattle.xt_held.specs.OutcomeView.{Fits, outcome_of}
+use Rattle.xt_held.specs.OutcomeView.{Fits, IsFreeFor, outcome_of}
 use Rattle.xt_held.specs.RunView.{IsFaultless, LastHolds, LastServes, last_known}
 use Rattle.xt_held.specs.StylesheetView.{AreCompiled, IsThere}
 use Rattle.xt_held.specs.declared.batch.Batch.{Batch}
@@ -123,6 +123,7 @@ pub record IsCurrent (held : Held) : Type 0 where
   pub last : LastHolds (outcome_in held) held.compiled (present_of held).parameters (present_basis held).source (present_basis held).last
   pub serves : LastServes held.compiled (parameters_of held.parameters) held.source held.last
   pub batch : IfSome held.batch (IsBatchOf (made_of held) (documents_of held).modules)
+  pub free : IsFreeFor (outcome_in held) (steps_in held)
 
 -- what is known of what the last run left while a change is made ready
 pub record IsKnown (held : Held) : Type 0 where

@@ -24,7 +24,7 @@ ghost use Rattle.xt_held.specs.View.{HasBelow, HasRoom, IsBelow, IsCurrent, IsKe
 ghost use Rattle.xt_held.specs.declared.ready.Recompiled.TheVariants as recompiled;
 
 use crate::batch::Batch;
-use crate::last_run::LastRun;
+use crate::last_run::{Kept, LastRun};
 use crate::marking::{since_edit, since_modules, since_move, since_parameter};
 use crate::name::DocName;
 use crate::origin::Origin;
@@ -45,6 +45,7 @@ use xt_build::{BuildFault, Built, build};
 use xt_edit::{Edit, EditFault, Edited, apply, relocate};
 use xt_io::Line;
 use xt_names::Scope;
+use xt_own::OwnReads;
 use xt_record::{Pool, Steps};
 use xt_text::{Memory, Path, Text};
 use xt_touch::Since;
@@ -89,7 +90,10 @@ impl Held {
             next: NodeId { number: 0 },
             outcome: at_no_element(alloc, StaticCode::NoMain),
             last: LastRun {
-                kept: Pool::new(alloc),
+                kept: Kept {
+                    records: Pool::new(alloc),
+                    own: OwnReads::none(alloc),
+                },
                 since: Since::nothing(alloc),
                 before: None,
             },

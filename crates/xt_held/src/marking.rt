@@ -1,5 +1,5 @@
 // What changed since the last run that ended with a result, after one change more.
-ghost use Rattle.std.specs.Prelude.{◌≡◌, ℕ, List, Option, IfOk, Some, false, true};
+ghost use Rattle.std.specs.Prelude.{◌≡◌, ◌++◌, ◌∷◌, [], ℕ, List, Option, IfOk, OnOk, Some, true};
 ghost use Rattle.std.specs.Option.{option_copied};
 ghost use Rattle.spec_document.specs.Forest.{Document};
 ghost use Rattle.spec_document.specs.Name.{Expanded};
@@ -18,7 +18,7 @@ ghost use Rattle.xt_touch.specs.View.{since_of};
 ghost use Rattle.xt_world.specs.ParameterView.{with_value};
 ghost use Rattle.spec_node.specs.declared.node_ref.NodeRef.{NodeRef};
 ghost use Rattle.spec_touch.specs.Marks.{is_unit_among};
-ghost use Rattle.xt_held.specs.Alike.{ChooseAlike};
+ghost use Rattle.xt_held.specs.Alike.{ChooseAlike, HaveUnitsAlike};
 ghost use Rattle.xt_held.specs.RunView.{IsFaultless, SeeAlike, SeesAll, StaysSpared, last_known};
 ghost use Rattle.xt_held.specs.declared.stylesheet.Compiled.{Compiled as What};
 ghost use Rattle.xt_held.specs.declared.stylesheet.Compiled.TheVariants as compiled;
@@ -30,11 +30,11 @@ use spec_touch::{
 use std::alloc::Global;
 use xt_edit::{Change, Edit, change_of, move_change_of};
 use xt_strip::seen;
-use xt_syntax::SpaceRules;
+use xt_syntax::{Rule, SpaceRules};
 use xt_text::{Memory, Path, Text};
 use xt_touch::{Elements, Modes, Since, WorldChange, seen_change};
-use xt_tree::Doc;
-use xt_world::{Stylesheet, same_plain_choices, same_rules};
+use xt_tree::{Doc, NodeRef};
+use xt_world::{Stylesheet, same_plain_choices, same_rules, same_units};
 
 /// After this edit, which makes the new source of the old one.
 pub(crate) fn since_edit(
@@ -246,7 +246,7 @@ fn since_other(
         source source (since_of since.now) (since_of next)) }
 {
     unmarked_questions_keep_their_answers_in_worlds();
-    let units = no_units(alloc)?;
+    let units = units_alike(alloc, old, new)?;
     let Ok(asking) = modes_alike(alloc, old, new) else {
         drop(units);
         return Err(Memory);
@@ -254,12 +254,86 @@ fn since_other(
     since.and(alloc, WorldChange::ModulesChanged { units, asking })
 }
 
-// The elements whose units need not be asked for: none. So a change of modules asks one question at least of a run that is
-// served whole, its own template, as the numbers of `stats` are to tell.
-fn no_units(alloc: Global) -> Result<Elements, Memory>
-    ensures { IfOk result (λ units. (element : NodeRef) → is_unit_among units element ≡ false) }
+// The elements whose units need not be asked for: those whose units are the same in both, but for those of the rules that may be
+// chosen for the root. A run that is served whole begins with one of these, so after a change of modules it asks one question at
+// least, as the numbers of `stats` are to tell. Where no rule may, it is none.
+fn units_alike(alloc: Global, old: &Stylesheet, new: &Stylesheet) -> Result<Elements, Memory>
+    ensures { IfOk result (λ units. HaveUnitsAlike old.now new.now units) }
 {
-    Elements::of(alloc, &[])
+    let elements = same_units(alloc, old, new)?;
+    let spared = below_the_root(alloc, new, elements.as_slice())?;
+    Elements::of(alloc, spared.as_slice())
+}
+
+// Those of these elements that are of no rule for the root, where there is such a rule.
+fn below_the_root(
+    alloc: Global,
+    stylesheet: &Stylesheet,
+    elements: &[NodeRef],
+) -> Result<Vec<NodeRef>, Memory>
+    ensures { IfOk result (λ list. (element : NodeRef) → is_unit_among list.items element ≡ true → is_unit_among elements.now element ≡ true) }
+{
+    let mut list = Vec::new(alloc);
+    if !has_root_rule(stylesheet) {
+        return Ok(list);
+    }
+    for element in elements {
+        push_unless(&mut list, *element, is_for_root(stylesheet, *element))?;
+    }
+    Ok(list)
+}
+
+// Adds the element, unless it is left out.
+fn push_unless(list: &mut Vec<NodeRef>, element: NodeRef, is_left_out: bool) -> Result<(), Memory>
+    ensures { OnOk result ((others : List NodeRef) → ((sought : NodeRef) → is_unit_among list.old.items sought ≡ true → is_unit_among others sought ≡ true)
+        → (sought : NodeRef) → is_unit_among list.new.items sought ≡ true → is_unit_among (others ++ element ∷ []) sought ≡ true) }
+{
+    if is_left_out {
+        return Ok(());
+    }
+    list.push(element)?;
+    Ok(())
+}
+
+// Whether a rule of this element's template may be chosen for the root.
+fn is_for_root(stylesheet: &Stylesheet, element: NodeRef) -> bool {
+    for rule in &stylesheet.rules.rules {
+        if is_root_rule(rule) && is_of(stylesheet, rule, element) {
+            return true;
+        }
+    }
+    false
+}
+
+// Whether there is a rule for the root.
+fn has_root_rule(stylesheet: &Stylesheet) -> bool {
+    for rule in &stylesheet.rules.rules {
+        if is_root_rule(rule) {
+            return true;
+        }
+    }
+    false
+}
+
+// Whether it is of no mode, and its pattern has an alternative without steps, as `/` has, or key() alone.
+fn is_root_rule(rule: &Rule) -> bool {
+    if rule.mode.is_some() {
+        return false;
+    }
+    for alternative in &rule.pattern.alternatives {
+        if alternative.steps.is_empty() {
+            return true;
+        }
+    }
+    false
+}
+
+// Whether its template is of this element.
+fn is_of(stylesheet: &Stylesheet, rule: &Rule, element: NodeRef) -> bool {
+    match stylesheet.elements.get(rule.unit as usize) {
+        Some(other) => *other == element,
+        None => false,
+    }
 }
 
 // Where both have the same rules, the modes in which choices may still differ.

@@ -17,14 +17,17 @@ ghost use Rattle.xt_compile.specs.View.{refusal_in};
 ghost use Rattle.xt_engine.specs.View.{refused_of};
 ghost use Rattle.xt_driver.specs.View.{whole_of};
 ghost use Rattle.xt_import.specs.View.{plain_of};
-ghost use Rattle.xt_record.specs.Sure.{AreAnswered, IsSure, Spares};
+ghost use Rattle.xt_record.specs.Sure.{AreAnswered, IsSure};
+ghost use Rattle.xt_own.specs.View.{Carries, OwnDecides};
+ghost use Rattle.spec_run.specs.Documents.{Parameters as Values};
 ghost use Rattle.xt_world.specs.ParameterView.{parameters_of};
 ghost use Rattle.xt_world.specs.View.{truth_in};
 ghost use Rattle.xt_touch.specs.View.{since_of};
 ghost use Rattle.xt_held.specs.OutcomeView.{Fits, no_steps, outcome_of, plain_in, since_after};
-ghost use Rattle.xt_held.specs.RunView.{Ask, KeptHolds, KeptSpared, truth_seen};
+ghost use Rattle.xt_held.specs.RunView.{Ask, HoldsWith, KeptHolds, KeptSpared, SparedIn, SparesRecords, truth_seen};
 ghost use Rattle.xt_held.specs.StylesheetView.{AnswersAs, AreCompiled, IsCompiledFrom};
 
+use crate::last_run::Kept;
 use crate::stylesheet::{Compiled, copy_method};
 use spec_expression::StaticCode;
 use spec_seen::labels_do_not_matter;
@@ -33,10 +36,12 @@ use xt_base::{Code, Place};
 use xt_compile::StaticRefusal;
 use xt_driver::{Whole, run};
 use xt_engine::Refused;
+use xt_own::{OwnReads, Prepared};
 use xt_questions::copy_place;
 use xt_record::{Pool, Reuse, Steps};
 use xt_result::{ResultTree, shape};
 use xt_runner::Runner;
+use xt_spared::Spared;
 use xt_strip::seen;
 use xt_syntax::{Method, SpaceRules};
 use xt_text::{Memory, Path, Text};
@@ -71,7 +76,7 @@ pub enum Outcome {
 pub(crate) struct Came {
     pub outcome: Outcome,
     /// What the run kept, where it ended with a result.
-    pub kept: Option<Pool>,
+    pub kept: Option<Kept>,
     /// What the run took, where there was one.
     pub steps: Steps,
     /// What changed since the last run that ended with a result, which may be this one.
@@ -86,7 +91,7 @@ pub(crate) fn outcome_of(
     compiled: Option<&Compiled>,
     parameters: &Parameters,
     source: Option<&Doc>,
-    last: &Pool,
+    last: &Kept,
     since: Since,
 ) -> Result<Came, Memory>
     requires { KeptSpared (option_copied compiled) (parameters_of parameters.now) (option_copied source) last.now (since_of since) }
@@ -147,7 +152,7 @@ fn transformed(
     compiled: &Compiled,
     parameters: &Parameters,
     source: &Doc,
-    last: &Pool,
+    last: &Kept,
     since: Since,
 ) -> Result<Came, Memory>
     requires { KeptSpared (Some compiled.now) (parameters_of parameters.now) (Some source.now) last.now (since_of since) }
@@ -198,11 +203,19 @@ fn refused(alloc: Global, refusal: &StaticRefusal, since: Since) -> Result<Came,
     Ok(with_no_run(outcome, since))
 }
 
-// A run that is over, with what it kept and what it took.
+// A run that is over, with what it keeps and what it took.
 #[derive(Drop)]
 struct Over {
     whole: Whole,
-    kept: Pool,
+    kept: Kept,
+    steps: Steps,
+}
+
+// The same with the records that it keeps alone.
+#[derive(Drop)]
+struct Recorded {
+    whole: Whole,
+    records: Pool,
     steps: Steps,
 }
 
@@ -213,37 +226,62 @@ fn whole_of_seen(
     space_rules: &SpaceRules,
     parameters: &Parameters,
     source: &Doc,
-    last: &Pool,
+    last: &Kept,
     since: &Since,
 ) -> Result<Over, Memory>
-    requires { Spares (truth_seen stylesheet.now space_rules.now (parameters_of parameters.now) source.now) last.now (since_of since.now) }
+    requires { SparedIn stylesheet.now (truth_seen stylesheet.now space_rules.now (parameters_of parameters.now) source.now) last.now (since_of since.now) }
     ensures run { (sheet : plain.Sheet) → AnswersAs stylesheet.now sheet → space_rules_of space_rules.now ≡ sheet.space_rules
         → IfOk result (λ over. whole_of over.whole ≡ run_of (setting_of sheet (parameters_of parameters.now) (seen_of sheet.space_rules.rules (document_of (plain_of source.now))))) }
-    ensures kept { IfOk result (λ over. AreAnswered (truth_seen stylesheet.now space_rules.now (parameters_of parameters.now) source.now) over.kept) }
+    ensures kept { IfOk result (λ over. HoldsWith stylesheet.now (truth_seen stylesheet.now space_rules.now (parameters_of parameters.now) source.now) over.kept) }
 {
     labels_do_not_matter();
     let seen = seen(alloc, source, space_rules.rules.as_slice())?;
     whole(alloc, stylesheet, parameters, &seen, last, since)
 }
 
-// The run of the stylesheet on this source, in a world of its own.
+// The run of the stylesheet on this source. Before it is told what need not be asked again, and after it what the next run has to know for that.
 fn whole(
     alloc: Global,
     stylesheet: &Stylesheet,
     parameters: &Parameters,
     source: &Doc,
-    last: &Pool,
+    last: &Kept,
     since: &Since,
 ) -> Result<Over, Memory>
-    requires { Spares (truth_in stylesheet.now (parameters_of parameters.now) source.now) last.now (since_of since.now) }
+    requires { SparedIn stylesheet.now (truth_in stylesheet.now (parameters_of parameters.now) source.now) last.now (since_of since.now) }
     ensures run { (sheet : plain.Sheet) → AnswersAs stylesheet.now sheet
         → IfOk result (λ over. whole_of over.whole ≡ run_of (setting_of sheet (parameters_of parameters.now) (document_of (plain_of source.now)))) }
-    ensures kept { IfOk result (λ over. AreAnswered (truth_in stylesheet.now (parameters_of parameters.now) source.now) over.kept) }
+    ensures kept { IfOk result (λ over. HoldsWith stylesheet.now (truth_in stylesheet.now (parameters_of parameters.now) source.now) over.kept) }
+{
+    source.distinct_numbers();
+    let prepared = last.own.prepare(alloc, since, source, stylesheet)?;
+    let spared = &prepared.spared;
+    let Ok(recorded) = run_recorded(alloc, stylesheet, parameters, source, &last.records, spared)
+    else {
+        drop(prepared);
+        return Err(Memory);
+    };
+    with_own(alloc, stylesheet, source, prepared, recorded)
+}
+
+// The run in a world of its own, where these questions need not be asked again.
+fn run_recorded(
+    alloc: Global,
+    stylesheet: &Stylesheet,
+    parameters: &Parameters,
+    source: &Doc,
+    last: &Pool,
+    spared: &Spared<'_>,
+) -> Result<Recorded, Memory>
+    requires { SparesRecords (truth_in stylesheet.now (parameters_of parameters.now) source.now) last.now spared.now }
+    ensures run { (sheet : plain.Sheet) → AnswersAs stylesheet.now sheet
+        → IfOk result (λ over. whole_of over.whole ≡ run_of (setting_of sheet (parameters_of parameters.now) (document_of (plain_of source.now)))) }
+    ensures records { IfOk result (λ over. AreAnswered (truth_in stylesheet.now (parameters_of parameters.now) source.now) over.records) }
 {
     same_run();
     source.distinct_numbers();
     let root = NodeRef::of(source.root());
-    let mut reuse = Reuse::new(alloc, last, since)?;
+    let mut reuse = Reuse::new(alloc, last, spared)?;
     let mut world = SheetWorld::new(alloc, source, stylesheet, parameters);
     let mut engine = Runner::new();
     let whole = run(
@@ -254,24 +292,79 @@ fn whole(
         stylesheet.globals.as_slice(),
         &mut reuse,
     );
-    with_kept(whole, reuse)
+    with_records(whole, reuse)
 }
 
-// The run with what it kept.
-fn with_kept(whole: Result<Whole, Memory>, reuse: Reuse<'_>) -> Result<Over, Memory>
+// The run with the records that it keeps.
+fn with_records(whole: Result<Whole, Memory>, reuse: Reuse<'_>) -> Result<Recorded, Memory>
     ensures run { IfOk result (λ over. whole ≡ Ok over.whole) }
-    ensures kept { IfOk result (λ over. (ask : Ask) → IsSure ask reuse.entry → AreAnswered ask over.kept) }
+    ensures records { IfOk result (λ over. (ask : Ask) → IsSure ask reuse.entry → AreAnswered ask over.records) }
 {
     match whole {
         Ok(whole) => {
-            let (kept, steps) = reuse.ended();
-            Ok(Over { whole, kept, steps })
+            let (records, steps) = reuse.ended();
+            Ok(Recorded {
+                whole,
+                records,
+                steps,
+            })
         }
         Err(_) => {
             drop(reuse);
             Err(Memory)
         }
     }
+}
+
+// The run with what else it keeps.
+fn with_own(
+    alloc: Global,
+    stylesheet: &Stylesheet,
+    source: &Doc,
+    prepared: Prepared<'_>,
+    recorded: Recorded,
+) -> Result<Over, Memory>
+    ensures run { IfOk result (λ over. over.whole ≡ recorded.whole) }
+    ensures records { IfOk result (λ over. over.kept.records ≡ recorded.records) }
+    ensures own { (values : Values) → Carries stylesheet.now (truth_in stylesheet.now values source.now) prepared.entry
+        → IfOk result (λ over. OwnDecides stylesheet.now (truth_in stylesheet.now values source.now) over.kept.own) }
+{
+    let is_refused = recorded.whole.refusal.is_some();
+    let records = &recorded.records;
+    let Ok(own) = own_reads(alloc, stylesheet, source, prepared, records, is_refused) else {
+        drop(recorded);
+        return Err(Memory);
+    };
+    let Recorded {
+        whole,
+        records,
+        steps,
+    } = recorded;
+    Ok(Over {
+        whole,
+        kept: Kept { records, own },
+        steps,
+    })
+}
+
+// What it rests on that choices are made and keys are found as they were for a run that kept these records. Where it was refused, nothing is kept of it, so
+// nothing is looked for.
+fn own_reads(
+    alloc: Global,
+    stylesheet: &Stylesheet,
+    source: &Doc,
+    prepared: Prepared<'_>,
+    records: &Pool,
+    is_refused: bool,
+) -> Result<OwnReads, Memory>
+    ensures { (values : Values) → Carries stylesheet.now (truth_in stylesheet.now values source.now) prepared.entry
+        → IfOk result (λ own. OwnDecides stylesheet.now (truth_in stylesheet.now values source.now) own) }
+{
+    if is_refused {
+        drop(prepared);
+        return Ok(OwnReads::none(alloc));
+    }
+    prepared.gather(alloc, source, stylesheet, records)
 }
 
 // The outcome of a run of a stylesheet with this output method, after these changes.

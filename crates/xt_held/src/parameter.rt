@@ -14,12 +14,12 @@ ghost use Rattle.xt_held.specs.OutcomeView.{Fits, outcome_of, plain_in, since_af
 ghost use Rattle.xt_held.specs.RunView.{KeptHolds, KeptSpared};
 ghost use Rattle.xt_held.specs.StylesheetView.{AreCompiled};
 
+use crate::last_run::Kept;
 use crate::outcome::{Came, outcome_of};
 use crate::stylesheet::Compiled;
 use std::alloc::Global;
 use xt_base::EditCode;
 use xt_names::{is_char, is_ncname};
-use xt_record::Pool;
 use xt_text::{Memory, Text};
 use xt_touch::Since;
 use xt_tree::Doc;
@@ -64,7 +64,7 @@ pub(crate) fn outcome_with(
     name: &Text,
     value: &Text,
     source: Option<&Doc>,
-    last: &Pool,
+    last: &Kept,
     since: Since,
 ) -> Result<TriedParameter, Memory>
     requires { KeptSpared (option_copied compiled) (with_value name.now value.now (parameters_of parameters.now)) (option_copied source) last.now (since_of since) }

@@ -7,13 +7,15 @@ use Rattle.spec_document.specs.Fault.{Fault}
 use Rattle.spec_document.specs.Forest.{Plain, Document, lines_of, texts_in}
 use Rattle.spec_document.specs.Name.{Expanded}
 use Rattle.spec_edit.specs.Edit.{Edited}
+use Rattle.spec_expression.specs.declared.code.Code.{Code}
+use Rattle.spec_expression.specs.declared.code.Code.TheVariants.{Static, Dynamic}
 use Rattle.spec_stylesheet.specs.declared.method.Method.{Method}
 use Rattle.spec_stylesheet.specs.declared.method.Method.TheVariants as method
 use Rattle.spec_run.specs.Documents.{Documents}
-use Rattle.spec_run.specs.Outcome.{Outcome, IsOutcome}
+use Rattle.spec_run.specs.Outcome.{Outcome, Done, Failed, IsOutcome}
 use Rattle.spec_session.specs.Command.{Command}
 use Rattle.spec_session.specs.Machine.{State, Answer, Changes, Pends, ShowsResult, WritesResult, ShowsMessages, ShowsDocument, TellsCounts, Refuses}
-use Rattle.spec_session.specs.Machine.{TellsNumbers, accepted, accepted_by, begun, committed, abandoned, edited_documents, kept_by}
+use Rattle.spec_session.specs.Machine.{IsFreeAt, IsFreeFor, TellsNumbers, accepted, accepted_by, begun, committed, abandoned, edited_documents, kept_by}
 use Rattle.spec_session.specs.Machine.{document_named, named_among, with_document, edited_by}
 use Rattle.spec_session.specs.Machine.{shows, dropped_by, given_by, change_reply, result_reply, written_by, written_reply, messages_reply, answer_by, answer_to, Gives, Step}
 use Rattle.spec_session.specs.Request.{DocumentName, Request, request_of}
@@ -22,6 +24,8 @@ use Rattle.xt_base.specs.Code.{edit_number}
 use Rattle.xt_wire.specs.View.{Reads, code_of_fault}
 use Rattle.xt_wire.specs.declared.fault.WireFault.{WireFault}
 use Rattle.xt_wire.specs.declared.fault.WireFault.TheVariants as variant
+use Rattle.xt_record.specs.declared.reuse.Steps.{Steps}
+use Rattle.xt_held.specs.OutcomeView as view
 use Rattle.xt_held.specs.View as repair
 use Rattle.xt_held.specs.View.{IsAbandoned, IsBegun, IsCommit, IsKept, IsReady, IsToldOf, documents_of, edited_basis, made_of, next_documents, next_made, next_pending, next_present, pending_of, present_by, present_of, told_of}
 use Rattle.xt_held.specs.declared.batch.Batch.{Batch}
@@ -63,8 +67,18 @@ pub gives_messages : (old : State) (outcome : Outcome) (reply : Reply) (text : L
     → reply ≡ messages_reply outcome → text ≡ reply_text reply → GivesText old ShowsMessages text old
 gives_messages old outcome reply text stands is e = record { reply = reply; gives = ((outcome, stands, is), refl); text_is = e }
 
-pub gives_counts : (old : State) (reply : Reply) (text : List ℕ) → TellsNumbers reply → text ≡ reply_text reply → GivesText old TellsCounts text old
-gives_counts old reply text tells e = record { reply = reply; gives = (tells, refl); text_is = e }
+pub gives_counts : (old : State) (outcome : Outcome) (reply : Reply) (text : List ℕ) → IsOutcome old.documents outcome → TellsNumbers outcome reply
+    → text ≡ reply_text reply → GivesText old TellsCounts text old
+gives_counts old outcome reply text stands tells e = record { reply = reply; gives = ((outcome, stands, tells), refl); text_is = e }
+
+-- what took nothing has two zeros
+free_at : (code : Code) (steps : Steps) → view.IsFreeAt code steps → IsFreeAt code steps.ran steps.asked
+free_at (Static code) steps h = (ap (λ (s : Steps). s.ran) h, ap (λ (s : Steps). s.asked) h)
+free_at (Dynamic code) steps h = tt
+
+pub free_for : (outcome : Outcome) (steps : Steps) → view.IsFreeFor outcome steps → IsFreeFor outcome steps.ran steps.asked
+free_for (Done result method messages) steps h = tt
+free_for (Failed why messages) steps h = free_at why.code steps h
 
 -- by the output method
 pub as_text : (m : Option (Method Expanded)) (tree : Plain) → is_text m ≡ true → written_by m tree ≡ Written (texts_in tree)

@@ -127,6 +127,7 @@ fn messages(alloc: Global, held: &Held) -> Result<Text, Memory>
 
 // Tells what the last change of what is present has cost.
 fn statistics(alloc: Global, held: &Held) -> Result<Text, Memory>
+    requires { IsCurrent held.now }
     ensures { IfOk result (λ text. GivesText (state_of held.now) TellsCounts text (state_of held.now)) }
 {
     let steps = held.stats();

@@ -1,6 +1,7 @@
 // Replies.
 ghost use Rattle.std.specs.Prelude.{◌≡◌, IfOk};
 ghost use Rattle.spec_document.specs.Forest.{lines_of};
+ghost use Rattle.spec_run.specs.Outcome as run;
 ghost use Rattle.spec_session.specs.Machine as machine;
 ghost use Rattle.spec_session.specs.Reply as written;
 ghost use Rattle.spec_session.specs.Reply.{reply_text};
@@ -78,7 +79,7 @@ fn is_text(method: &Option<Method>) -> bool
 
 /// The reply to a request for the counts, where they are these.
 pub(crate) fn counts_reply(ran: u64, asked: u64) -> Reply
-    ensures { machine.TellsNumbers (reply_of result) }
+    ensures { (outcome : run.Outcome) → machine.IsFreeFor outcome ran asked → machine.TellsNumbers outcome (reply_of result) }
 {
     Reply::Counted { ran, asked }
 }

@@ -4,8 +4,8 @@ use Rattle.xt_driver.specs.View.{whole_of}
 use Rattle.xt_import.specs.View.{plain_of}
 use Rattle.xt_touch.specs.View.{since_of}
 use Rattle.xt_world.specs.ParameterView.{parameters_of}
-use Rattle.xt_record.specs.declared.pool.Pool.{Pool}
 use Rattle.xt_held.specs.RunView.{KeptHolds, KeptSpared}
+use Rattle.xt_held.specs.declared.last_run.Kept.{Kept}
 use Rattle.xt_held.specs.declared.stylesheet.Compiled.{Compiled}
 use Rattle.xt_held.specs.declared.stylesheet.Compiled.TheVariants.{Stylesheet}
 use Rattle.xt_held.proofs.Coming.{ended_so, none_kept, runs_so}
@@ -19,12 +19,13 @@ returns-in-Ok-clause-outcome c modules main h =
 
 pub whole_of_seen-requires : goal.whole_of_seen-requires
 whole_of_seen-requires c =
-    subst (λ (compiled : Compiled). KeptSpared (Some compiled) (parameters_of c.args.parameters.now) (Some c.args.source.now) c.args.last.now (since_of c.args.since))
-    c.in-Stylesheet.is c.requires
+    let known = subst (λ (compiled : Compiled). KeptSpared (Some compiled) (parameters_of c.args.parameters.now) (Some c.args.source.now) c.args.last.now
+    (since_of c.args.since)) c.in-Stylesheet.is c.requires in
+    record { was = known.was; answered = known.answered; agrees = known.agreed.agrees; own = known.agreed.own }
 
 pub returns-in-Ok-clause-last : goal.returns-in-Ok-clause-last
 returns-in-Ok-clause-last c =
-    let Holds : Compiled → Pool → Type 0 = λ compiled pool. KeptHolds (Some compiled) (parameters_of c.args.parameters.now) (Some c.args.source.now) pool in
+    let Holds : Compiled → Kept → Type 0 = λ compiled kept. KeptHolds (Some compiled) (parameters_of c.args.parameters.now) (Some c.args.source.now) kept in
     subst (λ (compiled : Compiled). IfOk c.ended.result (λ came. IfSome came.kept (Holds compiled))) (sym c.in-Stylesheet.is)
     (ended_so c.ended.result c.in_ok-over-in-Stylesheet.over.kept
     (Holds (Stylesheet c.in-Stylesheet.stylesheet c.in-Stylesheet.space_rules c.in-Stylesheet.method)) c.ended.ensures.kept

@@ -1,28 +1,25 @@
-use Rattle.std.proofs.Common.{◌∙◌, ap, subst, sym}
-use Rattle.std.specs.Prelude.{OnOk}
-use Rattle.xt_record.specs.Sure.{IsSure}
-use Rattle.xt_world.specs.Numbered.{ref_to}
 use Rattle.xt_world.specs.ParameterView.{parameters_of}
 use Rattle.xt_world.specs.View.{truth_in}
-use Rattle.xt_world.specs.WorldView.{truth_at}
-use Rattle.xt_held.specs.RunView.{Ask}
-use Rattle.xt_held.proofs.Coming.{kept_so, over_so, run_so}
+use Rattle.xt_held.proofs.Coming.{holds_so, whole_so}
 use Rattle.xt_held.proofs.outcome.whole.Goals as goal
 
-pub run-whole-requires : goal.run-whole-requires
-run-whole-requires c =
-    subst (λ (ask : Ask). IsSure ask c.in_ok-reuse.reuse) (sym c.new-world.ensures)
-    (c.in_ok-reuse.ensures.sure (truth_in c.args.stylesheet.now (parameters_of c.args.parameters.now) c.args.source.now) c.requires)
+pub run_recorded-requires : goal.run_recorded-requires
+run_recorded-requires c =
+    let known = c.requires in
+    record {
+      was = known.was;
+      answered = known.answered;
+      spares = (c.in_ok-prepared.ensures known.was (parameters_of c.args.parameters.now) known.own known.agrees).0;
+    }
 
 pub returns-clause-run : goal.returns-clause-run
 returns-clause-run c = λ sheet answers.
-    over_so c.run-whole.result c.with_kept.result _ c.with_kept.ensures.run
-    (run_so c.same_run.ensures (parameters_of c.args.parameters.now) c.args.source.now c.distinct_numbers.ensures c.args.stylesheet.now sheet answers
-    c.of-root.result (c.of-root.ensures ∙ ap ref_to c.root.ensures) c.as_slice.result.now c.as_slice.ensures.value (truth_at c.new-world.result) c.new-world.ensures
-    c.run-whole.result c.run-whole.ensures.run)
+    whole_so c.in-Ok.recorded c.with_own.result _ c.with_own.ensures.run (c.in-Ok.ensures.run sheet answers)
 
 pub returns-clause-kept : goal.returns-clause-kept
 returns-clause-kept c =
-    let ask = truth_in c.args.stylesheet.now (parameters_of c.args.parameters.now) c.args.source.now in
-    kept_so c.run-whole.result c.with_kept.result c.run-whole.new.reuse ask c.with_kept.ensures.run c.with_kept.ensures.kept
-    (subst (λ (ask : Ask). OnOk c.run-whole.result (IsSure ask c.run-whole.new.reuse)) c.new-world.ensures c.run-whole.ensures.sure)
+    let known = c.requires in
+    let given = parameters_of c.args.parameters.now in
+    let carries = (c.in_ok-prepared.ensures known.was given known.own known.agrees).1 in
+    holds_so c.args.stylesheet.now (truth_in c.args.stylesheet.now given c.args.source.now) c.in-Ok.recorded c.with_own.result c.with_own.ensures.records
+    (c.with_own.ensures.own given carries) c.in-Ok.ensures.records

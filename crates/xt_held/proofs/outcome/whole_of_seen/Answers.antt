@@ -5,16 +5,17 @@ use Rattle.spec_seen.specs.Seen.{seen}
 use Rattle.spec_stylesheet.specs.Sheet as plain
 use Rattle.xt_syntax.specs.SheetView.{space_rule_of}
 use Rattle.xt_syntax.specs.declared.space_rules.SpaceRule.{SpaceRule}
-use Rattle.xt_record.specs.Sure.{AreAnswered, Spares}
 use Rattle.xt_touch.specs.View.{since_of}
 use Rattle.xt_world.specs.ParameterView.{parameters_of}
 use Rattle.xt_world.specs.View.{truth_in}
+use Rattle.xt_held.specs.RunView.{HoldsWith, SparedIn}
 use Rattle.xt_held.proofs.Coming.{seen_so}
 use Rattle.xt_held.proofs.outcome.whole_of_seen.Goals as goal
 
 pub whole-requires : goal.whole-requires
 whole-requires c =
-    subst (λ (source : Document ℕ). Spares (truth_in c.args.stylesheet.now (parameters_of c.args.parameters.now) source) c.args.last.now (since_of c.args.since.now))
+    subst (λ (source : Document ℕ). SparedIn c.args.stylesheet.now (truth_in c.args.stylesheet.now (parameters_of c.args.parameters.now) source) c.args.last.now
+    (since_of c.args.since.now))
     (sym (c.in_ok-seen.ensures ∙ ap (λ (rs : List SpaceRule). seen (map space_rule_of rs) c.args.source.now) c.as_slice.ensures.value)) c.requires
 
 pub returns-clause-run : goal.returns-clause-run
@@ -25,5 +26,6 @@ returns-clause-run c = λ sheet answers rules.
 
 pub returns-clause-kept : goal.returns-clause-kept
 returns-clause-kept c =
-    subst (λ (source : Document ℕ). IfOk c.whole.result (λ over. AreAnswered (truth_in c.args.stylesheet.now (parameters_of c.args.parameters.now) source) over.kept))
+    subst (λ (source : Document ℕ). IfOk c.whole.result (λ over. HoldsWith c.args.stylesheet.now
+    (truth_in c.args.stylesheet.now (parameters_of c.args.parameters.now) source) over.kept))
     (c.in_ok-seen.ensures ∙ ap (λ (rs : List SpaceRule). seen (map space_rule_of rs) c.args.source.now) c.as_slice.ensures.value) c.whole.ensures.kept

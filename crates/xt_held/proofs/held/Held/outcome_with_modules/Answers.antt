@@ -12,7 +12,7 @@ use Rattle.xt_held.specs.RunView.{AnswersAsSome, KeptHolds, KeptSpared, StaysSpa
 use Rattle.xt_held.specs.View.{before_by}
 use Rattle.xt_held.specs.declared.stylesheet.Compiled.{Compiled}
 use Rattle.xt_held.proofs.Keys.{map-copied}
-use Rattle.xt_held.proofs.Left.{known_answers, known_before, left_so, run_spared}
+use Rattle.xt_held.proofs.Left.{kept_stays, known_answers, known_before, left_so, run_spared}
 use Rattle.xt_held.proofs.held.Held.outcome_with_modules.Goals as goal
 
 pub outcome_of-requires : goal.outcome_of-requires
@@ -27,7 +27,8 @@ outcome_of-requires c =
     (since_of held.last.since) changes) c.last_known-known.ensures (c.in_ok-since.ensures given held.source) in
     subst (λ (s : Option (Document ℕ)). KeptSpared compiled given s held.last.kept changes) (sym c.as_ref-source.ensures.value)
     (run_spared compiled before given held.source held.last.kept changes
-    (stays held.last.kept known.answers (known_answers compiled before c.requires.answers known.answers) known.spared))
+    (kept_stays before (last_known compiled before) given given held.source held.source (since_of held.last.since) changes stays held.last.kept known.answers
+    (known_answers compiled before c.requires.answers known.answers) known.spared))
 
 pub returns-clause-outcome : goal.returns-clause-outcome
 returns-clause-outcome c = λ modules are.
@@ -51,5 +52,7 @@ returns-clause-last c =
     (subst (λ (s : Option (Document ℕ)). IfOk c.outcome_of.result (λ came. IfSome came.kept (KeptHolds compiled given s))) c.as_ref-source.ensures.value
     c.outcome_of.ensures.last)
     c.outcome_of.ensures.since
-    (subst (λ (o : Option Compiled). KeptSpared o given held.source held.last.kept changes) is (stays held.last.kept known.answers answers known.spared))
+    (subst (λ (o : Option Compiled). KeptSpared o given held.source held.last.kept changes) is
+    (kept_stays before (last_known compiled before) given given held.source held.source (since_of held.last.since) changes stays held.last.kept known.answers answers
+    known.spared))
     (subst (λ (o : Option Compiled). AnswersAsSome o) is answers) known.faultless

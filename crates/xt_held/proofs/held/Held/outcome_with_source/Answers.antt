@@ -1,10 +1,19 @@
+use Rattle.std.proofs.Common.{Some}
+use Rattle.xt_touch.specs.View.{since_of}
+use Rattle.xt_world.specs.ParameterView.{parameters_of}
+use Rattle.xt_held.specs.RunView.{last_known}
+use Rattle.xt_held.proofs.Left.{kept_stays}
 use Rattle.xt_held.proofs.held.Held.outcome_with_source.Goals as goal
 
 pub outcome_after-requires : goal.outcome_after-requires
 outcome_after-requires c =
+    let held = c.args.self.now in
+    let what = last_known held.compiled held.last.before in
+    let given = parameters_of held.parameters in
     let known = c.requires.known.last in
     record {
-      spared = c.in_ok-since.ensures c.args.self.now.last.kept known.answers known.answers known.spared;
+      spared = kept_stays what what given given held.source (Some c.args.document.now) (since_of held.last.since) (since_of c.in_ok-since.since) c.in_ok-since.ensures
+          held.last.kept known.answers known.answers known.spared;
       answers = known.answers;
       faultless = c.requires.faultless;
     }

@@ -1,7 +1,7 @@
 use Rattle.std.proofs.Common.{arith, refl}
 use Rattle.spec_run.specs.Documents.{without_module}
 use Rattle.xt_world.specs.ParameterView.{parameters_of}
-use Rattle.xt_held.specs.View.{documents_of, made_of}
+use Rattle.xt_held.specs.View.{documents_of}
 use Rattle.xt_held.specs.declared.ready.Change.TheVariants as changes
 use Rattle.xt_held.specs.declared.ready.Recompiled.TheVariants.{AsBefore}
 use Rattle.xt_held.proofs.Keeping.{serves_since}

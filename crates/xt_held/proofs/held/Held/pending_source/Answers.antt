@@ -1,7 +1,11 @@
-use Rattle.std.proofs.Common.{refl}
+use Rattle.std.proofs.Common.{Some, refl}
+use Rattle.xt_touch.specs.View.{since_of}
+use Rattle.xt_world.specs.ParameterView.{parameters_of}
+use Rattle.xt_held.specs.RunView.{last_known}
 use Rattle.xt_held.specs.View.{documents_of, made_of}
 use Rattle.xt_held.specs.declared.ready.Change.TheVariants as changes
 use Rattle.xt_held.proofs.Keeping.{all_raised}
+use Rattle.xt_held.proofs.Left.{kept_stays}
 use Rattle.xt_held.proofs.Making.{mapped_twice, open_batch, pending_from}
 use Rattle.xt_held.proofs.held.Held.pending_source.Goals as goal
 
@@ -9,6 +13,8 @@ pub returns : goal.returns
 returns c =
     let held = c.args.self.now in
     let documents = documents_of held in
+    let what = last_known held.compiled held.last.before in
+    let given = parameters_of held.parameters in
     let known = c.requires.current.serves in
     record {
       documents = refl;
@@ -22,7 +28,8 @@ returns c =
             compiled = refl;
             before = refl;
             serves = record {
-              spared = c.in-Ok.ensures held.last.kept known.answers known.answers known.spared;
+              spared = kept_stays what what given given held.source (Some c.args.document) (since_of held.last.since) (since_of c.in-Ok.since) c.in-Ok.ensures
+                  held.last.kept known.answers known.answers known.spared;
               answers = known.answers;
               faultless = c.requires.faultless;
             };

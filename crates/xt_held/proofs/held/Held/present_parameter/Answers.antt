@@ -14,7 +14,7 @@ use Rattle.xt_held.specs.View.{documents_of}
 use Rattle.xt_held.specs.declared.stylesheet.Compiled.{Compiled}
 use Rattle.xt_held.proofs.Giving.{kept_so, ready_so}
 use Rattle.xt_held.proofs.Keys.{map-copied}
-use Rattle.xt_held.proofs.Left.{last_so, run_spared}
+use Rattle.xt_held.proofs.Left.{kept_stays, last_so, run_spared}
 use Rattle.xt_held.proofs.Making.{compiled_alone, none_open}
 use Rattle.xt_held.proofs.held.Held.present_parameter.Goals as goal
 
@@ -25,8 +25,9 @@ outcome_with-requires c =
     let values = with_value c.args.name.now c.args.value.now given in
     let known = last_known held.compiled held.last.before in
     let changes = since_of c.in_ok-since.since in
-    let spared = c.in_ok-since.ensures known given c.args.value.now held.source held.last.kept c.requires.current.serves.answers c.requires.current.serves.answers
-    c.requires.current.serves.spared in
+    let answers = c.requires.current.serves.answers in
+    let spared = kept_stays known known given values held.source held.source (since_of held.last.since) changes
+    (c.in_ok-since.ensures known given c.args.value.now held.source) held.last.kept answers answers c.requires.current.serves.spared in
     subst (λ (o : Option Compiled). KeptSpared o values (option_copied c.as_ref-source.result) held.last.kept changes) (sym c.as_ref-compiled.ensures.value)
     (subst (λ (s : Option (Document ℕ)). KeptSpared held.compiled values s held.last.kept changes) (sym c.as_ref-source.ensures.value)
     (run_spared held.compiled held.last.before values held.source held.last.kept changes spared))
@@ -39,8 +40,10 @@ returns-clause-ok c =
     let given = parameters_of held.parameters in
     let values = with_value c.args.name.now c.args.value.now given in
     let known = last_known held.compiled held.last.before in
-    let spared = c.in_ok-since.ensures known given c.args.value.now held.source held.last.kept c.requires.current.serves.answers c.requires.current.serves.answers
-    c.requires.current.serves.spared in
+    let changes = since_of c.in_ok-since.since in
+    let answers = c.requires.current.serves.answers in
+    let spared = kept_stays known known given values held.source held.source (since_of held.last.since) changes
+    (c.in_ok-since.ensures known given c.args.value.now held.source) held.last.kept answers answers c.requires.current.serves.spared in
     let source = map-copied plain_of c.as_ref-source.result ∙ ap (option_map plain_of) c.as_ref-source.ensures.value in
     let alone = none_open held.batch (documents_of held) c.requires.alone in
     let are = compiled_alone held alone c.requires.current.compiled in

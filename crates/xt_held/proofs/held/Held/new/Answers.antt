@@ -1,0 +1,6 @@
+use Rattle.std.proofs.Common.{rules}
+use Rattle.xt_held.proofs.Left.{nothing_kept}
+use Rattle.xt_held.proofs.held.Held.new.Goals as goal
+
+pub returns-clause-current : goal.returns-clause-current
+returns-clause-current c = search (rules, nothing_kept)

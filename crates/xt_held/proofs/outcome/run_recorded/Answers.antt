@@ -1,0 +1,29 @@
+use Rattle.std.proofs.Common.{◌∙◌, ap, subst, sym}
+use Rattle.std.specs.Prelude.{OnOk}
+use Rattle.xt_record.specs.Sure.{IsSure}
+use Rattle.xt_world.specs.Numbered.{ref_to}
+use Rattle.xt_world.specs.ParameterView.{parameters_of}
+use Rattle.xt_world.specs.View.{truth_in}
+use Rattle.xt_world.specs.WorldView.{truth_at}
+use Rattle.xt_held.specs.RunView.{Ask}
+use Rattle.xt_held.proofs.Coming.{kept_so, recorded_so, run_so}
+use Rattle.xt_held.proofs.outcome.run_recorded.Goals as goal
+
+pub run-whole-requires : goal.run-whole-requires
+run-whole-requires c =
+    subst (λ (ask : Ask). IsSure ask c.in_ok-reuse.reuse) (sym c.new-world.ensures)
+    (c.in_ok-reuse.ensures.sure c.requires.was (truth_in c.args.stylesheet.now (parameters_of c.args.parameters.now) c.args.source.now) c.requires.answered
+    c.requires.spares)
+
+pub returns-clause-run : goal.returns-clause-run
+returns-clause-run c = λ sheet answers.
+    recorded_so c.run-whole.result c.with_records.result _ c.with_records.ensures.run
+    (run_so c.same_run.ensures (parameters_of c.args.parameters.now) c.args.source.now c.distinct_numbers.ensures c.args.stylesheet.now sheet answers
+    c.of-root.result (c.of-root.ensures ∙ ap ref_to c.root.ensures) c.as_slice.result.now c.as_slice.ensures.value (truth_at c.new-world.result) c.new-world.ensures
+    c.run-whole.result c.run-whole.ensures.run)
+
+pub returns-clause-records : goal.returns-clause-records
+returns-clause-records c =
+    let ask = truth_in c.args.stylesheet.now (parameters_of c.args.parameters.now) c.args.source.now in
+    kept_so c.run-whole.result c.with_records.result c.run-whole.new.reuse ask c.with_records.ensures.run c.with_records.ensures.records
+    (subst (λ (ask : Ask). OnOk c.run-whole.result (IsSure ask c.run-whole.new.reuse)) c.new-world.ensures c.run-whole.ensures.sure)

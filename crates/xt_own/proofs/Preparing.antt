@@ -1,0 +1,104 @@
+-- What is spared before a run, and what is known of the rest still.
+use Rattle.std.proofs.Common.{◌≡◌, inl, inr, Bool, true, false, not, List, [], ◌∷◌, refl, sym, ◌∙◌, subst}
+use Rattle.std.specs.Prelude.{ℕ, ◌||◌, IfOk, Result, Ok, Err}
+use Rattle.std.proofs.lemmas.Bool.{and_parts}
+use Rattle.spec_document.specs.Forest.{Document}
+use Rattle.spec_document.specs.Name.{Expanded}
+use Rattle.spec_meaning.specs.Question.{Question, Step, Text, Name, Place, Order, Key, Choice, Copy, Unit as UnitOf, External}
+use Rattle.spec_node.specs.declared.node_ref.NodeRef.{NodeRef}
+use Rattle.spec_run.specs.Documents.{Parameters}
+use Rattle.spec_touch.specs.Marks.{WorldChange, any_marks}
+use Rattle.xt_text.specs.declared.memory.Memory.{Memory}
+use Rattle.xt_touch.specs.View.{since_of}
+use Rattle.xt_spared.specs.View.{Agrees, Ask, IsAmong, IsSpared, KeysStay, Own, Spares, all_stay, by_itself, by_reads, is_key_among, owns_in, stays}
+use Rattle.xt_world.specs.View.{truth_in}
+use Rattle.xt_world.specs.declared.stylesheet.Stylesheet.{Stylesheet}
+use Rattle.xt_own.specs.Keys.{AgreeOn, AllKeys}
+use Rattle.xt_own.specs.View.{AllDecide, Carries, IsDecided}
+use Rattle.xt_own.specs.declared.own_key.OwnKey.{OwnKey}
+use Rattle.xt_own.specs.declared.own_reads.Prepared.{Prepared}
+
+-- no key is one of none
+pub no_keys : (was ask : Ask) → KeysStay was ask []
+no_keys was ask (Step node axis test) h = absurd (cc)
+no_keys was ask (Text node) h = absurd (cc)
+no_keys was ask (Name node) h = absurd (cc)
+no_keys was ask (Place node) h = absurd (cc)
+no_keys was ask (Order nodes) h = absurd (cc)
+no_keys was ask (Key name value) h = absurd (cc)
+no_keys was ask (Choice node mode candidates) h = absurd (cc)
+no_keys was ask (Copy node) h = absurd (cc)
+no_keys was ask (UnitOf element) h = absurd (cc)
+no_keys was ask (External name) h = absurd (cc)
+
+-- what stays is answered alike
+same_if : {A : Type 0} (marked known : Bool) (a b : A) → (marked ≡ false → a ≡ b) → (known ≡ true → a ≡ b) → (not marked || known) ≡ true → a ≡ b
+same_if false known a b unmarked is h = unmarked refl
+same_if true true a b unmarked is h = is refl
+same_if true false a b unmarked is h = absurd (cc)
+
+one_stays : (was ask : Ask) (changes : List WorldChange) (names : List Expanded) → Agrees was ask changes → KeysStay was ask names
+    → (q : Question NodeRef) → stays changes names q ≡ true → ask q ≡ was q
+one_stays was ask changes names agrees keys q h =
+    same_if (any_marks changes q) (is_key_among names q) (ask q) (was q) (agrees q) (keys q) h
+
+all_agree : (was ask : Ask) (changes : List WorldChange) (names : List Expanded) → Agrees was ask changes → KeysStay was ask names
+    → (qs : List (Question NodeRef)) → all_stay changes names qs ≡ true → AgreeOn ask was qs
+all_agree was ask changes names agrees keys [] h = tt
+all_agree was ask changes names agrees keys (q ∷ qs) h =
+    let both = and_parts (stays changes names q) (all_stay changes names qs) h in
+    (one_stays was ask changes names agrees keys q both.0, all_agree was ask changes names agrees keys qs both.1)
+
+agree_through : (other ask was : Ask) (qs : List (Question NodeRef)) → AgreeOn other ask qs → AgreeOn ask was qs → AgreeOn other was qs
+agree_through other ask was [] h k = tt
+agree_through other ask was (q ∷ qs) h k = (h.0 ∙ k.0, agree_through other ask was qs h.1 k.1)
+
+one_decides : (s : Stylesheet) (was : Ask) (owns : List Own) (own : Own) → IsAmong own owns → AllDecide s was owns → IsDecided s was own
+one_decides s was [] own among are = absurd among
+one_decides s was (x ∷ xs) own (inl e) are = subst (IsDecided s was) (sym e) are.0
+one_decides s was (x ∷ xs) own (inr among) are = one_decides s was xs own among are.1
+
+module _ (s : Stylesheet) (was : Ask) (parameters : Parameters) (document : Document ℕ) (changes : List WorldChange) (names : List Expanded) (owns : List Own)
+    (agrees : Agrees was (truth_in s parameters document) changes) (keys : KeysStay was (truth_in s parameters document) names) (are : AllDecide s was owns) where
+  spared_alike : (q : Question NodeRef) → IsSpared changes names owns q → truth_in s parameters document q ≡ was q
+  spared_alike q (by_itself h) = one_stays was (truth_in s parameters document) changes names agrees keys q h
+  spared_alike q (by_reads own among is h) =
+      let ask = truth_in s parameters document in
+      subst (λ (q : Question NodeRef). ask q ≡ was q) is
+      (one_decides s was owns own among are parameters document (all_agree was ask changes names agrees keys own.reads h))
+
+  carried : (own : Own) → IsAmong own owns → all_stay changes names own.reads ≡ true → IsDecided s (truth_in s parameters document) own
+  carried own among h = λ others other on.
+      let ask = truth_in s parameters document in
+      let stay = all_agree was ask changes names agrees keys own.reads h in
+      let decides = one_decides s was owns own among are in
+      decides others other (agree_through (truth_in s others other) ask was own.reads on stay) ∙ sym (decides parameters document stay)
+
+-- what is prepared of these changes, names, choices and keys
+pub prepared : (p : Prepared) (s : Stylesheet) (was : Ask) (parameters : Parameters) (document : Document ℕ) (changes : List WorldChange) (names : List Expanded)
+    (owns : List Own) → since_of p.spared.since.now ≡ changes → p.spared.keys.items ≡ names → owns_in p.spared.choices ≡ owns
+    → Agrees was (truth_in s parameters document) changes → KeysStay was (truth_in s parameters document) names → AllDecide s was owns
+    → AllKeys s (truth_in s parameters document) p.keys.items
+    → Spares was (truth_in s parameters document) p.spared × Carries s (truth_in s parameters document) p
+prepared p s was parameters document changes names owns e f g agrees keys are known =
+    let ask = truth_in s parameters document in
+    let agree = subst (Agrees was ask) (sym e) agrees in
+    let stay = subst (KeysStay was ask) (sym f) keys in
+    let decide = subst (AllDecide s was) (sym g) are in (
+      spared_alike s was parameters document (since_of p.spared.since.now) p.spared.keys.items (owns_in p.spared.choices) agree stay decide,
+      record {
+        choices = carried s was parameters document (since_of p.spared.since.now) p.spared.keys.items (owns_in p.spared.choices) agree stay decide;
+        keys = known;
+      },
+    )
+
+pub prepared_if : (r : Result Prepared Memory) (s : Stylesheet) (was : Ask) (parameters : Parameters) (document : Document ℕ) (changes : List WorldChange)
+    (names : List Expanded) (owns : List Own) (keys : List OwnKey)
+    → IfOk r (λ p. since_of p.spared.since.now ≡ changes) → IfOk r (λ p. p.spared.keys.items ≡ names) → IfOk r (λ p. owns_in p.spared.choices ≡ owns)
+    → IfOk r (λ p. p.keys.items ≡ keys)
+    → Agrees was (truth_in s parameters document) changes → KeysStay was (truth_in s parameters document) names → AllDecide s was owns
+    → AllKeys s (truth_in s parameters document) keys
+    → IfOk r (λ p. Spares was (truth_in s parameters document) p.spared × Carries s (truth_in s parameters document) p)
+prepared_if (Ok p) s was parameters document changes names owns keys e f g k agrees stay are known =
+    prepared p s was parameters document changes names owns e f g agrees stay are (subst (AllKeys s (truth_in s parameters document)) (sym k) known)
+prepared_if (Err x) s was parameters document changes names owns keys e f g k agrees stay are known = tt

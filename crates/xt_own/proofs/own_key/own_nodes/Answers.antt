@@ -1,0 +1,11 @@
+use Rattle.std.proofs.Common.{arith}
+use Rattle.xt_own.proofs.SideBySide.{nodes_push, one_more_known, one_more_node, some_is}
+use Rattle.xt_own.proofs.own_key.own_nodes.Goals as goal
+
+pub loop-node-preserved : goal.loop-node-preserved
+loop-node-preserved c = record {
+  nodes = one_more_node c.args.nodes.now c.loop-node.node-index _ _ _ (omega arith) c.loop-node.invariant.nodes
+      (nodes_push _ _ _ _ c.in_ok-push-in-Some.ensures.items (some_is _ c.in-Some.is c.in_ok-own_node.ensures.node));
+  known = λ parameters.
+      one_more_known _ _ _ _ _ _ c.in_ok-push-in-Some.ensures.items (c.loop-node.invariant.known parameters) (some_is _ c.in-Some.is (c.in_ok-own_node.ensures.known parameters));
+}

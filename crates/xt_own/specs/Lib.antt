@@ -1,0 +1,4 @@
+pub mod Keys
+pub mod Logs
+pub mod Made
+pub mod View

@@ -1,0 +1,283 @@
+// What was asked for the choices that the records of a run asked.
+ghost use Rattle.std.specs.Prelude.{◌≡◌, ◌++◌, ◌∷◌, [], ℕ, IfOk, IfSome, OnOk};
+ghost use Rattle.std.specs.Option.{option_map};
+ghost use Rattle.spec_document.specs.Forest.{Document};
+ghost use Rattle.spec_run.specs.Documents.{Parameters};
+ghost use Rattle.xt_spared.specs.View.{own_of, owns_of};
+ghost use Rattle.xt_world.specs.SourceView.{source_in};
+ghost use Rattle.xt_world.specs.View.{truth_in};
+ghost use Rattle.xt_own.specs.View.{AllDecide, CarriesChoices, IsDecided, source_asked};
+
+use crate::choices::own_choice;
+use std::alloc::Global;
+use std::rc::Rc;
+use xp_eval::Eval;
+use xt_engine::Event;
+use xt_names::{Expanded, copy_name};
+use xt_questions::{Logged, Question};
+use xt_record::Record;
+use xt_spared::{OwnChoice, OwnChoices, Spared};
+use xt_text::Memory;
+use xt_touch::Modes;
+use xt_tree::Doc;
+use xt_world::{Source, Stylesheet};
+
+/// Adds what was asked for each choice in these modes that the records asked, and notes the names of the keys that they
+/// asked. Keys of the source are found once for all of them.
+pub(crate) fn gather_choices<'a>(
+    alloc: Global,
+    document: &Doc,
+    stylesheet: &Stylesheet,
+    modes: &Modes,
+    spared: &Spared<'a>,
+    records: &[Rc<Record>],
+    choices: &mut OwnChoices,
+    names: &mut Vec<Expanded>,
+) -> Result<(), Memory>
+    ensures { (parameters : Parameters) → CarriesChoices stylesheet.now (truth_in stylesheet.now parameters document.now) spared.now
+        → AllDecide stylesheet.now (truth_in stylesheet.now parameters document.now) (owns_of choices.old)
+        → OnOk result (AllDecide stylesheet.now (truth_in stylesheet.now parameters document.now) (owns_of choices.new)) }
+{
+    let source = Source::new(alloc, document, stylesheet);
+    let mut world = Eval {
+        world: Logged::new(alloc, source),
+    };
+    let gathered = gather_from(
+        alloc, stylesheet, modes, spared, records, &mut world, choices, names,
+    );
+    drop(world);
+    gathered
+}
+
+fn gather_from<'a, 'b>(
+    alloc: Global,
+    stylesheet: &Stylesheet,
+    modes: &Modes,
+    spared: &Spared<'a>,
+    records: &[Rc<Record>],
+    world: &mut Eval<Logged<Source<'b>>>,
+    choices: &mut OwnChoices,
+    names: &mut Vec<Expanded>,
+) -> Result<(), Memory>
+    ensures { (parameters : Parameters) (document : Document ℕ) → source_asked world.old ≡ source_in stylesheet.now document []
+        → CarriesChoices stylesheet.now (truth_in stylesheet.now parameters document) spared.now
+        → AllDecide stylesheet.now (truth_in stylesheet.now parameters document) (owns_of choices.old)
+        → OnOk result (AllDecide stylesheet.now (truth_in stylesheet.now parameters document) (owns_of choices.new)) }
+{
+    for record in records {
+        let events = record.ran.events.as_slice();
+        gather_events(
+            alloc, stylesheet, modes, spared, events, world, choices, names,
+        )?;
+    }
+    Ok(())
+}
+
+fn gather_events<'a, 'b>(
+    alloc: Global,
+    stylesheet: &Stylesheet,
+    modes: &Modes,
+    spared: &Spared<'a>,
+    events: &[Event],
+    world: &mut Eval<Logged<Source<'b>>>,
+    choices: &mut OwnChoices,
+    names: &mut Vec<Expanded>,
+) -> Result<(), Memory>
+    ensures decided { (parameters : Parameters) (document : Document ℕ) → source_asked world.old ≡ source_in stylesheet.now document []
+        → CarriesChoices stylesheet.now (truth_in stylesheet.now parameters document) spared.now
+        → AllDecide stylesheet.now (truth_in stylesheet.now parameters document) (owns_of choices.old)
+        → OnOk result (AllDecide stylesheet.now (truth_in stylesheet.now parameters document) (owns_of choices.new)) }
+    ensures same { source_asked world.new ≡ source_asked world.old }
+{
+    for event in events {
+        gather_event(
+            alloc, stylesheet, modes, spared, event, world, choices, names,
+        )?;
+    }
+    Ok(())
+}
+
+fn gather_event<'a, 'b>(
+    alloc: Global,
+    stylesheet: &Stylesheet,
+    modes: &Modes,
+    spared: &Spared<'a>,
+    event: &Event,
+    world: &mut Eval<Logged<Source<'b>>>,
+    choices: &mut OwnChoices,
+    names: &mut Vec<Expanded>,
+) -> Result<(), Memory>
+    ensures decided { (parameters : Parameters) (document : Document ℕ) → source_asked world.old ≡ source_in stylesheet.now document []
+        → CarriesChoices stylesheet.now (truth_in stylesheet.now parameters document) spared.now
+        → AllDecide stylesheet.now (truth_in stylesheet.now parameters document) (owns_of choices.old)
+        → OnOk result (AllDecide stylesheet.now (truth_in stylesheet.now parameters document) (owns_of choices.new)) }
+    ensures same { source_asked world.new ≡ source_asked world.old }
+{
+    match event {
+        Event::Asked(question, _) => gather_question(
+            alloc, stylesheet, modes, spared, question, world, choices, names,
+        ),
+        _ => Ok(()),
+    }
+}
+
+fn gather_question<'a, 'b>(
+    alloc: Global,
+    stylesheet: &Stylesheet,
+    modes: &Modes,
+    spared: &Spared<'a>,
+    question: &Question,
+    world: &mut Eval<Logged<Source<'b>>>,
+    choices: &mut OwnChoices,
+    names: &mut Vec<Expanded>,
+) -> Result<(), Memory>
+    ensures decided { (parameters : Parameters) (document : Document ℕ) → source_asked world.old ≡ source_in stylesheet.now document []
+        → CarriesChoices stylesheet.now (truth_in stylesheet.now parameters document) spared.now
+        → AllDecide stylesheet.now (truth_in stylesheet.now parameters document) (owns_of choices.old)
+        → OnOk result (AllDecide stylesheet.now (truth_in stylesheet.now parameters document) (owns_of choices.new)) }
+    ensures same { source_asked world.new ≡ source_asked world.old }
+{
+    note_key(alloc, names, question)?;
+    if !is_choice_in(modes, question) {
+        return Ok(());
+    }
+    gather_choice(alloc, stylesheet, spared, question, world, choices, names)
+}
+
+// Whether it is the choice of a rule in one of these modes.
+fn is_choice_in(modes: &Modes, question: &Question) -> bool {
+    match question {
+        Question::Choice(_, mode, _) => modes.has(mode),
+        _ => false,
+    }
+}
+
+// Adds the choice, unless it is there already, and the names of the keys that are asked for it.
+fn gather_choice<'a, 'b>(
+    alloc: Global,
+    stylesheet: &Stylesheet,
+    spared: &Spared<'a>,
+    question: &Question,
+    world: &mut Eval<Logged<Source<'b>>>,
+    choices: &mut OwnChoices,
+    names: &mut Vec<Expanded>,
+) -> Result<(), Memory>
+    ensures decided { (parameters : Parameters) (document : Document ℕ) → source_asked world.old ≡ source_in stylesheet.now document []
+        → CarriesChoices stylesheet.now (truth_in stylesheet.now parameters document) spared.now
+        → AllDecide stylesheet.now (truth_in stylesheet.now parameters document) (owns_of choices.old)
+        → OnOk result (AllDecide stylesheet.now (truth_in stylesheet.now parameters document) (owns_of choices.new)) }
+    ensures same { source_asked world.new ≡ source_asked world.old }
+{
+    if choices.find(question).is_some() {
+        return Ok(());
+    }
+    match carried_or_made(alloc, stylesheet, spared, question, world)? {
+        None => Ok(()),
+        Some(own) => add_choice(alloc, own, choices, names),
+    }
+}
+
+fn add_choice(
+    alloc: Global,
+    own: Rc<OwnChoice>,
+    choices: &mut OwnChoices,
+    names: &mut Vec<Expanded>,
+) -> Result<(), Memory>
+    ensures { OnOk result (owns_of choices.new ≡ owns_of choices.old ++ own_of own.value ∷ []) }
+{
+    let noted = note_names(alloc, names, own.reads.as_slice());
+    choices.add(own)?;
+    noted
+}
+
+// The choice as it was found before, where each question that was asked for it stays; else it is made once more.
+fn carried_or_made<'a, 'b>(
+    alloc: Global,
+    stylesheet: &Stylesheet,
+    spared: &Spared<'a>,
+    question: &Question,
+    world: &mut Eval<Logged<Source<'b>>>,
+) -> Result<Option<Rc<OwnChoice>>, Memory>
+    ensures decided { (parameters : Parameters) (document : Document ℕ) → source_asked world.old ≡ source_in stylesheet.now document []
+        → CarriesChoices stylesheet.now (truth_in stylesheet.now parameters document) spared.now
+        → IfOk result (λ o. IfSome o (λ own. IsDecided stylesheet.now (truth_in stylesheet.now parameters document) (own_of own.value))) }
+    ensures same { source_asked world.new ≡ source_asked world.old }
+{
+    match spared.own_choice(question) {
+        Some(own) => carried(own),
+        None => made(alloc, stylesheet, question, world),
+    }
+}
+
+fn carried(own: &Rc<OwnChoice>) -> Result<Option<Rc<OwnChoice>>, Memory>
+    ensures { IfOk result (λ o. IfSome o (λ shared. shared.value ≡ own.now.value)) }
+{
+    Ok(Some(own.clone()?))
+}
+
+fn made<'b>(
+    alloc: Global,
+    stylesheet: &Stylesheet,
+    question: &Question,
+    world: &mut Eval<Logged<Source<'b>>>,
+) -> Result<Option<Rc<OwnChoice>>, Memory>
+    ensures decided { (parameters : Parameters) (document : Document ℕ) → source_asked world.old ≡ source_in stylesheet.now document []
+        → IfOk result (λ o. IfSome o (λ own. IsDecided stylesheet.now (truth_in stylesheet.now parameters document) (own_of own.value))) }
+    ensures same { source_asked world.new ≡ source_asked world.old }
+{
+    match question {
+        Question::Choice(node, mode, candidates) => {
+            shared(
+                alloc,
+                own_choice(alloc, stylesheet, *node, mode, *candidates, world)?,
+            )
+        }
+        _ => Ok(None),
+    }
+}
+
+fn shared(alloc: Global, own: Option<OwnChoice>) -> Result<Option<Rc<OwnChoice>>, Memory>
+    ensures { IfOk result (λ o. option_map (λ shared. shared.value) o ≡ own) }
+{
+    match own {
+        None => Ok(None),
+        Some(own) => Ok(Some(Rc::new(alloc, own)?)),
+    }
+}
+
+fn note_names(
+    alloc: Global,
+    names: &mut Vec<Expanded>,
+    questions: &[Question],
+) -> Result<(), Memory> {
+    for question in questions {
+        note_key(alloc, names, question)?;
+    }
+    Ok(())
+}
+
+// Adds the name, where it is asked of keys.
+fn note_key(alloc: Global, names: &mut Vec<Expanded>, question: &Question) -> Result<(), Memory> {
+    match question {
+        Question::Key(name, _) => note_name(alloc, names, name),
+        _ => Ok(()),
+    }
+}
+
+// Adds the name, unless it is there already.
+fn note_name(alloc: Global, names: &mut Vec<Expanded>, name: &Expanded) -> Result<(), Memory> {
+    if is_named(names.as_slice(), name) {
+        return Ok(());
+    }
+    names.push(copy_name(alloc, name)?)?;
+    Ok(())
+}
+
+fn is_named(names: &[Expanded], name: &Expanded) -> bool {
+    for other in names {
+        if other.same(name) {
+            return true;
+        }
+    }
+    false
+}
