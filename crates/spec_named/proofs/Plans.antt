@@ -14,7 +14,7 @@ use Rattle.spec_stylesheet.specs.Place.{Place, Site}
 use Rattle.spec_stylesheet.specs.ValueTemplate.{Avt}
 use Rattle.spec_stylesheet.specs.Instruction as made
 use Rattle.spec_stylesheet.specs.Instruction.{SortKey, MadeName, LiteralAttribute, LiteralTag, Form, without_content, with_content, control, Control}
-use Rattle.spec_stylesheet.specs.Instruction.{for_each, conditional, choose}
+use Rattle.spec_stylesheet.specs.Instruction.{for_each, for_items, conditional, choose}
 use Rattle.spec_stylesheet.specs.Instruction.{apply_templates, call_template, Instrs, no_instrs, instr, Branches, no_branches, branch, no_bindings}
 use Rattle.spec_stylesheet.specs.Instruction.{binding, Binding}
 use Rattle.spec_stylesheet.specs.Sheet as sheet
@@ -40,7 +40,7 @@ use Rattle.spec_run.specs.Names.{attribute_meant, instruction_meant}
 use Rattle.spec_run.specs.Copy.{stream_in}
 use Rattle.spec_run.specs.Content as content
 use Rattle.spec_run.specs.Content.{Here, deeper, at, with_variable, context_at, text_meant, nodes_meant, truth_meant, asked, each, text_item}
-use Rattle.spec_run.specs.Content.{rule_call, applied, applied_to}
+use Rattle.spec_run.specs.Content.{rule_call, applied, applied_to, item_call, items_entered}
 use Rattle.spec_run.specs.Content.{imports_applied, template_called, called, nodes_copied, value_copied, namespaces_read, kind_in, aliased_prefix}
 use Rattle.spec_run.specs.Content.{aliased_uri, is_no_uri, elements_named, namespaces_aliased, element_aliased, attribute_aliased}
 use Rattle.spec_run.specs.Content.{attributes_put, sets_entered, sets_used, criteria_asked, keys_asked, rows_asked, sorted, planned_without}
@@ -121,6 +121,7 @@ abbrev mutual
 
   pub IsWellControl : Control → Type 0
   IsWellControl (for_each e keys is) = AreWellInstrs is
+  IsWellControl (for_items e keys name bs) = AreWellBindings bs
   IsWellControl (conditional e is) = AreWellInstrs is
   IsWellControl (choose bs) = AreWellBranches bs
   IsWellControl (apply_templates s bs) = AreWellBindings bs
@@ -255,6 +256,13 @@ called_well : {N : Type 0} {ask : Question N → Answer N} (site : Site) (h : He
     → (element : Option N) {after : Plan N} → IsWellPlan ask after → IsWellPlan ask (called site h passing element after)
 called_well site h inner None k = puts tt k
 called_well site h inner (Some element) k = puts tt (inner _ (λ bs values. enters values k))
+
+-- the same element for each node
+items_well : {N : Type 0} {ask : Question N → Answer N} (by : Place) (parameters : List (Bound N)) → AreWellBound parameters → (element : Option N)
+    → (depth : ℕ) (ns : List N) {after : Plan N} → IsWellPlan ask after → IsWellPlan ask (items_entered by element parameters depth ns after)
+items_well by parameters values None depth ns k = k
+items_well by parameters values (Some element) depth ns k =
+    each_well {f = λ n p more. Enter (item_call by element parameters (length ns) n p) depth more} (λ n position p h. enters values h) 1 ns k
 
 -- ---- Copies
 
@@ -467,6 +475,10 @@ mutual
       asked_any site h (nodes_meant e) (λ ns. puts tt
       (sorted_well keys h ns (λ ms. each_well
       (λ n p after v. deepens {depth = suc h.depth} {place = site.place} (planned_well world is g (deeper (at n p (length ms) h)) w v)) 1 ms k)))
+  control_well world site (for_items e keys name bs) g h w k =
+      asked_any site h (nodes_meant e) (λ ns. puts tt
+      (passed_well world bs g h w [] tt (λ parameters values. sorted_well keys h ns
+      (λ ms. items_well site.place parameters values (template_called name h.templates) h.depth ms k))))
   control_well world site (conditional e is) g h w k =
       asked_any site h (truth_meant e) (λ b. either_plan b (deepens (planned_well world is g (deeper h) w k)) (puts tt k))
   control_well world site (choose bs) g h w k = branches_well world bs g h w k

@@ -9,7 +9,7 @@ use Rattle.spec_expression.specs.declared.NodeType.TheVariants as type
 use Rattle.spec_expression.specs.Syntax.{Expr, OfType}
 use Rattle.spec_stylesheet.specs.Place.{Place, Site}
 use Rattle.spec_stylesheet.specs.Instruction as made
-use Rattle.spec_stylesheet.specs.Instruction.{SortKey, LiteralAttribute, Form, without_content, with_content, control, Control, for_each}
+use Rattle.spec_stylesheet.specs.Instruction.{SortKey, LiteralAttribute, Form, without_content, with_content, control, Control, for_each, for_items}
 use Rattle.spec_stylesheet.specs.Instruction.{conditional, choose}
 use Rattle.spec_stylesheet.specs.Instruction.{apply_templates, call_template, Instrs, no_instrs, instr, Branches, no_branches, branch}
 use Rattle.spec_stylesheet.specs.Instruction.{no_bindings, binding, Binding}
@@ -22,12 +22,12 @@ use Rattle.spec_meaning.specs.Program.{CurrentRule, Program, current_in}
 use Rattle.spec_meaning.specs.Context.{Bound, binding_of}
 use Rattle.spec_meaning.specs.Meaning.{meaning}
 use Rattle.spec_transform.specs.Sorted.{Criterion, KeyValue, Row}
-use Rattle.spec_run.specs.Plan.{nowhere, Call, Target, UnitOf, BuiltIn, AsElement, Plan, End, Yield, Inquire, Put, Begin, Wrap, Deep, lift}
+use Rattle.spec_run.specs.Plan.{nowhere, Call, Target, UnitOf, BuiltIn, AsElement, Plan, End, Yield, Inquire, Put, Begin, Wrap, Deep, Enter, lift}
 use Rattle.spec_run.specs.Copy.{stream_in}
 use Rattle.spec_run.specs.Content as content
 use Rattle.spec_run.specs.Content.{Here, deeper, at, with_variable, context_at, text_meant, nodes_meant, truth_meant, asked, each, text_item}
 use Rattle.spec_run.specs.Content.{rule_call, applied, applied_to, imports_applied, called, nodes_copied, value_copied, namespaces_read, kind_in}
-use Rattle.spec_run.specs.Content.{attributes_put}
+use Rattle.spec_run.specs.Content.{attributes_put, template_called, item_call, items_entered}
 use Rattle.spec_run.specs.Content.{set_call, elements_named, sets_entered, sets_used, criteria_asked, keys_asked, rows_asked, sorted}
 use Rattle.spec_run.specs.Content.{planned_without, copied_as, planned_with, unless_terminated, is_empty, valued, unless_passed, planned, plan}
 use Rattle.spec_run.specs.Content.{planned_control}
@@ -85,6 +85,13 @@ called_keeps : {N : Type 0} {before : N → N → Bool} (site : Site) (h : Here 
     → KeepsOrder before (called site h passing n p)
 called_keeps site h inner None k = puts k
 called_keeps site h inner (Some element) k = puts (inner _ (λ bs order. enters order k))
+
+-- the same element for each node
+items_keep : {N : Type 0} {before : N → N → Bool} (by : Place) (bs : List (Bound N)) → VariablesAreInOrder before bs → (element : Option N)
+    → (depth : ℕ) (ns : List N) {p : Plan N} → KeepsOrder before p → KeepsOrder before (items_entered by element bs depth ns p)
+items_keep by bs order None depth ns h = h
+items_keep {before = before} by bs order (Some element) depth ns h =
+    each_keeps before (λ n p more. Enter (item_call by element bs (length ns) n p) depth more) (λ n position p k. enters order k) 1 ns h
 
 -- ---- copies
 nodes_copied_keep : {N : Type 0} {before : N → N → Bool} (ns : List N) {p : Plan N} → KeepsOrder before p → KeepsOrder before (nodes_copied ns p)
@@ -269,6 +276,9 @@ mutual
       lift_any _ _ _ (λ ns. puts (sorted_keeps keys h ns (λ ms.
       each_keeps before (λ n position more. Deep (suc h.depth) site.place (planned is (deeper (at n position (length ms) h)) more))
       (λ n position p g. goes_deep (planned_keeps is (deeper (at n position (length ms) h)) order g)) 1 ms k)))
+  control_keeps site (for_items e keys name bs) h order k =
+      lift_any _ _ _ (λ ns. puts (passed_keeps bs h order [] tt (λ parameters there.
+      sorted_keeps keys h ns (λ ms. items_keep site.place parameters there (template_called name h.templates) h.depth ms k))))
   control_keeps site (conditional e is) h order k =
       lift_any _ _ _ (λ b. either_keeps b (goes_deep (planned_keeps is (deeper h) order k)) (puts k))
   control_keeps site (choose bs) h order k = branches_keep bs h order k

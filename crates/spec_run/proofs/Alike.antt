@@ -7,7 +7,7 @@ use Rattle.spec_document.specs.Name.{Expanded, same_name}
 use Rattle.spec_expression.specs.Syntax.{Expr}
 use Rattle.spec_stylesheet.specs.Place.{Place, Site}
 use Rattle.spec_stylesheet.specs.Instruction as made
-use Rattle.spec_stylesheet.specs.Instruction.{SortKey, LiteralAttribute, Form, without_content, with_content, control, Control, for_each, conditional, choose}
+use Rattle.spec_stylesheet.specs.Instruction.{SortKey, LiteralAttribute, Form, without_content, with_content, control, Control, for_each, for_items, conditional, choose}
 use Rattle.spec_stylesheet.specs.Instruction.{apply_templates, call_template, Instrs, no_instrs, instr, Branches, no_branches, branch}
 use Rattle.spec_stylesheet.specs.Instruction.{no_bindings, binding, Binding}
 use Rattle.spec_stylesheet.specs.Sheet as sheet
@@ -28,7 +28,7 @@ use Rattle.spec_run.specs.Plan.{nowhere, Call, Wrapping, Plan, End, Yield, Inqui
 use Rattle.spec_run.specs.Copy.{stream_in}
 use Rattle.spec_run.specs.Content as content
 use Rattle.spec_run.specs.Content.{Here, deeper, at, with_variable, context_at, text_meant, nodes_meant, truth_meant, each, text_item, target_by, ruling_by}
-use Rattle.spec_run.specs.Content.{rule_call, applied_to, imports_applied, template_called, called, nodes_copied, value_copied, namespaces_read, kind_in, attributes_put}
+use Rattle.spec_run.specs.Content.{rule_call, applied_to, imports_applied, template_called, called, item_call, items_entered, nodes_copied, value_copied, namespaces_read, kind_in, attributes_put}
 use Rattle.spec_run.specs.Content.{element_aliased, attribute_aliased, set_call, elements_named, sets_entered, sets_used, criteria_asked, keys_asked, rows_asked, sorted}
 use Rattle.spec_run.specs.Content.{planned_without, copied_as, planned_with, is_empty, valued, unless_passed, planned, plan, planned_control}
 use Rattle.spec_run.specs.Content.{planned_branches, with_parameters, may_be_given, unless_given, global_planned, declared_planned, unit_planned}
@@ -170,6 +170,21 @@ called_alike : {N M : Type 0} {R : N → M → Type 0} (site : Site) {h : Here N
     → {n : Option N} {m : Option M} → Both R n m → {p : Plan N} {q : Plan M} → Plans R p q → Plans R (called site h passing n p) (called site i other m q)
 called_alike site h inner neither k = puts k
 called_alike site (heres n bs ts ss t) inner (both e) k = puts (inner _ _ (λ bs ds values. enters (calls (units_of e) n values) k))
+
+-- the same element for each node
+item_call_alike : {N M : Type 0} {R : N → M → Type 0} (by : Place) {element : N} {other : M} → R element other → {bs : List (Bound N)} {ds : List (Bound M)}
+    → Each (Bindings R) bs ds → {size also : ℕ} → size ≡ also → {n : N} {m : M} → R n m → (position : ℕ)
+    → Calls R (item_call by element bs size n position) (item_call by other ds also m position)
+item_call_alike {R = R} by {element = element} {other = other} e {bs = bs} {ds = ds} values {size = size} same {n = n} {m = m} h position =
+    subst (λ s. Calls R (item_call by element bs size n position) (item_call by other ds s m position)) same (calls (units_of e) h values)
+
+items_alike : {N M : Type 0} {R : N → M → Type 0} (by : Place) {bs : List (Bound N)} {ds : List (Bound M)} → Each (Bindings R) bs ds
+    → {depth also : ℕ} → depth ≡ also → {n : Option N} {m : Option M} → Both R n m → {ns : List N} {ms : List M} → Each R ns ms
+    → {p : Plan N} {q : Plan M} → Plans R p q → Plans R (items_entered by n bs depth ns p) (items_entered by m ds also ms q)
+items_alike by values same neither hs k = k
+items_alike {R = R} by {bs = bs} {ds = ds} values {depth = depth} same {n = n} {m = m} (both e) {ns = ns} {ms = ms} hs {p = p} {q = q} k =
+    subst (λ d. Plans R (items_entered by n bs depth ns p) (items_entered by m ds d ms q)) same
+    (each_alike (λ x y h position v w g. enters (item_call_alike by e values (each_length hs) h position) g) hs 1 k)
 
 -- ---- copies
 stream_match : {N M : Type 0} {R : N → M → Type 0} {x : Answer N} {y : Answer M} → Answers R x y → stream_in x ≡ stream_in y
@@ -437,6 +452,10 @@ mutual
       asked_alike site h (λ c d s. nodes_meant_match e s) (λ ns ms s. puts
       (sorted_alike keys h s (λ xs ys t. each_alike
       (λ n m own position p q e. deep_alike site.place h (planned_alike is (deeper_alike (at_alike position own (each_length t) h)) e)) t 1 k)))
+  control_alike site (for_items e keys name bs) h k =
+      asked_alike site h (λ c d s. nodes_meant_match e s) (λ ns ms s. puts
+      (passed_alike bs h none (λ xs ys values. sorted_alike keys h s (λ own also t.
+      items_alike site.place values (depth_alike h) (template_called_alike name (templates_alike h)) t k))))
   control_alike site (conditional e is) h k =
       asked_same site h (λ c d s. truth_meant_match e s) (λ b. either_plan b (deep_alike site.place h (planned_alike is (deeper_alike h) k)) (puts k))
   control_alike site (choose bs) h k = branches_alike bs h k

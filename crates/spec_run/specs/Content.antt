@@ -11,7 +11,7 @@ use Rattle.spec_expression.specs.declared.code.DynCode.TheVariants as code
 use Rattle.spec_expression.specs.Syntax.{Expr, OfType}
 use Rattle.spec_stylesheet.specs.Place.{Place, Site}
 use Rattle.spec_stylesheet.specs.Instruction as made
-use Rattle.spec_stylesheet.specs.Instruction.{SortKey, LiteralAttribute, LiteralTag, Form, without_content, with_content, control, Control, for_each, conditional, choose, apply_templates, call_template, Instrs, no_instrs, instr, Branches, no_branches, branch, Bindings, no_bindings, binding, Binding}
+use Rattle.spec_stylesheet.specs.Instruction.{SortKey, LiteralAttribute, LiteralTag, Form, without_content, with_content, control, Control, for_each, for_items, conditional, choose, apply_templates, call_template, Instrs, no_instrs, instr, Branches, no_branches, branch, Bindings, no_bindings, binding, Binding}
 use Rattle.spec_stylesheet.specs.Sheet as sheet
 use Rattle.spec_stylesheet.specs.Sheet.{Alias}
 use Rattle.spec_meaning.specs.Stream as stream
@@ -189,6 +189,26 @@ template_call site h element parameters = record {
 abbrev pub called : {N : Type 0} → Site → Here N → (passing : (List (Bound N) → Plan N) → Plan N) → Option N → Plan N → Plan N
 called site h passing None after = Put stream.Ended after
 called site h passing (Some element) after = Put stream.Ended (passing (λ parameters. Enter (template_call site h element parameters) h.depth after))
+
+-- ---- Items (section 8): the template in which the content of an xsl:for-each stands is entered for each node, where no template rule is the
+-- current one (section 5.6)
+
+abbrev pub item_call : {N : Type 0} → Place → N → (parameters : List (Bound N)) → (size : ℕ) → N → ℕ → Call N
+item_call by element parameters size n p = record {
+  target = UnitOf element;
+  node = n;
+  parameters = parameters;
+  position = Some p;
+  size = Some size;
+  ruling = RuleIs None;
+  by = by;
+}
+
+-- by this element, from a content so deep
+abbrev pub items_entered : {N : Type 0} → Place → Option N → (parameters : List (Bound N)) → (depth : ℕ) → List N → Plan N → Plan N
+items_entered by None parameters depth ns after = after
+items_entered by (Some element) parameters depth ns after =
+    each (λ n p more. Enter (item_call by element parameters (length ns) n p) depth more) 1 ns after
 
 -- ---- Copies (sections 7.5 and 11.3)
 
@@ -394,6 +414,10 @@ abbrev mutual
   planned_control site (for_each e keys is) h after =
       asked site h (nodes_meant e) (λ ns. Put stream.Ended (sorted keys h ns
       (λ ms. each (λ n p more. Deep (suc h.depth) site.place (planned is (deeper (at n p (length ms) h)) more)) 1 ms after)))
+  planned_control site (for_items e keys name bs) h after =
+      asked site h (nodes_meant e) (λ ns. Put stream.Ended
+      (passed bs h [] (λ parameters. sorted keys h ns
+      (λ ms. items_entered site.place (template_called name h.templates) parameters h.depth ms after))))
   planned_control site (conditional e is) h after =
       asked site h (truth_meant e) (λ b. if b then Deep (suc h.depth) site.place (planned is (deeper h) after) else Put stream.Ended after)
   planned_control site (choose bs) h after = planned_branches bs h after

@@ -8,7 +8,7 @@ use Rattle.spec_document.specs.Place as document
 use Rattle.spec_document.specs.Order.{Entry, entries_of, is_same_place}
 use Rattle.spec_stylesheet.specs.Place as stylesheet
 use Rattle.spec_stylesheet.specs.Instruction as made
-use Rattle.spec_stylesheet.specs.Instruction.{Form, without_content, with_content, control, Control, for_each, conditional, choose, apply_templates, call_template, Instrs, no_instrs, instr, Branches, no_branches, branch, Bindings, no_bindings, binding}
+use Rattle.spec_stylesheet.specs.Instruction.{Form, without_content, with_content, control, Control, for_each, for_items, conditional, choose, apply_templates, call_template, Instrs, no_instrs, instr, Branches, no_branches, branch, Bindings, no_bindings, binding}
 use Rattle.spec_stylesheet.specs.Sheet as sheet
 use Rattle.spec_stylesheet.specs.Sheet.{Alias, Sheet, Rule}
 use Rattle.spec_meaning.specs.Question as question
@@ -44,6 +44,7 @@ abbrev mutual
 
   pub called_under : Control → List Expanded
   called_under (for_each e keys is) = called_in is
+  called_under (for_items e keys name bs) = name ∷ called_in_bindings bs
   called_under (conditional e is) = called_in is
   called_under (choose bs) = called_in_branches bs
   called_under (apply_templates s bs) = called_in_bindings bs
@@ -82,6 +83,7 @@ abbrev mutual
 
   pub used_under : Control → List Expanded
   used_under (for_each e keys is) = used_in is
+  used_under (for_items e keys name bs) = used_in_bindings bs
   used_under (conditional e is) = used_in is
   used_under (choose bs) = used_in_branches bs
   used_under (apply_templates s bs) = used_in_bindings bs

@@ -83,6 +83,8 @@ mutual
   -- instructions that say whether, how often or which contents run
   pub data Control : Type 0 where
     for_each : (select : Expr) → (keys : List SortKey) → (content : Instrs) → Control
+    -- an xsl:for-each whose content stands in a template of its own, of this name, to which these are passed. No document has it
+    for_items : (select : Expr) → (keys : List SortKey) → (name : Expanded) → Bindings → Control
     conditional : (test : Expr) → (content : Instrs) → Control  -- xsl:if
     choose : Branches → Control
     apply_templates : Selection → Bindings → Control

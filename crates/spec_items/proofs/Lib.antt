@@ -1,0 +1,16 @@
+pub mod Calm
+pub mod Follow
+pub mod Patterns
+pub mod Scenes
+pub mod Variables
+pub mod Instructions
+pub mod Contents
+pub mod Levels
+pub mod Sheets
+pub mod Tables
+pub mod Walks
+pub mod Plain
+pub mod Standing
+pub mod Apart
+pub mod Lifting
+pub mod Examples

@@ -1,0 +1,4 @@
+pub mod Mentioned
+pub mod Lifted
+pub mod Liftable
+pub mod Fits
