@@ -50,6 +50,14 @@ fn push_control(
             push_sort_keys(out, places, keys.as_slice())?;
             push_instrs(out, places, content.as_slice())
         }
+        Control::ForItems(select, keys, name, parameters) => {
+            push_head(out, places, "for-items", site)?;
+            push_expr(out, select)?;
+            push_sort_keys(out, places, keys.as_slice())?;
+            part(out)?;
+            push_name(out, name)?;
+            push_bindings(out, places, "with-param", parameters.as_slice())
+        }
         Control::If(test, content) => {
             push_head(out, places, "if", site)?;
             push_expr(out, test)?;
@@ -135,7 +143,7 @@ fn push_without_content(
     what: &WithoutContent,
 ) -> Result<(), Memory> {
     match what {
-        WithoutContent::Text(text) => {
+        WithoutContent::Text(text, _) => {
             part(out)?;
             push_quoted(out, text.as_str())?;
             return push_place_of(out, places, site);

@@ -74,7 +74,10 @@ pub fn name(alloc: Global, local: &str) -> Result<Expanded, Memory> {
 
 fn form(alloc: Global, kind: &str, rest: &str) -> Result<Form, Fault> {
     match kind {
-        "text" => Ok(Form::WithoutContent(WithoutContent::Text(Text::from_str(alloc, rest)?))),
+        "text" => Ok(Form::WithoutContent(WithoutContent::Text(
+            Text::from_str(alloc, rest)?,
+            true,
+        ))),
         "value-of" => Ok(Form::WithoutContent(WithoutContent::ValueOf(parsed(alloc, rest)?))),
         "copy-of" => Ok(Form::WithoutContent(WithoutContent::CopyOf(parsed(alloc, rest)?))),
         "number" => {
@@ -95,7 +98,7 @@ fn form(alloc: Global, kind: &str, rest: &str) -> Result<Form, Fault> {
 pub fn content(alloc: Global) -> Result<Rc<Vec<Instr>>, Memory> {
     let text = Text::from_str(alloc, "x")?;
     let site = nowhere(alloc)?;
-    let form = Form::WithoutContent(WithoutContent::Text(text));
+    let form = Form::WithoutContent(WithoutContent::Text(text, false));
     let content = one(alloc, Instr { site, form })?;
     Ok(Rc::new(alloc, content)?)
 }
@@ -154,6 +157,14 @@ fn control(alloc: Global, kind: &str, rest: &str) -> Result<Form, Fault> {
             let keys = Rc::new(alloc, Vec::new(alloc))?;
             let select = parsed(alloc, rest)?;
             Ok(Form::Control(Control::ForEach(select, keys, content)))
+        }
+        "for-items" => {
+            let parameters = one(alloc, binding(alloc, rest)?)?;
+            let parameters = Rc::new(alloc, parameters)?;
+            let keys = Rc::new(alloc, Vec::new(alloc))?;
+            let select = parsed(alloc, rest)?;
+            let name = name(alloc, "t")?;
+            Ok(Form::Control(Control::ForItems(select, keys, name, parameters)))
         }
         "if" => {
             let content = content(alloc)?;

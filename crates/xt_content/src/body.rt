@@ -123,7 +123,7 @@ fn text_instruction(
 {
     let text = text.copy(alloc)?;
     let site = site_of(alloc, around, path)?;
-    let form = Form::WithoutContent(WithoutContent::Text(text));
+    let form = Form::WithoutContent(WithoutContent::Text(text, false));
     Ok(instruction(site, form))
 }
 

@@ -40,7 +40,7 @@ fn simple(
         Simple::Number => Ok(WithoutContent::Number(numbering(alloc, entries)?)),
         Simple::ApplyImports => Ok(WithoutContent::ApplyImports),
         Simple::Fallback => Ok(WithoutContent::Fallback),
-        Simple::Text => Ok(WithoutContent::Text(text_among(alloc, nodes)?)),
+        Simple::Text => Ok(WithoutContent::Text(text_among(alloc, nodes)?, true)),
     }
 }
 

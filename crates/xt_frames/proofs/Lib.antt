@@ -3,4 +3,5 @@ pub mod Founds
 pub mod Lefts
 pub mod Performs
 pub mod Frames
-pub mod Items
+pub mod Whole
+pub mod Entering

@@ -113,7 +113,7 @@ put_does ask s f old mid new frames room supplies going h =
 pub put_behind : (ask : Question NodeRef → Answer NodeRef) (s : Stream) (f : Frame) (old mid new : Run) → Pushed f old mid → new.frames ≡ mid.frames → new.room ≡ mid.room → new.supplies ≡ mid.supplies → going_of new.going ≡ put s (going_of mid.going)
     → Does ask (Put s (left_frame f (left_in old))) (suc (length old.frames.items)) old new Went
 put_behind ask s f old mid new h frames room supplies going =
-    let low : Run = record { room = old.room; supplies = old.supplies; waiting = old.waiting; frames = old.frames; going = new.going } in
+    let low : Run = record { room = old.room; supplies = old.supplies; waiting = old.waiting; frames = old.frames; going = new.going; did = old.did } in
     put_does ask s f old low new refl refl refl (going ∙ ap (λ g. put s (going_of g)) h.going)
     (record { frames = ap (λ (fs : Vec Frame Global). fs.items) frames ∙ h.frames; going = refl; room = room ∙ h.room; supplies = supplies ∙ h.supplies })
 

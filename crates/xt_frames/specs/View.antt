@@ -12,7 +12,7 @@ use Rattle.spec_run.specs.Plan as plan
 use Rattle.spec_transform.specs.Sorted as sorts
 use Rattle.spec_transform.specs.Sorted.{nodes_in_order}
 use Rattle.spec_run.specs.Plan.{Call, Plan, End, Stop, Inquire, Put, Wrap, Take, Deep, Enter}
-use Rattle.spec_run.specs.Content.{Here, deeper, at, with_variable, each, applied, applied_to, sets_entered, criteria_asked, keys_asked, rows_asked, sorted, nodes_copied, attributes_put, terminated, planned, passed, planned_branches, with_parameters, held, plan_of}
+use Rattle.spec_run.specs.Content.{Here, deeper, at, with_variable, each, applied, applied_to, item_call, items_entered, sets_entered, criteria_asked, keys_asked, rows_asked, sorted, nodes_copied, attributes_put, terminated, planned, passed, planned_branches, with_parameters, held, plan_of}
 use Rattle.xt_syntax.specs.PartView.{place_of, sort_key_of}
 use Rattle.xt_syntax.specs.InstrView.{instr_of, branch_of, binding_of}
 use Rattle.xt_syntax.specs.SheetView.{alias_of, declared_of}
@@ -25,6 +25,7 @@ use Rattle.xt_sort.specs.View.{criterion_of, key_of, row_of}
 use Rattle.xt_frames.specs.declared.standing.Standing.{Standing}
 use Rattle.xt_frames.specs.declared.frame.Body.{Body}
 use Rattle.xt_frames.specs.declared.frame.Application.{Application}
+use Rattle.xt_frames.specs.declared.frame.Items.{Items}
 use Rattle.xt_frames.specs.declared.frame.Ordered.{Ordered}
 use Rattle.xt_frames.specs.declared.frame.Ordered.TheVariants as ordereds
 use Rattle.xt_frames.specs.declared.frame.Sorting.{Sorting}
@@ -87,6 +88,14 @@ abbrev pub application_left : Application → List (Bound NodeRef) → Plan Node
 application_left a parameters after =
     each (applied (place_of a.place) a.mode parameters (length a.nodes.items) a.depth) (suc a.next) (drop a.next a.nodes.items) after
 
+-- the template of a content, if there is one, with these parameters, for the nodes that are left
+abbrev pub items_by : Place → Option NodeRef → List (Bound NodeRef) → (size depth next : ℕ) → List NodeRef → Plan NodeRef → Plan NodeRef
+items_by by None parameters size depth next ns after = after
+items_by by (Some element) parameters size depth next ns after = each (λ n p more. Enter (item_call by element parameters size n p) depth more) (suc next) ns after
+
+abbrev pub items_left : Items → List (Bound NodeRef) → Plan NodeRef → Plan NodeRef
+items_left i parameters after = items_by (place_of i.place) i.element parameters (length i.nodes.items) i.depth i.next (drop i.next i.nodes.items) after
+
 -- ---- Sorting
 
 -- what nodes are sorted for, with these in their order
@@ -94,6 +103,7 @@ abbrev pub ordered_left : Ordered → List NodeRef → Plan NodeRef → Plan Nod
 ordered_left (ordereds.Loop l) ns after =
     each (inside_at (place_of l.place) (instrs (map instr_of l.content.value.items)) (length ns) (here_of l.here)) 1 ns after
 ordered_left (ordereds.Rules a) ns after = applied_to (place_of a.place) a.mode (bindings_of a.parameters) a.depth ns after
+ordered_left (ordereds.Items i) ns after = items_entered (place_of i.place) i.element (bindings_of i.parameters) i.depth ns after
 
 abbrev pub keys_in : Sorting → List made.SortKey
 keys_in s = map sort_key_of s.keys.value.items
@@ -122,6 +132,8 @@ abbrev pub passed_to : Passing → List (Bound NodeRef) → Plan NodeRef → Pla
 passed_to (passings.Rules a) parameters after = application_left a parameters after
 passed_to (passings.Sorted keys here a) parameters after =
     sorted (map sort_key_of keys.value.items) (here_of here) a.nodes.items (λ ns. applied_to (place_of a.place) a.mode parameters a.depth ns after)
+passed_to (passings.Items keys here i) parameters after =
+    sorted (map sort_key_of keys.value.items) (here_of here) i.nodes.items (λ ns. items_entered (place_of i.place) i.element parameters i.depth ns after)
 passed_to (passings.Template call depth) parameters after = Enter (with_passed parameters (call_of call)) depth after
 
 -- after so much is passed
@@ -163,6 +175,7 @@ left_frame (frames.Branches b) after = planned_branches (branches (map branch_of
 left_frame (frames.Loop l) after =
     each (inside_at (place_of l.place) (instrs (map instr_of l.content.value.items)) (length l.nodes.items) (here_of l.here)) (suc l.next) (drop l.next l.nodes.items) after
 left_frame (frames.Application a) after = application_left a (bindings_of a.parameters) after
+left_frame (frames.Items i) after = items_left i (bindings_of i.parameters) after
 left_frame (frames.Arguments a) after = arguments_left a (bindings_of a.done) after
 left_frame (frames.Parameters p) after = parameters_left p (here_of p.here) after
 left_frame (frames.Global s) after = global_left (declared_of s.unit.value.unit.value.declared) (here_of s)

@@ -58,6 +58,20 @@ pub struct Application {
     pub depth: u64,
 }
 
+/// The template in which the content of the xsl:for-each at this place stands, which is entered for its nodes from the
+/// next on, from a content so deep (XSLT 1.0, section 8).
+#[derive(Drop)]
+pub struct Items {
+    pub place: Place,
+    /// Its element. Where there is none, no node is entered.
+    pub element: Option<NodeRef>,
+    /// The parameters that are passed to each.
+    pub parameters: Bindings,
+    pub nodes: Vec<NodeRef>,
+    pub next: usize,
+    pub depth: u64,
+}
+
 /// The attribute sets that the element at this place uses, by their elements, from the next on (XSLT 1.0, section
 /// 7.1.4).
 #[derive(Drop)]
@@ -84,6 +98,8 @@ pub enum Ordered {
     Loop(Loop),
     /// For an xsl:apply-templates, in place of the nodes that stand there.
     Rules(Application),
+    /// For an xsl:for-each whose content stands in a template of its own, in place of the nodes that stand there.
+    Items(Items),
 }
 
 /// The nodes that are sorted, and then what they are sorted for (XSLT 1.0, section 10).
@@ -117,6 +133,8 @@ pub enum Passing {
     Rules(Application),
     /// The same, once its nodes are sorted by these keys, which stand here.
     Sorted(Rc<Vec<SortKey>>, Standing, Application),
+    /// To the template of a content, for all its nodes, once these are sorted by the keys, if any, which stand here.
+    Items(Rc<Vec<SortKey>>, Standing, Items),
     /// To a template that is called from a content so deep, in place of the parameters of the call.
     Template(Call, u64),
 }
@@ -167,6 +185,7 @@ pub enum Frame {
     Branches(Branches),
     Loop(Loop),
     Application(Application),
+    Items(Items),
     Arguments(Arguments),
     Parameters(Parameters),
     /// All of a global that stands here, but what is given from outside.

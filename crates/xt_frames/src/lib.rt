@@ -20,7 +20,7 @@ mod settle;
 mod standing;
 
 pub use frame::{
-    Application, Arguments, Attributes, Body, Branches, Copies, Frame, Holder, Inside, Loop,
+    Application, Arguments, Attributes, Body, Branches, Copies, Frame, Holder, Inside, Items, Loop,
     Ordered, Parameters, Passing, Sets, Sorting,
 };
 pub use held::{hold, holding, take_held};

@@ -47,6 +47,8 @@ pub struct Run {
     /// What is left of it, the innermost last.
     pub frames: Vec<Frame>,
     pub going: Going,
+    /// How many instructions it has performed since that was last taken. No clause speaks of it.
+    pub did: u64,
 }
 
 /// What one step of a run came to.

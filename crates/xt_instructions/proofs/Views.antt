@@ -11,7 +11,7 @@ use Rattle.xt_syntax.specs.InstrView.{binding_of, branch_of, control_of, form_of
 use Rattle.xt_syntax.specs.declared.expr.Expr.{Expr}
 use Rattle.xt_syntax.specs.declared.instr.Binding.{Binding}
 use Rattle.xt_syntax.specs.declared.instr.Branch.{Branch, out-Branch}
-use Rattle.xt_syntax.specs.declared.instr.Control.{Control, ForEach, If, Choose, ApplyTemplates, CallTemplate, the_lemmas}
+use Rattle.xt_syntax.specs.declared.instr.Control.{Control, ForEach, ForItems, If, Choose, ApplyTemplates, CallTemplate, the_lemmas}
 use Rattle.xt_syntax.specs.declared.instr.Form.{Form, WithoutContent, WithContent}
 use Rattle.xt_syntax.specs.declared.instr.Form as form
 use Rattle.xt_syntax.specs.declared.instr.Instr.{Instr, out-Instr}
@@ -35,6 +35,10 @@ view-Control c = search (rules, the_lemmas)
 pub view-ForEach : (e : Expr) (keys : Rc (Vec SortKey Global) Global) (is : Rc (Vec Instr Global) Global)
     → control_of (ForEach e keys is) ≡ tree.for_each (expr_of e) (map sort_key_of keys.value.items) (tree.instrs (map instr_of is.value.items))
 view-ForEach e keys is = search (rules, the_lemmas)
+
+pub view-ForItems : (e : Expr) (keys : Rc (Vec SortKey Global) Global) (name : Expanded) (bs : Rc (Vec Binding Global) Global)
+    → control_of (ForItems e keys name bs) ≡ tree.for_items (expr_of e) (map sort_key_of keys.value.items) name (tree.bindings (map binding_of bs.value.items))
+view-ForItems e keys name bs = search (rules, the_lemmas)
 
 pub view-If : (e : Expr) (is : Rc (Vec Instr Global) Global) → control_of (If e is) ≡ tree.conditional (expr_of e) (tree.instrs (map instr_of is.value.items))
 view-If e is = search (rules, the_lemmas)

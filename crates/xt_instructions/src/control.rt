@@ -26,8 +26,8 @@ use std::alloc::Global;
 use std::rc::Rc;
 use xt_engine::{Call, Ruling, Target};
 use xt_frames::{
-    Application, Body, Branches, Came, Frame, Loop, Next, Ordered, Passing, Run, Standing, lack,
-    nodes, push, share_bindings, share_content, share_keys, truth,
+    Application, Body, Branches, Came, Frame, Items, Loop, Next, Ordered, Passing, Run, Standing,
+    lack, nodes, push, share_bindings, share_content, share_keys, truth,
 };
 use xt_names::{Expanded, copy_name_if};
 use xt_questions::{Bindings, NamedTemplate, World, copy_place};
@@ -52,6 +52,9 @@ pub(crate) fn control<W: World>(
     match what {
         Control::ForEach(select, keys, content) => {
             for_each(alloc, run, site, select, keys, content, body, world)
+        }
+        Control::ForItems(select, keys, name, bindings) => {
+            for_items(alloc, run, site, select, keys, name, bindings, body, world)
         }
         Control::If(test, content) => when(alloc, run, site, test, content, body, world),
         Control::Choose(branches) => choose(alloc, run, branches, body, world),
@@ -175,6 +178,85 @@ fn loop_of(
         next: 0,
         here,
     })
+}
+
+/// An xsl:for-each whose content stands in a template of its own, of this name (XSLT 1.0, section 8).
+fn for_items<W: World>(
+    alloc: Global,
+    run: &mut Run,
+    site: &Site,
+    select: &Expr,
+    keys: &Rc<Vec<SortKey>>,
+    name: &Expanded,
+    bindings: &Rc<Vec<Binding>>,
+    body: Body,
+    world: &mut W,
+) -> Result<Next, Memory>
+    requires { body.next < usize.MAX }
+    ensures does { IfOk result (Performs (W.state world.old).truth (Frame.Body body) (contents.planned_control (site_of site.now) (made.for_items (expr_of select.now) (map sort_key_of keys.now.value.items) name.now (made.bindings (map binding_of bindings.now.value.items))) (here_of body.here) (after_body body (left_in run.old))) run.old run.new) }
+    ensures truth { (W.state world.new).truth ≡ (W.state world.old).truth }
+    ensures name { W.name world.new ≡ W.name world.old }
+{
+    let Ok(came) = nodes(alloc, run, select, site, &body.here, world) else {
+        drop(body);
+        return Err(Memory);
+    };
+    match came {
+        Came::Is(nodes) => { items_of(alloc, run, site, keys, name, bindings, nodes, body) }
+        Came::Halts(why) => {
+            drop(body);
+            Ok(Next::Halt(why))
+        }
+        Came::Lacks(name) => {
+            let depth = body.here.depth;
+            lack(alloc, run, Frame::Body(body), name, depth, &site.place)
+        }
+    }
+}
+
+/// Enters the template of this name for these nodes, with what is passed, once they are sorted.
+fn items_of(
+    alloc: Global,
+    run: &mut Run,
+    site: &Site,
+    keys: &Rc<Vec<SortKey>>,
+    name: &Expanded,
+    bindings: &Rc<Vec<Binding>>,
+    nodes: Vec<NodeRef>,
+    body: Body,
+) -> Result<Next, Memory>
+    requires { body.next < usize.MAX }
+    ensures { IfOk result (λ next. (ask : question.Question NodeRef → question.Answer NodeRef) → let h = here_of body.here in Does ask (Put Ended (contents.passed (made.bindings (map binding_of bindings.now.value.items)) h [] (λ parameters. contents.sorted (map sort_key_of keys.now.value.items) h nodes.items (λ ns. contents.items_entered (site_of site.now).place (contents.template_called name.now h.templates) parameters h.depth ns (after_body body (left_in run.old)))))) (suc (length run.old.frames.items)) run.old run.new next) }
+{
+    let here = put_rest(run, body)?;
+    let bindings = share_bindings(bindings)?;
+    let to = to_items(alloc, site, keys, name, nodes, &here)?;
+    pass(run, bindings, here, to)
+}
+
+/// What is passed to the template of this name for these nodes, once they are sorted.
+fn to_items(
+    alloc: Global,
+    site: &Site,
+    keys: &Rc<Vec<SortKey>>,
+    name: &Expanded,
+    nodes: Vec<NodeRef>,
+    here: &Standing,
+) -> Result<Passing, Memory>
+    ensures { IfOk result (λ to. (parameters : List (Bound NodeRef)) → (after : Plan NodeRef) → passed_to to parameters after ≡ contents.sorted (map sort_key_of keys.now.value.items) (here_of here.now) nodes.items (λ ns. contents.items_entered (site_of site.now).place (contents.template_called name.now (here_of here.now).templates) parameters here.now.depth ns after)) }
+{
+    let place = copy_place(alloc, &site.place)?;
+    let keys = share_keys(keys)?;
+    let standing = here.share()?;
+    let to = Items {
+        place,
+        element: template_called(name, here.unit.templates.as_slice()),
+        parameters: Bindings::Empty,
+        nodes,
+        next: 0,
+        depth: here.depth,
+    };
+    Ok(Passing::Items(keys, standing, to))
 }
 
 /// xsl:if (XSLT 1.0, section 9.1).

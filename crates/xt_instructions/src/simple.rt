@@ -96,7 +96,7 @@ pub(crate) fn without_content<W: World>(
     ensures name { W.name world.new ≡ W.name world.old }
 {
     match what {
-        WithoutContent::Text(text) => {
+        WithoutContent::Text(text, _) => {
             let text = text.copy(alloc)?;
             write_text(run, text, Frame::Body(advanced(body)))
         }

@@ -4,9 +4,10 @@ ghost use Rattle.spec_meaning.specs.Question as question;
 ghost use Rattle.spec_meaning.specs.Stream.{Ended};
 ghost use Rattle.spec_transform.specs.Sorted as sorts;
 ghost use Rattle.spec_run.specs.Plan.{Plan, Put};
-ghost use Rattle.spec_run.specs.Content.{at, criteria_asked, rows_asked};
-ghost use Rattle.xt_syntax.specs.PartView.{sort_key_of};
+ghost use Rattle.spec_run.specs.Content.{at, criteria_asked, items_entered, rows_asked};
+ghost use Rattle.xt_syntax.specs.PartView.{place_of, sort_key_of};
 ghost use Rattle.spec_node.specs.declared.node_ref.NodeRef.{NodeRef};
+ghost use Rattle.xt_questions.specs.View.{bindings_of};
 ghost use Rattle.xt_frames.specs.declared.frame.Frame.TheVariants as Frame;
 ghost use Rattle.xt_frames.specs.View.{here_of, left_frame, ordered_left};
 ghost use Rattle.xt_frames.specs.Left.{StepsFrom, Pushed, HasNeeds};
@@ -16,8 +17,8 @@ use std::alloc::Global;
 use std::mem;
 use std::rc::Rc;
 use xt_frames::{
-    Application, Came, Frame, Loop, Next, Ordered, Run, Sorting, Standing, criterion, key_value,
-    lack, push,
+    Application, Came, Frame, Items, Loop, Next, Ordered, Run, Sorting, Standing, criterion,
+    key_value, lack, push,
 };
 use xt_names::Expanded;
 use xt_questions::{World, copy_place};
@@ -356,5 +357,20 @@ fn ordered(to: Ordered, nodes: Vec<NodeRef>) -> Frame
             next: 0,
             depth: left.depth,
         }),
+        Ordered::Items(left) => all_items(left, nodes),
     }
+}
+
+/// A template that is entered for these nodes, all of which are left. Takes no memory.
+fn all_items(left: Items, nodes: Vec<NodeRef>) -> Frame
+    ensures { (after : Plan NodeRef) → left_frame result after ≡ items_entered (place_of left.place) left.element (bindings_of left.parameters) left.depth nodes.items after }
+{
+    Frame::Items(Items {
+        place: left.place,
+        element: left.element,
+        parameters: left.parameters,
+        nodes,
+        next: 0,
+        depth: left.depth,
+    })
 }

@@ -1,5 +1,5 @@
 -- What is left of frames that were taken off: the next of them, or nothing.
-use Rattle.std.proofs.Common.{◌≡◌, ℕ, suc, ◌+◌, ◌<◌, ◌≤◌, List, length, get_or, drop, map, Some, Vec, Global, refl, sym, ap, ◌∙◌, arith, add-one}
+use Rattle.std.proofs.Common.{◌≡◌, ℕ, suc, ◌+◌, ◌<◌, ◌≤◌, List, length, get_or, drop, map, Option, None, Some, Vec, Global, refl, sym, ap, ◌∙◌, arith, add-one}
 use Rattle.std.specs.Option.{option_map}
 use Rattle.std.specs.Prelude.{slice_get}
 use Rattle.std.proofs.lemmas.List.{at_drop_more, at_drop_all}
@@ -10,7 +10,7 @@ use Rattle.spec_meaning.specs.Question as question
 use Rattle.spec_meaning.specs.Question.{Question, Answer, AllRules}
 use Rattle.spec_run.specs.Plan.{Plan, End, Put, Wrap, Enter, Inquire}
 use Rattle.spec_run.specs.Going.{Asked, noted, put, wrap}
-use Rattle.spec_run.specs.Content.{plan, planned, at, each, applied, rule_call, nodes_copied}
+use Rattle.spec_run.specs.Content.{plan, planned, at, each, applied, rule_call, item_call, nodes_copied}
 use Rattle.spec_run.specs.Copy.{stream_in}
 use Rattle.spec_run.specs.Passes.{asks, puts, wraps, stays}
 use Rattle.xt_syntax.specs.declared.instr.Instr.{Instr}
@@ -25,12 +25,13 @@ use Rattle.xt_progress.specs.View.{going_of}
 use Rattle.xt_frames.specs.declared.frame.Body.{Body}
 use Rattle.xt_frames.specs.declared.frame.Loop.{Loop}
 use Rattle.xt_frames.specs.declared.frame.Application.{Application}
+use Rattle.xt_frames.specs.declared.frame.Items.{Items}
 use Rattle.xt_frames.specs.declared.frame.Copies.{Copies}
 use Rattle.xt_frames.specs.declared.frame.Frame.{Frame}
 use Rattle.xt_frames.specs.declared.frame.Frame.TheVariants as frames
 use Rattle.xt_frames.specs.declared.run.Run.{Run}
 use Rattle.xt_frames.specs.declared.run.Next.TheVariants.{Went, Halt}
-use Rattle.xt_frames.specs.View.{here_of, inside, inside_at, following, left_frame, left_over}
+use Rattle.xt_frames.specs.View.{here_of, inside, inside_at, items_by, following, left_frame, left_over}
 use Rattle.xt_frames.specs.Left.{left_in, Does, Pushed, StepsFrom}
 use Rattle.xt_frames.proofs.Lefts.{pushed, one_more}
 use Rattle.xt_frames.proofs.Performs.{goes}
@@ -73,6 +74,32 @@ application_next a x after lt =
 
 pub application_none : (a : Application) (after : Plan NodeRef) → length a.nodes.items ≤ a.next → left_frame (frames.Application a) after ≡ after
 application_none a after le = at_drop_all (λ ns. each (applied (place_of a.place) a.mode (bindings_of a.parameters) (length a.nodes.items) a.depth) (suc a.next) ns after) a.nodes.items a.next le
+
+-- the template of this element, if there is one, for those of these nodes that are behind so many
+abbrev pub entered_by : Items → Option NodeRef → ℕ → List NodeRef → Plan NodeRef → Plan NodeRef
+entered_by i element next ns after = items_by (place_of i.place) element (bindings_of i.parameters) (length i.nodes.items) i.depth next ns after
+
+abbrev pub entered_next : Items → NodeRef → NodeRef → ℕ → Plan NodeRef → Plan NodeRef
+entered_next i element n p after = Enter (item_call (place_of i.place) element (bindings_of i.parameters) (length i.nodes.items) n p) i.depth after
+
+pub items_next : (i : Items) (element x : NodeRef) (after : Plan NodeRef) → i.element ≡ Some element → i.next < length i.nodes.items
+    → left_frame (frames.Items i) after ≡ entered_next i element (get_or i.nodes.items i.next x) (i.next + 1) (left_frame (frames.Items (record { place = i.place; element = i.element; parameters = i.parameters; nodes = i.nodes; next = i.next + 1; depth = i.depth })) after)
+items_next i element x after is_element lt =
+    let n = get_or i.nodes.items i.next x in
+    let rest = drop (i.next + 1) i.nodes.items in
+    ap (λ o. entered_by i o i.next (drop i.next i.nodes.items) after) is_element
+    ∙ at_drop_more (λ ns. entered_by i (Some element) i.next ns after) i.nodes.items i.next x lt
+    ∙ ap (λ p. entered_next i element n p (entered_by i (Some element) p rest after)) (sym (add-one i.next))
+    ∙ ap (λ o. entered_next i element n (i.next + 1) (entered_by i o (i.next + 1) rest after)) (sym is_element)
+
+pub items_none : (i : Items) (element : NodeRef) (after : Plan NodeRef) → i.element ≡ Some element → length i.nodes.items ≤ i.next → left_frame (frames.Items i) after ≡ after
+items_none i element after is_element le =
+    ap (λ o. entered_by i o i.next (drop i.next i.nodes.items) after) is_element
+    ∙ at_drop_all (λ ns. entered_by i (Some element) i.next ns after) i.nodes.items i.next le
+
+-- there is no template
+pub no_items : (i : Items) (after : Plan NodeRef) → i.element ≡ None → left_frame (frames.Items i) after ≡ after
+no_items i after is_none = ap (λ o. entered_by i o i.next (drop i.next i.nodes.items) after) is_none
 
 pub copies_next : (c : Copies) (x : NodeRef) (after : Plan NodeRef) → c.next < length c.nodes.items
     → left_frame (frames.Copies c) after ≡ Inquire (question.Copy (get_or c.nodes.items c.next x)) (λ a. Put (stream_in a) (left_frame (frames.Copies (record { nodes = c.nodes; next = c.next + 1 })) after))

@@ -33,10 +33,11 @@ use Rattle.xt_frames.specs.declared.run.Run.{Run}
 use Rattle.xt_frames.specs.declared.run.Next.{Next}
 use Rattle.xt_frames.specs.declared.run.Next.TheVariants.{Went, Want, Needs, Done, Gave, Halt}
 use Rattle.xt_frames.specs.View.{left_over}
-use Rattle.xt_frames.specs.Left.{left_in, waiting_of, progress_of, hand, Steps, StepsFrom}
+use Rattle.xt_frames.specs.Left.{left_in, waiting_of, progress_of, hand, Comes, ComesSo, IsLeft, Steps, StepsFrom}
 use Rattle.xt_frames.proofs.Passed.{passes_then}
 use Rattle.xt_frames.proofs.Lefts.{comes_after, moved, misses_moved, stops_after, stops_moved, passes_at, if_ok}
 use Rattle.xt_runner.specs.Onward.{Onward}
+use Rattle.xt_runner.specs.Counted.{counted}
 
 -- where a run is, some steps on
 pub record Come (ask : Question NodeRef → Answer NodeRef) (first now : Run) : Type 0 where
@@ -58,7 +59,7 @@ from_first r = Goes (going_of r.going) (supplies_of r.supplies)
 
 -- the same run, which waits for this
 abbrev pub waiting_for : Waiting → Run → Run
-waiting_for w r = record { room = r.room; supplies = r.supplies; waiting = w; frames = r.frames; going = r.going }
+waiting_for w r = record { room = r.room; supplies = r.supplies; waiting = w; frames = r.frames; going = r.going; did = r.did }
 
 pub onward_want : {ask : Question NodeRef → Answer NodeRef} {first now new : Run} {k : ℕ} (call : Call) (d : ℕ) (w : Waiting) (turn : Turn) → Come ask first now → Steps ask (left_in now) k now new (Want call d) → turn ≡ turns.Want call d → waiting_of w ≡ progress.ForCall (call_of call) d
     → Onward ask (progress_of first) (from_first first) (progress_of (waiting_for w new)) (Ok turn)
@@ -114,6 +115,15 @@ pub steps_of : {f g : Frame} (old new : Run) (ask : Question NodeRef → Answer 
 steps_of old new ask r e h =
     let P : Frame → Type 0 = λ f. IfOk r (StepsFrom ask f old new) in
     subst P (sym e) (if_ok r h (λ next s. s ask))
+
+-- a run that has counted what it performed
+pub steps_counted : (ask : Question NodeRef → Answer NodeRef) (p : Plan NodeRef) (k : ℕ) (old new : Run) (n : ℕ) (next : Next) → Steps ask p k old new next → Steps ask p k old (counted n new) next
+steps_counted ask p k old new n Went h = record { so = h.so; room = h.room; supplies = h.supplies }
+steps_counted ask p k old new n (Want call depth) h = record { so = h.so; room = h.room; supplies = h.supplies }
+steps_counted ask p k old new n (Needs name depth place) h = record { so = record { passes = h.so.passes; misses = h.so.misses }; room = h.room; supplies = h.supplies }
+steps_counted ask p k old new n Done h = record { so = h.so; room = h.room; supplies = h.supplies }
+steps_counted ask p k old new n (Gave value) h = record { so = h.so; room = h.room; supplies = h.supplies }
+steps_counted ask p k old new n (Halt why) h = record { so = h.so; room = h.room; supplies = h.supplies }
 
 -- with a frame more to begin with
 pub steps_more : (ask : Question NodeRef → Answer NodeRef) (p : Plan NodeRef) (k : ℕ) (old new : Run) (next : Next) → Steps ask p k old new next → Steps ask p (suc k) old new next

@@ -13,7 +13,7 @@ use Rattle.spec_meaning.specs.Context.{Bound}
 use Rattle.spec_meaning.specs.Question.{Question, Answer}
 use Rattle.spec_transform.specs.Sorted.{nodes_in_order}
 use Rattle.spec_run.specs.Plan.{Plan, Put, Enter}
-use Rattle.spec_run.specs.Content.{Here, applied, applied_to, each, criteria_asked, rows_asked, sorted, is_empty, valued, unless_passed, passed, planned, with_parameters, with_variable}
+use Rattle.spec_run.specs.Content.{Here, applied, applied_to, items_entered, each, criteria_asked, rows_asked, sorted, is_empty, valued, unless_passed, passed, planned, with_parameters, with_variable}
 use Rattle.spec_run.specs.Passes.{stays}
 use Rattle.xt_syntax.specs.declared.instr.Binding.{Binding, out-Binding}
 use Rattle.xt_syntax.specs.declared.instr.Control.{the_lemmas}
@@ -27,6 +27,7 @@ use Rattle.xt_engine.specs.declared.call.Call.{Call}
 use Rattle.xt_engine.specs.View.{call_of}
 use Rattle.xt_frames.specs.declared.standing.Standing.{Standing}
 use Rattle.xt_frames.specs.declared.frame.Application.{Application}
+use Rattle.xt_frames.specs.declared.frame.Items.{Items}
 use Rattle.xt_frames.specs.declared.frame.Passing.{Passing}
 use Rattle.xt_frames.specs.declared.frame.Passing.TheVariants as passings
 use Rattle.xt_frames.specs.declared.frame.Arguments.{Arguments}
@@ -41,7 +42,7 @@ use Rattle.xt_frames.specs.declared.run.Next.TheVariants.{Went, Want}
 use Rattle.xt_frames.specs.View.{here_of, inside, left_frame, left_with, passed_to, with_passed}
 use Rattle.xt_frames.specs.Left.{left_in, Does, Performs, Steps, Pushed}
 use Rattle.xt_frames.proofs.Performs.{one_frame}
-use Rattle.xt_runner.specs.Parameter.{valued_by, past_parameter, with_parameter, parameter_planned, IsPastParameter, SameApplication, SamePassing, past_argument, with_argument, argument_planned, IsPastArgument}
+use Rattle.xt_runner.specs.Parameter.{valued_by, past_parameter, with_parameter, parameter_planned, IsPastParameter, SameApplication, SameItems, SamePassing, past_argument, with_argument, argument_planned, IsPastArgument}
 
 pub view-Binding : (b : Binding) → binding_of b ≡ record { site = site_of (out-Binding b).site; name = (out-Binding b).name; select = option_map expr_of (out-Binding b).select; content = instrs (map instr_of (out-Binding b).content.value.items) }
 view-Binding b = search (rules, the_lemmas)
@@ -173,6 +174,13 @@ same_sorted p keys more here there a b is_sorted same_keys same_here same = reco
   same = λ parameters after.
       (λ i. sorted (map sort_key_of (same_keys i).items) (same_here i) (same.nodes i) (λ ns. applied_to (same.place i) (same.mode i) parameters (same.depth i) ns after))
       ∙ ap (λ q. passed_to q parameters after) (sym is_sorted);
+}
+
+pub same_items : (p : Passing) (keys more : Rc (Vec SortKey Global) Global) (here there : Standing) (a b : Items) → p ≡ passings.Items keys here a → more.value ≡ keys.value → here_of there ≡ here_of here → SameItems a b → SamePassing p (passings.Items more there b)
+same_items p keys more here there a b is_items same_keys same_here same = record {
+  same = λ parameters after.
+      (λ i. sorted (map sort_key_of (same_keys i).items) (same_here i) (same.nodes i) (λ ns. items_entered (same.place i) (same.element i) parameters (same.depth i) ns after))
+      ∙ ap (λ q. passed_to q parameters after) (sym is_items);
 }
 
 pub same_template : (p : Passing) (c d : Call) (depth : ℕ) → p ≡ passings.Template c depth → call_of d ≡ call_of c → SamePassing p (passings.Template d depth)

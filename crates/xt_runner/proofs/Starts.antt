@@ -45,7 +45,7 @@ use Rattle.xt_frames.specs.View.{here_of, rest_of, left_frame, left_over}
 use Rattle.xt_frames.specs.Left.{left_in, hand, steps, Comes, Does, Pushed}
 use Rattle.xt_frames.proofs.Lefts.{pushed, one_more, steps_at, passes_at, comes_after}
 use Rattle.xt_frames.proofs.Performs.{goes}
-use Rattle.xt_frames.proofs.Items.{view-Empty}
+use Rattle.xt_frames.proofs.Whole.{view-Empty}
 use Rattle.xt_runner.specs.Start.{Begun, unless_text}
 
 -- a question, all frames gone, and then what comes of the rest

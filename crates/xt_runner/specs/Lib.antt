@@ -1,3 +1,4 @@
 pub mod Start
 pub mod Parameter
 pub mod Onward
+pub mod Counted

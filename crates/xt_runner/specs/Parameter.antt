@@ -10,6 +10,7 @@ use Rattle.xt_syntax.specs.PartView.{place_of}
 use Rattle.spec_node.specs.declared.node_ref.NodeRef.{NodeRef}
 use Rattle.xt_questions.specs.View.{bindings_of}
 use Rattle.xt_frames.specs.declared.frame.Application.{Application}
+use Rattle.xt_frames.specs.declared.frame.Items.{Items}
 use Rattle.xt_frames.specs.declared.frame.Passing.{Passing}
 use Rattle.xt_frames.specs.declared.frame.Arguments.{Arguments}
 use Rattle.xt_frames.specs.declared.frame.Parameters.{Parameters}
@@ -44,6 +45,14 @@ parameter_planned b p after =
 pub record SameApplication (a b : Application) : Type 0 where
   pub place : place_of b.place ≡ place_of a.place
   pub mode : b.mode ≡ a.mode
+  pub nodes : b.nodes.items ≡ a.nodes.items
+  pub next : b.next ≡ a.next
+  pub depth : b.depth ≡ a.depth
+
+-- the same items, but for what is passed
+pub record SameItems (a b : Items) : Type 0 where
+  pub place : place_of b.place ≡ place_of a.place
+  pub element : b.element ≡ a.element
   pub nodes : b.nodes.items ≡ a.nodes.items
   pub next : b.next ≡ a.next
   pub depth : b.depth ≡ a.depth

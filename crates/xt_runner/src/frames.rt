@@ -1,10 +1,10 @@
-// What is left of the frames that evaluate nothing: the next node of a loop, of an application or of copies, and the
-// ends of sinks.
+// What is left of the frames that evaluate nothing: the next node of a loop, of an application, of items or of copies,
+// and the ends of sinks.
 ghost use Rattle.std.specs.Prelude.{◌≡◌, ◌<◌, ◌+◌, suc, length, get_or, IfOk, OnOk};
 ghost use Rattle.spec_meaning.specs.Question as question;
 ghost use Rattle.spec_meaning.specs.Question.{AllRules};
 ghost use Rattle.spec_run.specs.Going.{Asked, noted, put};
-ghost use Rattle.spec_run.specs.Content.{at, rule_call};
+ghost use Rattle.spec_run.specs.Content.{at, item_call, rule_call};
 ghost use Rattle.spec_run.specs.Copy.{stream_in};
 ghost use Rattle.xt_syntax.specs.PartView.{place_of};
 ghost use Rattle.spec_node.specs.declared.node_ref.NodeRef.{NodeRef};
@@ -15,23 +15,25 @@ ghost use Rattle.xt_frames.specs.View.{here_of};
 ghost use Rattle.xt_frames.specs.declared.frame.Frame.TheVariants as Frame;
 ghost use Rattle.xt_frames.specs.declared.run.Run as declared;
 ghost use Rattle.xt_frames.specs.Left.{StepsFrom};
+ghost use Rattle.xt_runner.specs.Counted.{counted};
 
 use spec_expression::DynCode;
 use std::alloc::Global;
 use xt_base::Place;
-use xt_engine::{Call, Refused, Wrapping};
+use xt_engine::{Call, Refused, Ruling, Target, Wrapping};
 use xt_frames::{
-    Application, Body, Copies, Frame, Inside, Loop, Next, Run, Standing, go_into, push,
+    Application, Body, Copies, Frame, Inside, Items, Loop, Next, Run, Standing, go_into, push,
     share_content, want,
 };
 use xt_instructions::{call_of_choice, perform, put_copy};
 use xt_names::copy_name_if;
 use xt_progress::Going;
 use xt_questions::{Candidates, Focus, Question, World, copy_place};
+use xt_syntax::{Form, Instr, WithoutContent};
 use xt_text::Memory;
 use xt_tree::NodeRef;
 
-/// Goes on with a content.
+/// Goes on with a content, and counts its next instruction.
 pub(crate) fn go_on_body<W: World>(
     alloc: Global,
     run: &mut Run,
@@ -47,7 +49,32 @@ pub(crate) fn go_on_body<W: World>(
     if body.next >= instrs.len() {
         return Ok(Next::Went);
     }
-    perform(alloc, run, &instrs[body.next], body, world)
+    let instr = &instrs[body.next];
+    let next = perform(alloc, run, instr, body, world)?;
+    count(run, instr, &next);
+    Ok(next)
+}
+
+/// Whether it is an element: an instruction, or a literal result element. A text in no xsl:text is none.
+fn is_instruction(instr: &Instr) -> bool {
+    match &instr.form {
+        Form::WithoutContent(WithoutContent::Text(_, is_instruction)) => *is_instruction,
+        _ => true,
+    }
+}
+
+/// Counts an instruction that came to this, unless it is performed again: where it needs a global and nothing of it is
+/// begun, its content is put back. The count stays at its greatest value.
+fn count(run: &mut Run, instr: &Instr, next: &Next)
+    ensures { run.new ≡ counted run.new.did run.old }
+{
+    let is_put_back = match next {
+        Next::Needs(_, _, _) => matches!(run.frames.last(), Some(Frame::Body(_))),
+        _ => false,
+    };
+    if !is_put_back && is_instruction(instr) {
+        run.did = run.did.saturating_add(1);
+    }
 }
 
 /// Goes on after the content of what a sink becomes.
@@ -175,6 +202,57 @@ fn next_call<W: World>(
     };
     let parameters = left.parameters.share()?;
     call_of_choice(alloc, &left.mode, &rule, focus, parameters, &left.place)
+}
+
+/// Goes on with nodes for which the template of a content is entered, if there is one.
+pub(crate) fn go_on_items(alloc: Global, run: &mut Run, left: Items) -> Result<Next, Memory>
+    ensures { IfOk result (λ next. (ask : question.Question NodeRef → question.Answer NodeRef) → StepsFrom ask (Frame.Items left) run.old run.new next) }
+{
+    let Some(element) = left.element else {
+        drop(left);
+        return Ok(Next::Went);
+    };
+    let nodes = left.nodes.as_slice();
+    if left.next >= nodes.len() {
+        drop(left);
+        return Ok(Next::Went);
+    }
+    let node = nodes[left.next];
+    let Ok(call) = next_item(alloc, element, node, &left) else {
+        drop(left);
+        return Err(Memory);
+    };
+    let depth = left.depth;
+    let rest = Frame::Items(Items {
+        place: left.place,
+        element: left.element,
+        parameters: left.parameters,
+        nodes: left.nodes,
+        next: left.next + 1,
+        depth,
+    });
+    want(run, rest, call, depth)
+}
+
+/// The call that enters the template of this element for this node, which is the next of them: there no template rule
+/// is the current one (XSLT 1.0, section 5.6).
+fn next_item(alloc: Global, element: NodeRef, node: NodeRef, left: &Items) -> Result<Call, Memory>
+    requires { left.now.next < usize.MAX }
+    ensures { IfOk result (λ c. call_of c ≡ item_call (place_of left.now.place) element (bindings_of left.now.parameters) (length left.now.nodes.items) node (left.now.next + 1)) }
+{
+    let position = left.next as u64 + 1;
+    let size = left.nodes.as_slice().len() as u64;
+    let by = copy_place(alloc, &left.place)?;
+    let parameters = left.parameters.share()?;
+    Ok(Call {
+        target: Target::Unit(element),
+        node,
+        parameters,
+        position: Some(position),
+        size: Some(size),
+        ruling: Ruling::Is(None),
+        by,
+    })
 }
 
 /// Goes on with nodes that are copied.

@@ -44,6 +44,7 @@ pub(crate) fn start(alloc: Global, call: &Call, room: u64) -> Result<Run, Memory
         waiting: Waiting::Nothing,
         frames,
         going: Going::new(alloc),
+        did: 0,
     })
 }
 

@@ -18,16 +18,16 @@ ghost use Rattle.xt_frames.specs.declared.frame.Passing.TheVariants as Passing;
 ghost use Rattle.xt_frames.specs.View.{here_of, passed_to, left_with, global_left};
 ghost use Rattle.xt_frames.specs.Left.{left_in, Does, Performs, Steps, StepsFrom};
 ghost use Rattle.xt_runner.specs.Start.{declared_in};
-ghost use Rattle.xt_runner.specs.Parameter.{argument_planned, parameter_planned, past_parameter, past_argument, valued_by, with_parameter, SameApplication, SamePassing, IsPastArgument, IsPastParameter};
+ghost use Rattle.xt_runner.specs.Parameter.{argument_planned, parameter_planned, past_parameter, past_argument, valued_by, with_parameter, SameApplication, SameItems, SamePassing, IsPastArgument, IsPastParameter};
 
-use crate::frames::{go_on_application, go_on_body};
+use crate::frames::{go_on_application, go_on_body, go_on_items};
 use crate::start::leave_nothing;
 use std::alloc::Global;
 use std::rc::Rc;
 use xt_engine::Call;
 use xt_frames::{
-    Application, Arguments, Body, Came, Frame, Holder, Next, Ordered, Parameters, Passing, Run,
-    Standing, hold, holding, lack, push, share_bindings, share_content, share_keys, value,
+    Application, Arguments, Body, Came, Frame, Holder, Items, Next, Ordered, Parameters, Passing,
+    Run, Standing, hold, holding, lack, push, share_bindings, share_content, share_keys, value,
 };
 use xt_instructions::{go_on_sorting, unsorted};
 use xt_names::{Expanded, copy_name, copy_name_if};
@@ -218,6 +218,10 @@ fn pass<W: World>(
             let left = with_parameters(left, parameters);
             sort(alloc, run, keys, here, left, world)
         }
+        Passing::Items(keys, here, left) => {
+            let left = items_with(left, parameters);
+            sort_items(alloc, run, keys, here, left, world)
+        }
         Passing::Template(call, depth) => {
             let call = Call {
                 target: call.target,
@@ -240,6 +244,20 @@ fn with_parameters(left: Application, parameters: Bindings) -> Application
     Application {
         place: left.place,
         mode: left.mode,
+        parameters,
+        nodes: left.nodes,
+        next: left.next,
+        depth: left.depth,
+    }
+}
+
+/// The same, with these parameters. Takes no memory.
+fn items_with(left: Items, parameters: Bindings) -> Items
+    ensures { result ≡ record { place = left.place; element = left.element; parameters = parameters; nodes = left.nodes; next = left.next; depth = left.depth } }
+{
+    Items {
+        place: left.place,
+        element: left.element,
         parameters,
         nodes: left.nodes,
         next: left.next,
@@ -280,6 +298,42 @@ fn sort<W: World>(
         depth: left.depth,
     };
     let sorting = unsorted(alloc, keys, here, left.nodes, Ordered::Rules(to));
+    go_on_sorting(alloc, run, sorting, world)
+}
+
+/// Sorts the nodes for which the template of a content is entered then, all of them.
+fn sort_items<W: World>(
+    alloc: Global,
+    run: &mut Run,
+    keys: Rc<Vec<SortKey>>,
+    here: Standing,
+    left: Items,
+    world: &mut W,
+) -> Result<Next, Memory>
+    ensures does { IfOk result (Steps (W.state world.old).truth (passed_to (Passing.Items keys here left) (bindings_of left.parameters) (left_in run.old)) (suc (length run.old.frames.items)) run.old run.new) }
+    ensures truth { (W.state world.new).truth ≡ (W.state world.old).truth }
+    ensures name { W.name world.new ≡ W.name world.old }
+{
+    if keys.is_empty() {
+        let all = Items {
+            place: left.place,
+            element: left.element,
+            parameters: left.parameters,
+            nodes: left.nodes,
+            next: 0,
+            depth: left.depth,
+        };
+        return go_on_items(alloc, run, all);
+    }
+    let to = Items {
+        place: left.place,
+        element: left.element,
+        parameters: left.parameters,
+        nodes: Vec::new(alloc),
+        next: 0,
+        depth: left.depth,
+    };
+    let sorting = unsorted(alloc, keys, here, left.nodes, Ordered::Items(to));
     go_on_sorting(alloc, run, sorting, world)
 }
 
@@ -351,6 +405,11 @@ fn share_passing(alloc: Global, to: &Passing) -> Result<Passing, Memory>
             let here = here.share()?;
             Ok(Passing::Sorted(keys, here, copy_application(alloc, left)?))
         }
+        Passing::Items(keys, here, left) => {
+            let keys = share_keys(keys)?;
+            let here = here.share()?;
+            Ok(Passing::Items(keys, here, copy_items(alloc, left)?))
+        }
         Passing::Template(call, depth) => Ok(Passing::Template(call.copy(alloc)?, *depth)),
     }
 }
@@ -366,6 +425,23 @@ fn copy_application(alloc: Global, left: &Application) -> Result<Application, Me
     Ok(Application {
         place,
         mode,
+        parameters,
+        nodes,
+        next: left.next,
+        depth: left.depth,
+    })
+}
+
+/// The same, in memory of its own.
+fn copy_items(alloc: Global, left: &Items) -> Result<Items, Memory>
+    ensures { IfOk result (SameItems left.now) }
+{
+    let nodes = Vec::from_slice(alloc, left.nodes.as_slice())?;
+    let parameters = left.parameters.share()?;
+    let place = copy_place(alloc, &left.place)?;
+    Ok(Items {
+        place,
+        element: left.element,
         parameters,
         nodes,
         next: left.next,

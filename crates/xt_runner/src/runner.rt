@@ -11,10 +11,13 @@ use xt_frames::{Run, Waiting};
 use xt_questions::World;
 use xt_text::Memory;
 
-/// An engine that runs instantiations step by step, and counts those that it starts.
+/// An engine that runs instantiations step by step, and counts those that it starts, and the instructions that these
+/// perform.
 #[derive(Drop)]
 pub struct Runner {
     pub entered: u64,
+    /// How many instructions were performed. The count stays at its greatest value.
+    pub did: u64,
 }
 
 impl Runner {
@@ -22,9 +25,10 @@ impl Runner {
 
     /// Nothing is started yet.
     pub const fn new() -> Runner
-        ensures { result.entered ≡ 0 }
+        ensures entered { result.entered ≡ 0 }
+        ensures did { result.did ≡ 0 }
     {
-        Runner { entered: 0 }
+        Runner { entered: 0, did: 0 }
     }
 }
 
@@ -76,6 +80,9 @@ impl Engine for Runner {
         given: Option<Entered>,
         world: &mut W,
     ) -> Result<Turn, RunFault> {
-        resume(alloc, run, given, world)
+        let turn = resume(alloc, run, given, world);
+        self.did = self.did.saturating_add(run.did);
+        run.did = 0;
+        turn
     }
 }

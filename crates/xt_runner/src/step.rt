@@ -4,7 +4,7 @@ ghost use Rattle.xt_frames.specs.declared.frame.Frame.TheVariants as Frame;
 ghost use Rattle.xt_frames.specs.Left.{left_in, Steps, StepsFrom};
 
 use crate::frames::{
-    go_on_application, go_on_body, go_on_copies, go_on_loop, go_on_wrap, terminate,
+    go_on_application, go_on_body, go_on_copies, go_on_items, go_on_loop, go_on_wrap, terminate,
 };
 use crate::parameters::{go_on_arguments, go_on_global, go_on_parameters};
 use crate::start::go_on_start;
@@ -49,6 +49,7 @@ fn go_on<W: World>(
         Frame::Branches(branches) => go_on_branches(alloc, run, branches, world),
         Frame::Loop(left) => go_on_loop(alloc, run, left),
         Frame::Application(left) => go_on_application(alloc, run, left, world),
+        Frame::Items(left) => go_on_items(alloc, run, left),
         Frame::Arguments(left) => go_on_arguments(alloc, run, left, world),
         Frame::Parameters(left) => go_on_parameters(alloc, run, left, world),
         Frame::Global(here) => go_on_global(alloc, run, here, world),

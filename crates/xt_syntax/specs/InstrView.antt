@@ -25,6 +25,7 @@ form_step (Form-F.Control c) = tree.control c
 
 abbrev pub control_step : Control-F tree.Control tree.Form tree.Binding tree.Branch tree.Instr → tree.Control
 control_step (Control-F.ForEach e keys is) = tree.for_each (expr_of e) (map sort_key_of keys.value.items) (tree.instrs is.value.items)
+control_step (Control-F.ForItems e keys name bs) = tree.for_items (expr_of e) (map sort_key_of keys.value.items) name (tree.bindings bs.value.items)
 control_step (Control-F.If e is) = tree.conditional (expr_of e) (tree.instrs is.value.items)
 control_step (Control-F.Choose bs) = tree.choose (tree.branches bs.value.items)
 control_step (Control-F.ApplyTemplates s bs) = tree.apply_templates (selection_of s) (tree.bindings bs.value.items)

@@ -84,7 +84,7 @@ numbering_of n = record {
 }
 
 abbrev pub without_content_of : WithoutContent → instructions.WithoutContent
-without_content_of (without.Text text) = instructions.Text text
+without_content_of (without.Text text is_instruction) = instructions.Text text
 without_content_of (without.ValueOf e) = instructions.ValueOf (expr_of e)
 without_content_of (without.CopyOf e) = instructions.CopyOf (expr_of e)
 without_content_of (without.Number n) = instructions.Number (numbering_of n)

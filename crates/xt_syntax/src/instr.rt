@@ -41,6 +41,9 @@ pub enum Form {
 pub enum Control {
     /// xsl:for-each, with what it selects, how that is sorted, and its content (XSLT 1.0, section 8).
     ForEach(Expr, Rc<Vec<SortKey>>, Rc<Vec<Instr>>),
+    /// An xsl:for-each whose content stands in a template of its own, of this name, with what is passed to it. No
+    /// document has it: it is left where contents were lifted.
+    ForItems(Expr, Rc<Vec<SortKey>>, Expanded, Rc<Vec<Binding>>),
     /// xsl:if, with its test and its content (XSLT 1.0, section 9.1).
     If(Expr, Rc<Vec<Instr>>),
     /// xsl:choose, with at least one branch (XSLT 1.0, section 9.2).
@@ -132,6 +135,15 @@ impl Control {
                 select.same(other)
                     && all_alike(keys.as_slice(), other_keys.as_slice())
                     && same_instrs(content.as_slice(), others.as_slice())
+            }
+            (
+                Control::ForItems(select, keys, name, bindings),
+                Control::ForItems(other, other_keys, other_name, others),
+            ) => {
+                select.same(other)
+                    && all_alike(keys.as_slice(), other_keys.as_slice())
+                    && name.same(other_name)
+                    && same_bindings(bindings.as_slice(), others.as_slice())
             }
             (Control::If(test, content), Control::If(other, others)) => {
                 test.same(other) && same_instrs(content.as_slice(), others.as_slice())

@@ -12,8 +12,8 @@ use xt_text::Text;
 /// An instruction that has no content.
 #[derive(Drop)]
 pub enum WithoutContent {
-    /// A text, or an xsl:text (XSLT 1.0, section 7.2).
-    Text(Text),
+    /// A text (XSLT 1.0, section 7.2), and whether it is that of an xsl:text, which is an instruction.
+    Text(Text, bool),
     /// xsl:value-of, with what it selects (XSLT 1.0, section 7.6.1).
     ValueOf(Expr),
     /// xsl:copy-of, with what it selects (XSLT 1.0, section 11.3).
@@ -76,7 +76,7 @@ impl WithoutContent {
         ensures { Decides result (without_content_of self.now ≡ without_content_of other.now) }
     {
         match (self, other) {
-            (WithoutContent::Text(text), WithoutContent::Text(other)) => text.same(other),
+            (WithoutContent::Text(text, _), WithoutContent::Text(other, _)) => text.same(other),
             (WithoutContent::ValueOf(select), WithoutContent::ValueOf(other)) => select.same(other),
             (WithoutContent::CopyOf(select), WithoutContent::CopyOf(other)) => select.same(other),
             (WithoutContent::Number(number), WithoutContent::Number(other)) => number.same(other),

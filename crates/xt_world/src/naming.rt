@@ -115,6 +115,10 @@ fn in_control(alloc: Global, control: &Control, names: &mut Names) -> Result<(),
 {
     match control {
         Control::ForEach(_, _, content) => in_content(alloc, content.as_slice(), names),
+        Control::ForItems(_, _, name, bindings) => {
+            add_name(alloc, name, &mut names.called)?;
+            in_bindings(alloc, bindings.as_slice(), names)
+        }
         Control::If(_, content) => in_content(alloc, content.as_slice(), names),
         Control::Choose(branches) => in_branches(alloc, branches.as_slice(), names),
         Control::ApplyTemplates(_, bindings) => in_bindings(alloc, bindings.as_slice(), names),

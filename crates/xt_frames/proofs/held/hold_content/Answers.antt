@@ -25,10 +25,10 @@ returns c =
     let items = c.args.content.now.value.items in
     let some : 0 < length items = grind (arith, nat_tests, c.args.content.now.value.ok.0, c.is_empty.ensures, c.deref.ensures, c.if-is_empty.false) in
     let old = c.args.run.now in
-    let low : Run = record { room = old.room; supplies = old.supplies; waiting = old.waiting; frames = old.frames; going = c.begin.new.self } in
+    let low : Run = record { room = old.room; supplies = old.supplies; waiting = old.waiting; frames = old.frames; going = c.begin.new.self; did = old.did } in
     let p = c.push.new.run in
     let b = c.in_ok-push.ensures in
-    let mid : Run = record { room = p.room; supplies = p.supplies; waiting = p.waiting; frames = p.frames; going = c.begin.new.self } in
+    let mid : Run = record { room = p.room; supplies = p.supplies; waiting = p.waiting; frames = p.frames; going = c.begin.new.self; did = p.did } in
     let is = instrs (map instr_of items) in
     rw (some_content items some)
     (if_ok c.go_into.result c.go_into.ensures (λ next h ask.

@@ -20,6 +20,6 @@ pub returns : goal.returns
 returns c ask =
     let r = c.args.run.now in
     let h = c.args.here in
-    let mid : Run = record { room = r.room; supplies = r.supplies; waiting = r.waiting; frames = r.frames; going = c.deepen.new.self } in
+    let mid : Run = record { room = r.room; supplies = r.supplies; waiting = r.waiting; frames = r.frames; going = c.deepen.new.self; did = r.did } in
     goes_into ask r mid c.push.new.run (place_of c.args.place.now) c.args.content h (record { focus = h.focus; bindings = h.bindings; depth = h.depth + 1; ruled = h.ruled; unit = h.unit }) (omega arith) refl refl refl (h.depth + 1) (add-one h.depth) c.deepen.ensures c.in_ok-push.ensures
     (ap (λ d. record { node = h.focus.node; position = h.focus.position; size = h.focus.size; bindings = bindings_of h.bindings; depth = d; ruled = h.ruled; templates = map template_of h.unit.value.templates.items; sets = map sets_of h.unit.value.sets.items; aliases = map alias_of h.unit.value.aliases.value.items; same = same_ref }) (add-one h.depth))

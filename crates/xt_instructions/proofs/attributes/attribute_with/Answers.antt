@@ -1,4 +1,4 @@
-use Rattle.xt_frames.proofs.Items.{view-Attribute}
+use Rattle.xt_frames.proofs.Whole.{view-Attribute}
 use Rattle.xt_instructions.proofs.attributes.attribute_with.Goals as goal
 
 pub returns : goal.returns

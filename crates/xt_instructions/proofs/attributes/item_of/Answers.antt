@@ -2,7 +2,7 @@ use Rattle.std.proofs.Common.{◌≡◌, ℕ, List, ap, ◌∙◌}
 use Rattle.spec_meaning.specs.Stream as stream
 use Rattle.spec_meaning.specs.Stream.{Stream, followed, holes}
 use Rattle.xt_tree.specs.StreamView.{stream_of}
-use Rattle.xt_frames.proofs.Items.{view-Text}
+use Rattle.xt_frames.proofs.Whole.{view-Text}
 use Rattle.xt_instructions.proofs.attributes.item_of.Goals as goal
 
 -- what is made of the parts

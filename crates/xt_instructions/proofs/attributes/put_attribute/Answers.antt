@@ -24,7 +24,7 @@ returns-in_ok-push-in-Is-clause-does g c =
     let k : List ℕ → Plan NodeRef = λ t. Put (attribute_aliased (here_of b.here).aliases (literal_attribute_of c.args.attribute.now) t) (left_frame f (left_in old)) in
     let found = rw c.in-Is.is at c.in-Ok.ensures.found k in
     let one = c.expansion.new.run in
-    let mid : Run = record { room = one.room; supplies = one.supplies; waiting = one.waiting; frames = one.frames; going = c.put_item.new.going } in
+    let mid : Run = record { room = one.room; supplies = one.supplies; waiting = one.waiting; frames = one.frames; going = c.put_item.new.going; did = one.did } in
     let going = rw (c.as_slice-aliases.ensures.value, c.deref-in-Is.ensures, c.deref.ensures) at c.in_ok-put_item-in-Is.ensures in
     let does = put_does truth (attribute_aliased (here_of b.here).aliases (literal_attribute_of c.args.attribute.now) c.in-Is.text) (frames.Attributes c.advanced.result) one mid c.push.new.run refl refl refl going c.in_ok-push-in-Is.ensures in
     perform_is truth _ (λ l. Put (attribute_aliased (here_of b.here).aliases (literal_attribute_of c.args.attribute.now) c.in-Is.text) (left_frame f l)) (frames.Attributes b) old c.expansion.new.run c.push.new.run _ found.so c.expansion.ensures.still (rw c.advanced.ensures at does)

@@ -20,7 +20,7 @@ returns-clause-does g c =
     let truth = (g.W.World.state c.args.world.now).truth in
     let r = c.args.run.now in
     let b = c.args.body in
-    let mid : Run = record { room = r.room; supplies = r.supplies; waiting = r.waiting; frames = r.frames; going = c.ask.new.self } in
+    let mid : Run = record { room = r.room; supplies = r.supplies; waiting = r.waiting; frames = r.frames; going = c.ask.new.self; did = r.did } in
     let then_as : Answer NodeRef → Plan NodeRef = λ a. copied_as (place_of c.args.site.now.place) (here_of b.here) c.args.sets.now.items a (inside (place_of c.args.site.now.place) (instrs (map instr_of c.args.content.now.value.items)) (here_of b.here)) (after_body b (left_in r)) in
     if_ok c.copy_as-next.result c.copy_as-next.ensures.does (λ next h.
     let P : Answer NodeRef → Type 0 = λ a. Does truth (then_as a) (suc (length r.frames.items)) mid c.copy_as-next.new.run next in

@@ -24,8 +24,8 @@ returns-clause-does g c =
     let truth = (g.W.World.state c.args.world.now).truth in
     let r = c.args.run.now in
     let b = c.args.body in
-    let mid : Run = record { room = r.room; supplies = r.supplies; waiting = r.waiting; frames = r.frames; going = c.ask.new.self } in
-    let low : Run = record { room = r.room; supplies = r.supplies; waiting = r.waiting; frames = r.frames; going = c.read_namespaces.new.going } in
+    let mid : Run = record { room = r.room; supplies = r.supplies; waiting = r.waiting; frames = r.frames; going = c.ask.new.self; did = r.did } in
+    let low : Run = record { room = r.room; supplies = r.supplies; waiting = r.waiting; frames = r.frames; going = c.read_namespaces.new.going; did = r.did } in
     let a = answer_of c.args.called.now in
     let after = after_body b (left_in r) in
     let content = inside (place_of c.args.site.now.place) (instrs (map instr_of c.args.content.now.value.items)) (here_of b.here) in

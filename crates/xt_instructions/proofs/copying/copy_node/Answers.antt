@@ -9,5 +9,5 @@ pub returns-clause-does : goal.returns-clause-does
 returns-clause-does g c =
     let truth = (g.W.World.state c.args.world.now).truth in
     let one = c.push.new.run in
-    let new : Run = record { room = one.room; supplies = one.supplies; waiting = one.waiting; frames = one.frames; going = c.ask_copy.new.going } in
+    let new : Run = record { room = one.room; supplies = one.supplies; waiting = one.waiting; frames = one.frames; going = c.ask_copy.new.going; did = one.did } in
     asked_behind truth (Copy c.args.body.here.focus.node) stream_in c.args.body c.advanced.result c.args.run.now one new c.advanced.ensures c.in_ok-push.ensures refl refl refl c.in_ok-ask_copy.ensures.put

@@ -17,7 +17,7 @@ returns-clause-does g c =
     let r = c.args.run.now in
     let b = c.args.body in
     let rule = c.args.rule in
-    let mid : Run = record { room = r.room; supplies = r.supplies; waiting = r.waiting; frames = r.frames; going = c.imported.new.going } in
+    let mid : Run = record { room = r.room; supplies = r.supplies; waiting = r.waiting; frames = r.frames; going = c.imported.new.going; did = r.did } in
     let entered : Answer NodeRef → Plan NodeRef = λ a. Enter (imported_call (site_of c.args.site.now) (here_of b.here) rule.mode a) b.here.depth (after_body b (left_in r)) in
     if_ok c.want.result c.want.ensures (λ next h.
     inquired truth (Choice b.here.focus.node rule.mode (Imported rule.first rule.last)) entered _ r mid c.want.new.run next c.in-Ok.ensures.going refl refl

@@ -1,4 +1,4 @@
-use Rattle.xt_frames.proofs.Items.{view-Empty}
+use Rattle.xt_frames.proofs.Whole.{view-Empty}
 use Rattle.xt_frames.proofs.Lefts.{if_ok}
 use Rattle.xt_instructions.proofs.imports.imported.Goals as goal
 

@@ -11,7 +11,7 @@ use Rattle.xt_frames.specs.declared.frame.Frame.TheVariants as frames
 use Rattle.xt_frames.specs.declared.run.Next.TheVariants.{Went}
 use Rattle.xt_frames.specs.View.{here_of, passed_to}
 use Rattle.xt_frames.specs.Left.{left_in, Does}
-use Rattle.xt_frames.proofs.Items.{view-Empty}
+use Rattle.xt_frames.proofs.Whole.{view-Empty}
 use Rattle.xt_instructions.proofs.Into.{frame_more}
 use Rattle.xt_instructions.proofs.variables.pass.Goals as goal
 

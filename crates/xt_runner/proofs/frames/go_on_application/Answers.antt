@@ -29,7 +29,7 @@ returns-clause-does g c =
     let none : NodeRef = record { node = record { number = 0 }; part = Itself } in
     let n = get_or a.nodes.items a.next none in
     let j : Application = record { place = a.place; mode = a.mode; parameters = a.parameters; nodes = a.nodes; next = a.next + 1; depth = a.depth } in
-    let mid : Run = record { room = r.room; supplies = r.supplies; waiting = r.waiting; frames = r.frames; going = c.next_call.new.going } in
+    let mid : Run = record { room = r.room; supplies = r.supplies; waiting = r.waiting; frames = r.frames; going = c.next_call.new.going; did = r.did } in
     if_ok c.want.result c.want.ensures (λ next h.
     from_same truth (frames.Application a) _ r c.want.new.run next (application_next a none (left_in r) (omega (arith, e)))
     (inquired truth (Choice n a.mode AllRules) (entered_then a n (a.next + 1) (left_frame (frames.Application j) (left_in r))) _ r mid c.want.new.run next (rw slice at c.in-Ok.ensures.noted) refl refl

@@ -26,6 +26,6 @@ returns-clause-does g c =
     let none : NodeRef = record { node = record { number = 0 }; part = Itself } in
     let n = get_or a.nodes.items a.next none in
     let j : Copies = record { nodes = a.nodes; next = a.next + 1 } in
-    let mid : Run = record { room = r.room; supplies = r.supplies; waiting = r.waiting; frames = r.frames; going = c.write_copy.new.going } in
+    let mid : Run = record { room = r.room; supplies = r.supplies; waiting = r.waiting; frames = r.frames; going = c.write_copy.new.going; did = r.did } in
     from_same truth (frames.Copies a) _ r c.push.new.run Went (copies_next a none (left_in r) (omega (arith, e)))
     (copied_does truth n (frames.Copies j) r mid c.push.new.run refl refl refl (rw slice at c.in_ok-write_copy.ensures.written) c.in_ok-push.ensures)

@@ -1,6 +1,7 @@
 use Rattle.std.proofs.Common.{ap, sym, ◌∙◌}
 use Rattle.xt_questions.specs.View.{bindings_of}
 use Rattle.xt_frames.specs.declared.frame.Application.{Application}
+use Rattle.xt_frames.specs.declared.frame.Items.{Items}
 use Rattle.xt_frames.specs.declared.frame.Passing.{Passing}
 use Rattle.xt_frames.specs.declared.frame.Passing.TheVariants as passings
 use Rattle.xt_frames.specs.View.{passed_to}
@@ -22,6 +23,13 @@ returns-in-Sorted-clause-does g c =
     let with = ap (λ (a : Application). passed_to (passings.Sorted c.in-Sorted.keys c.in-Sorted.here a) (bindings_of a.parameters) after) c.with_parameters-left-in-Sorted.ensures in
     let whole = ap (λ (t : Passing). passed_to t (bindings_of c.args.parameters) after) c.in-Sorted.is in
     if_ok c.sort.result c.sort.ensures.does (λ next h. steps_as (with ∙ sym whole) h)
+
+pub returns-in-Items-clause-does : goal.returns-in-Items-clause-does
+returns-in-Items-clause-does g c =
+    let after = left_in c.args.run.now in
+    let with = ap (λ (i : Items). passed_to (passings.Items c.in-Items.keys c.in-Items.here i) (bindings_of i.parameters) after) c.items_with-left.ensures in
+    let whole = ap (λ (t : Passing). passed_to t (bindings_of c.args.parameters) after) c.in-Items.is in
+    if_ok c.sort_items.result c.sort_items.ensures.does (λ next h. steps_as (with ∙ sym whole) h)
 
 pub returns-in-Template-clause-does : goal.returns-in-Template-clause-does
 returns-in-Template-clause-does g c =

@@ -19,7 +19,7 @@ pub returns-in-Some-clause-does : goal.returns-in-Some-clause-does
 returns-in-Some-clause-does g c =
     let truth = (g.W.World.state c.args.world.now).truth in
     let r = c.args.run.now in
-    let mid : Run = record { room = r.room; supplies = r.supplies; waiting = r.waiting; frames = r.frames; going = c.ask.new.self } in
+    let mid : Run = record { room = r.room; supplies = r.supplies; waiting = r.waiting; frames = r.frames; going = c.ask.new.self; did = r.did } in
     let own = held (global_of c.args.global.now).binding (here_of c.args.here) in
     let later : Answer NodeRef → Plan NodeRef = λ a. unless_given a own in
     let named = c.in_ok-name.ensures ∙ c.local.ensures ∙ ap (λ (n : Expanded). n.local) (name_is c.args.global.now.binding) in
@@ -32,7 +32,7 @@ pub returns-in-None-clause-does : goal.returns-in-None-clause-does
 returns-in-None-clause-does g c =
     let truth = (g.W.World.state c.args.world.now).truth in
     let r = c.args.run.now in
-    let mid : Run = record { room = r.room; supplies = r.supplies; waiting = r.waiting; frames = r.frames; going = c.ask.new.self } in
+    let mid : Run = record { room = r.room; supplies = r.supplies; waiting = r.waiting; frames = r.frames; going = c.ask.new.self; did = r.did } in
     let own = held (global_of c.args.global.now).binding (here_of c.args.here) in
     let later : Answer NodeRef → Plan NodeRef = λ a. unless_given a own in
     let named = c.in_ok-name.ensures ∙ c.local.ensures ∙ ap (λ (n : Expanded). n.local) (name_is c.args.global.now.binding) in

@@ -13,6 +13,9 @@ returns-in-Inside-clause-does g c = steps_of c.args.run.now c.go_on_inside.new.r
 pub returns-in-Loop-clause-does : goal.returns-in-Loop-clause-does
 returns-in-Loop-clause-does g c = steps_of c.args.run.now c.go_on_loop.new.run (g.W.World.state c.args.world.now).truth c.go_on_loop.result c.in-Loop.is c.go_on_loop.ensures
 
+pub returns-in-Items-clause-does : goal.returns-in-Items-clause-does
+returns-in-Items-clause-does g c = steps_of c.args.run.now c.go_on_items.new.run (g.W.World.state c.args.world.now).truth c.go_on_items.result c.in-Items.is c.go_on_items.ensures
+
 pub returns-in-Take-clause-does : goal.returns-in-Take-clause-does
 returns-in-Take-clause-does g c = steps_of c.args.run.now c.take_held.new.run (g.W.World.state c.args.world.now).truth c.take_held.result c.in-Take.is c.take_held.ensures
 
