@@ -1,0 +1,4 @@
+pub mod Names
+pub mod Loops
+pub mod Parameters
+pub mod Left
