@@ -39,7 +39,7 @@ for line in sys.stdin:
     elif word in ('dump', *shown):
         print('\n'.join([*(shown.get(word) or held[last]), '.']), flush=True)
     else:
-        print('ran 1 asked 23' if word == 'stats' else replies.get(last, 'ok done'), flush=True)
+        print('ran 1 asked 23 did 2' if word == 'stats' else replies.get(last, 'ok done'), flush=True)
 '''
 
 
@@ -84,13 +84,13 @@ class Served(unittest.TestCase):
         answer = self.ask('open')
         held = [(document['name'], document['file'], document['lines'][0]) for document in answer['documents']]
         self.assertEqual(held, [('source', 'books.xml', '(a'), ('main', 'books.xsl', '(xsl:stylesheet')])
-        self.assertEqual((answer['number'], answer['counts'], answer['messages']), (0, ['ran 1 asked 23'], ['said\n']))
+        self.assertEqual((answer['number'], answer['counts'], answer['messages']), (0, ['ran 1 asked 23 did 2'], ['said\n']))
         self.assertEqual((answer['result'], answer['refusal']), ({'lines': ['(out', ')out'], 'text': None}, None))
 
     def test_an_edit(self):
         answer = self.edit(0, 'text', 'source', '/1/1', 'a\nb')
         self.assertEqual((answer['command'], answer['reply']), ('text source /1/1 a\\nb', 'ok done'))
-        self.assertEqual((answer['number'], answer['counts']), (1, ['ran 1 asked 23']))
+        self.assertEqual((answer['number'], answer['counts']), (1, ['ran 1 asked 23 did 2']))
         self.assertGreater(answer['milliseconds'], 0)
 
     def test_what_is_inserted(self):

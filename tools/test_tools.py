@@ -140,30 +140,24 @@ pub fn made(
         self.file('crates/a.rt', self.SOURCE)
         return list(tool('check-architecture').model_differences(f'\n| {row} | what it shows |\n', self.folder))
 
-    def test_signature(self):
-        self.assertEqual(self.told('`A::made`, `crates/a.rt:6`'), [])
+    def test_right(self):
+        for row in ('`A::made`, `crates/a.rt:6`', '`made`, `crates/a.rt:10`'):
+            with self.subTest(row):
+                self.assertEqual(self.told(row), [])
 
-    def test_first_clause(self):
-        self.assertEqual(self.told('`made`, `crates/a.rt:10`'), [])
+    # The row, and what is said of it: it has moved, it is the clause of another, it has no line, no function, and is no model.
+    WRONG = [
+        ('`made`, `crates/a.rt:11`', 'made is at line 6 or 10 of crates/a.rt, and CONTRIBUTING.md says 11'),
+        ('`other`, `crates/a.rt:10`', 'other is at line 1 or 2 of crates/a.rt, and CONTRIBUTING.md says 10'),
+        ('`made`, `crates/a.rt`', 'made is at line 6 or 10 of crates/a.rt, and CONTRIBUTING.md says none'),
+        ('`mad`, `crates/a.rt:6`', 'crates/a.rt has no function mad, which CONTRIBUTING.md has as a model'),
+        ('made, `crates/a.rt:6`', 'CONTRIBUTING.md has no model of a clause'),
+    ]
 
-    def test_moved(self):
-        self.assertEqual(self.told('`made`, `crates/a.rt:11`'),
-                         ['made is at line 6 or 10 of crates/a.rt, and CONTRIBUTING.md says 11'])
-
-    def test_clause_of_another(self):
-        self.assertEqual(self.told('`other`, `crates/a.rt:10`'),
-                         ['other is at line 1 or 2 of crates/a.rt, and CONTRIBUTING.md says 10'])
-
-    def test_no_line(self):
-        self.assertEqual(self.told('`made`, `crates/a.rt`'),
-                         ['made is at line 6 or 10 of crates/a.rt, and CONTRIBUTING.md says none'])
-
-    def test_no_function(self):
-        self.assertEqual(self.told('`mad`, `crates/a.rt:6`'),
-                         ['crates/a.rt has no function mad, which CONTRIBUTING.md has as a model'])
-
-    def test_no_model(self):
-        self.assertEqual(self.told('made, `crates/a.rt:6`'), ['CONTRIBUTING.md has no model of a clause'])
+    def test_wrong(self):
+        for row, said in self.WRONG:
+            with self.subTest(row):
+                self.assertEqual(self.told(row), [said])
 
 
 class IsCurrent(Folder):

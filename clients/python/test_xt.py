@@ -345,7 +345,7 @@ class Replies(unittest.TestCase):
         return reply
 
     def test_one_line(self):
-        for line in ('ok done', 'ok refused S10 main/1/2', 'no 6', 'refused S02 -', 'ran 3 asked 12'):
+        for line in ('ok done', 'ok refused S10 main/1/2', 'no 6', 'refused S02 -', 'ran 3 asked 12 did 7'):
             self.assertEqual(self.read(line.encode() + b'\n')[1:], (line, None, None))
 
     def test_lines(self):
@@ -507,7 +507,7 @@ class Sessions(Folder):
 
     def test_counts(self):
         with xt.Session() as session:
-            self.assertEqual(session.stats(), (0, 0))
+            self.assertEqual(session.stats(), (0, 0, 0))
         session = self.session()
         self.assertGreater(session.stats().ran, 0)
         with self.assertRaises(ValueError):

@@ -601,9 +601,11 @@ class Reply(NamedTuple):
 
 
 class Counts(NamedTuple):
-    """What a change has cost: how many instantiations were run, and how many kept reads were asked again."""
+    """What a change has cost: how many instantiations were run, how many kept reads were asked again, and how many
+    instructions and literal result elements were run."""
     ran: int
     asked: int
+    did: int
 
 
 def read_line(stream):

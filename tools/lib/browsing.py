@@ -137,7 +137,7 @@ def edit_differences(walk):
     walk.replace('source', '/1/4/2/1', 0, '12')
     yield from walk.result_differences('a text', 'ok done', '<ul><li id="b1">Sky</li><li id="b2">Sea</li></ul>')
     cost = walk.browser.value(COST)
-    if not re.fullmatch(r'\d+\.\d ms ran \d+ asked \d+', cost):
+    if not re.fullmatch(r'\d+\.\d ms ran \d+ asked \d+ did \d+', cost):
         yield f'examples/browser does not tell what an edit has cost, but {cost!r}'
     walk.browser.value(f"select({node('source', '/1/4')})")
     walk.press('b')

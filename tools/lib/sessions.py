@@ -46,7 +46,7 @@ PENDING = b'ok pending\n'
 DROPPED = b'ok dropped\n'
 REFUSED = re.compile(rb'refused ' + REFUSAL + rb'\n')
 TEXT = re.compile(rb'text (0|[1-9][0-9]*)\n')
-COUNTS = re.compile(rb'ran (0|[1-9][0-9]*) asked (0|[1-9][0-9]*)\n')
+COUNTS = re.compile(rb'ran (0|[1-9][0-9]*) asked (0|[1-9][0-9]*) did (0|[1-9][0-9]*)\n')
 
 # A character that XML does not have, and what stands unescaped or as no escape in a line that was written.
 NO_XML = re.compile('[^\t\n\r\x20-\uD7FF\uE000-\uFFFD\U00010000-\U0010FFFF]')

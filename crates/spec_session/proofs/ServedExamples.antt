@@ -10,7 +10,7 @@ use Rattle.spec_session.specs.Command.{session_of, status_of}
 use Rattle.spec_session.specs.Reply.{OkPending, OkDropped, Refused, Counted, No}
 use Rattle.spec_run.specs.Documents.{no_documents}
 use Rattle.spec_run.specs.Outcome.{Failed, no_main}
-use Rattle.spec_session.specs.Machine.{State, initial}
+use Rattle.spec_session.specs.Machine.{State, TellsNumbers, initial}
 use Rattle.spec_session.specs.Served.{AreReplies, IsServed, IsCutShort, Serves}
 
 -- where the source goes on after the bytes that may be taken, the status is 5, but for a session that `quit` has ended
@@ -37,16 +37,28 @@ show_is_answered = record {
 }
 
 -- the counts at the start, where nothing was run
-counts_are_answered : AreReplies (session_of (codes "stats" ∷ [])).commands (codes "ran 0 asked 0\n")
+zeros_are_told : TellsNumbers (Failed no_main []) (Counted 0 0 0)
+zeros_are_told = record {
+  ran = 0;
+  asked = 0;
+  did = 0;
+  ran_fits = lit< tt;
+  asked_fits = lit< tt;
+  did_fits = lit< tt;
+  free = (refl, refl, refl);
+  is = refl;
+}
+
+counts_are_answered : AreReplies (session_of (codes "stats" ∷ [])).commands (codes "ran 0 asked 0 did 0\n")
 unfolding chars is_utf8 encode digits
 counts_are_answered = record {
-  replies = Counted 0 0 ∷ [];
+  replies = Counted 0 0 0 ∷ [];
   state = initial;
-  run = (initial, inl ((Failed no_main [], refl, record { ran = 0; asked = 0; ran_fits = lit< tt; asked_fits = lit< tt; free = (refl, refl); is = refl }), refl), refl);
+  run = (initial, inl ((Failed no_main [], refl, zeros_are_told), refl), refl);
   bytes = refl;
 }
 
-pub counts_answered : IsServed 100 (codes "stats\n") 0 (codes "ran 0 asked 0\n")
+pub counts_answered : IsServed 100 (codes "stats\n") 0 (codes "ran 0 asked 0 did 0\n")
 counts_answered = record { answered = counts_are_answered; ends = refl }
 
 -- a batch of no change is opened and dropped, and then there is none

@@ -27,7 +27,7 @@ number_in OkDropped = 0
 number_in (Refused why) = 0
 number_in (Shown lines) = 0
 number_in (Written text) = 0
-number_in (Counted ran asked) = 0
+number_in (Counted ran asked did) = 0
 
 -- what is given and is not for want of memory: it cannot be that nothing is
 abbrev pub HasReply : State → Answer → Type 0
@@ -91,17 +91,26 @@ written_differs : (o : Outcome) → written_reply o ≢ No 1
 written_differs (Done result m messages) = by_differs m result
 written_differs (Failed why messages) = λ h. cc
 
--- both numbers may be 0 in any case
-free_at : (code : Code) → IsFreeAt code 0 0
-free_at (Static code) = (refl, refl)
+-- all three numbers may be 0 in any case
+free_at : (code : Code) → IsFreeAt code 0 0 0
+free_at (Static code) = (refl, refl, refl)
 free_at (Dynamic code) = tt
 
-free_for : (o : Outcome) → IsFreeFor o 0 0
+free_for : (o : Outcome) → IsFreeFor o 0 0 0
 free_for (Done result m messages) = tt
 free_for (Failed why messages) = free_at why.code
 
-none_told : (o : Outcome) → TellsNumbers o (Counted 0 0)
-none_told o = record { ran = 0; asked = 0; ran_fits = lit< tt; asked_fits = lit< tt; free = free_for o; is = refl }
+none_told : (o : Outcome) → TellsNumbers o (Counted 0 0 0)
+none_told o = record {
+  ran = 0;
+  asked = 0;
+  did = 0;
+  ran_fits = lit< tt;
+  asked_fits = lit< tt;
+  did_fits = lit< tt;
+  free = free_for o;
+  is = refl;
+}
 
 pub gives : NoWant → (old : State) → HasFinite old → (answer : Answer) → IsOther answer → HasReply old answer
 unfolding number_in
@@ -119,7 +128,7 @@ gives some old finite ShowsMessages h none =
 gives some old finite (ShowsDocument tree) h none = none (Shown _, old, (refl, refl), λ e. cc)
 gives some old finite TellsCounts h none =
     some old.documents finite.present.names finite.present.all
-    (λ o. none (Counted 0 0, old, ((o.0, o.1, none_told o.0), refl), λ e. cc))
+    (λ o. none (Counted 0 0 0, old, ((o.0, o.1, none_told o.0), refl), λ e. cc))
 
 -- what one answer gives is one state, and one reply but for the counts
 one_state : (old : State) (answer : Answer) (reply other : Reply) (new another : State) → Gives old answer reply new → Gives old answer other another

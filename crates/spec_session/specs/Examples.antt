@@ -454,11 +454,11 @@ pub written : reply_bytes (Written (codes "a\nb" ++ 0xE9 ∷ [])) ≡ codes "tex
 unfolding encode digits
 written = refl
 
-pub counted : reply_bytes (Counted 12 304) ≡ codes "ran 12 asked 304\n"
+pub counted : reply_bytes (Counted 12 304 95) ≡ codes "ran 12 asked 304 did 95\n"
 unfolding encode digits
 counted = refl
 
-pub counted_at_start : reply_bytes (Counted 0 0) ≡ codes "ran 0 asked 0\n"
+pub counted_at_start : reply_bytes (Counted 0 0 0) ≡ codes "ran 0 asked 0 did 0\n"
 unfolding encode digits
 counted_at_start = refl
 

@@ -178,24 +178,26 @@ messages_in (Failed why messages) = messages
 abbrev pub messages_reply : Outcome → Reply
 messages_reply outcome = Shown (map (λ text. line_of (Data text)) (messages_in outcome))
 
--- without a stylesheet or without a source nothing is run, and nothing asked
-abbrev pub IsFreeAt : Code → (ran asked : ℕ) → Type 0
-IsFreeAt (Static code) ran asked = (ran ≡ 0) × (asked ≡ 0)
-IsFreeAt (Dynamic code) ran asked = Unit {0}
+-- without a stylesheet or without a source nothing is run, nothing asked, and nothing done
+abbrev pub IsFreeAt : Code → (ran asked did : ℕ) → Type 0
+IsFreeAt (Static code) ran asked did = (ran ≡ 0) × (asked ≡ 0) × (did ≡ 0)
+IsFreeAt (Dynamic code) ran asked did = Unit {0}
 
-abbrev pub IsFreeFor : Outcome → (ran asked : ℕ) → Type 0
-IsFreeFor (Done result method messages) ran asked = Unit {0}
-IsFreeFor (Failed why messages) ran asked = IsFreeAt why.code ran asked
+abbrev pub IsFreeFor : Outcome → (ran asked did : ℕ) → Type 0
+IsFreeFor (Done result method messages) ran asked did = Unit {0}
+IsFreeFor (Failed why messages) ran asked did = IsFreeAt why.code ran asked did
 
--- With this outcome the reply tells two numbers of 64 bits, which are 0 where nothing was run. Where something was, any two are allowed for now: nothing
--- is said here of what was run or asked
+-- With this outcome the reply tells three numbers of 64 bits, which are 0 where nothing was run. Where something was, any three are allowed for now:
+-- nothing is said here of what was run, asked or done
 pub record TellsNumbers (outcome : Outcome) (reply : Reply) : Type 0 where
   pub ran : ℕ
   pub asked : ℕ
+  pub did : ℕ
   pub ran_fits : ran < 2 ^ 64
   pub asked_fits : asked < 2 ^ 64
-  pub free : IsFreeFor outcome ran asked
-  pub is : reply ≡ Counted ran asked
+  pub did_fits : did < 2 ^ 64
+  pub free : IsFreeFor outcome ran asked did
+  pub is : reply ≡ Counted ran asked did
 
 -- from old, with this answer, the machine gives this reply and goes on to new
 abbrev pub Gives : State → Answer → Reply → State → Type 0

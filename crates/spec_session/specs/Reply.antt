@@ -20,8 +20,8 @@ pub data Reply : Type 0 where
   Shown : (lines : List Line) → Reply
   -- the text of a result
   Written : (text : List ℕ) → Reply
-  -- how many instantiations were run, and how many reads were asked again
-  Counted : (ran asked : ℕ) → Reply
+  -- how many instantiations were run, how many reads were asked again, and how many instructions were done
+  Counted : (ran asked did : ℕ) → Reply
   -- to a refused command
   No : (number : ℕ) → Reply
 
@@ -44,7 +44,7 @@ reply_lines OkDropped = codes "ok dropped" ∷ []
 reply_lines (Refused why) = (codes "refused " ++ refusal_text why) ∷ []
 reply_lines (Shown lines) = lines ++ codes "." ∷ []
 reply_lines (Written text) = (codes "text " ++ decimal (length (encode_utf8_all text))) ∷ text ∷ []
-reply_lines (Counted ran asked) = (codes "ran " ++ decimal ran ++ codes " asked " ++ decimal asked) ∷ []
+reply_lines (Counted ran asked did) = (codes "ran " ++ decimal ran ++ codes " asked " ++ decimal asked ++ codes " did " ++ decimal did) ∷ []
 reply_lines (No number) = (codes "no " ++ decimal number) ∷ []
 
 -- each line ends with an LF

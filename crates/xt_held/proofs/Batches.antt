@@ -80,7 +80,7 @@ module _ (held : Held) (batch : Batch) (none : held.batch ≡ None) (h : IsCopyO
     documents = refl;
     made = refl;
     outcome = refl;
-    steps = refl;
+    counts = refl;
   }
 
   copied_told : IsCurrent held → IsToldOn (outcome_in held) held.compiled (present_basis (opened batch held))
@@ -138,7 +138,7 @@ module _ (held : Held) (batch : Batch) (some : held.batch ≡ Some batch) (now :
     pending = refl;
     made = refl;
     outcome = refl;
-    steps = refl;
+    counts = refl;
   }
 
   pub abandoned_current : IsCurrent (left_behind batch held)

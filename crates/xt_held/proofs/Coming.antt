@@ -22,6 +22,7 @@ use Rattle.spec_run.specs.Meaning.{Setting, run_of}
 use Rattle.spec_run.specs.Outcome as spec
 use Rattle.spec_run.specs.Outcome.{Comes, document_of, outcome_by, refused_static, no_main, no_source}
 use Rattle.spec_run.specs.World.{setting_of}
+use Rattle.spec_items.specs.Liftable.{with_items}
 use Rattle.xt_tree.specs.Numbers.{IsNumbered}
 use Rattle.spec_node.specs.declared.node_ref.NodeRef.{NodeRef}
 use Rattle.spec_node.specs.Naming.{same_ref}
@@ -43,8 +44,8 @@ use Rattle.xt_record.specs.declared.pool.Pool.{Pool}
 use Rattle.xt_record.specs.declared.reuse.Reuse.{Reuse}
 use Rattle.xt_own.specs.View.{OwnDecides}
 use Rattle.xt_held.specs.RunView.{Ask, HoldsWith}
-use Rattle.xt_held.specs.OutcomeView.{Fits, IsFreeFor, is_done, no_steps, outcome_of, plain_in}
-use Rattle.xt_held.specs.StylesheetView.{AnswersAs, AreCompiled, AreCompiledBy, Holds, IsCompiledFrom, IsThere}
+use Rattle.xt_held.specs.OutcomeView.{Fits, IsFreeFor, is_done, no_counts, outcome_of, plain_in}
+use Rattle.xt_held.specs.StylesheetView.{AnswersAs, AreCompiled, AreCompiledBy, Holds, IsCompiledFrom, IsThere, RunsAs}
 use Rattle.xt_held.specs.declared.outcome.Came.{Came}
 use Rattle.xt_held.specs.declared.last_run.Kept.{Kept}
 use Rattle.xt_held.specs.declared.outcome.Over.{Over}
@@ -98,17 +99,37 @@ refused_so modules parameters main source compiled why r e told h =
     let holds : h.result ≡ Err (refusal_in why) = subst (λ (c : Compiled). Holds c h.result) e h.holds in
     IfOk-weaker r _ _ (λ o is. (h.result, h.is, is ∙ sym (ap (spec.outcome_of parameters source) holds))) told
 
-pub runs_so : (modules : Modules) (parameters : Parameters) (main source : Plain) (compiled : Compiled) (held : world.Stylesheet) (rules : SpaceRules)
+-- ---- With the contents of each xsl:for-each in a template of its own
+
+-- no outcome tells that stylesheet from the one that was compiled
+abbrev pub Lifting : Type 0
+Lifting = (sheet : plain_sheet.Sheet) (parameters : Parameters) (source : Plain)
+    → spec.outcome_of parameters source (Ok (with_items sheet)) ≡ spec.outcome_of parameters source (Ok sheet)
+
+runs_lifted : (sheet : plain_sheet.Sheet) (compiled : Compiled) → RunsAs compiled (with_items sheet) → Holds compiled (Ok sheet)
+runs_lifted sheet (Stylesheet held rules method) h = (sheet, refl, h.0, h.1, h.2)
+runs_lifted sheet (Refused why) h = absurd h
+
+pub holds_lifted : (sheet other : plain_sheet.Sheet) (r : Result Compiled Memory) → other ≡ with_items sheet → IfOk r (λ compiled. RunsAs compiled other)
+    → IfOk r (λ compiled. Holds compiled (Ok sheet))
+holds_lifted sheet other r is h =
+    IfOk-weaker r _ _ (λ compiled runs. runs_lifted sheet compiled (subst (λ (s : plain_sheet.Sheet). RunsAs compiled s) is runs)) h
+
+pub runs_so : Lifting → (modules : Modules) (parameters : Parameters) (main source : Plain) (compiled : Compiled) (held : world.Stylesheet) (rules : SpaceRules)
     (method copy : Option (Method Expanded)) (whole : means.Whole) (r : Result Came Memory) → compiled ≡ Stylesheet held rules method → copy ≡ method
     → ((sheet : plain_sheet.Sheet) → AnswersAs held sheet → space_rules_of rules ≡ sheet.space_rules
     → whole ≡ run_of (setting_of sheet parameters (seen sheet.space_rules.rules (document_of source))))
     → IfOk r (λ o. outcome_of o.outcome ≡ outcome_by copy whole) → IsCompiledFrom modules compiled
     → IfOk r (λ o. Comes modules parameters (Some main) (Some source) (outcome_of o.outcome))
-runs_so modules parameters main source compiled held rules method copy whole r e same ran told h =
+runs_so lifting modules parameters main source compiled held rules method copy whole r e same ran told h =
     let holds : Holds (Stylesheet held rules method) h.result = subst (λ (c : Compiled). Holds c h.result) e h.holds in
-    let is_whole = ran holds.0 holds.2 holds.3 in
-    IfOk-weaker r _ _ (λ o is.
-    (h.result, h.is, is ∙ (λ i. outcome_by ((same ∙ holds.4) i) (is_whole i)) ∙ sym (ap (spec.outcome_of parameters source) holds.1))) told
+    let is_whole = ran (with_items holds.0) holds.2 holds.3 in
+    IfOk-weaker r _ _ (λ o is. (
+      h.result,
+      h.is,
+      is ∙ (λ i. outcome_by ((same ∙ holds.4) i) (is_whole i)) ∙ lifting holds.0 parameters source
+          ∙ sym (ap (spec.outcome_of parameters source) holds.1),
+    )) told
 
 -- ---- What the run sees of the source
 
@@ -223,10 +244,10 @@ none_kept r P told = IfOk-weaker r _ _ (λ came is. subst (λ (kept : Option Kep
 -- ---- Where nothing is run
 
 pub fits_unrun : (came : Came) (refusal : StaticCode) (place : Place) (messages : List (List ℕ))
-    → outcome_of came.outcome ≡ spec.Failed (record { code = codes.Static refusal; place = place }) messages → came.kept ≡ None → came.steps ≡ no_steps → Fits came
-fits_unrun came refusal place messages is kept steps = record {
+    → outcome_of came.outcome ≡ spec.Failed (record { code = codes.Static refusal; place = place }) messages → came.kept ≡ None → came.counts ≡ no_counts → Fits came
+fits_unrun came refusal place messages is kept counts = record {
   kept = ap is_some kept ∙ sym (ap is_done is);
-  steps = subst (λ (outcome : spec.Outcome). IsFreeFor outcome came.steps) (sym is) steps;
+  counts = subst (λ (outcome : spec.Outcome). IsFreeFor outcome came.counts) (sym is) counts;
 }
 
 -- ---- Modules with another among them

@@ -32,7 +32,7 @@ reordered held parameters same = record {
   parameters = same;
   made = refl;
   outcome = refl;
-  steps = refl;
+  counts = refl;
   last = refl;
   batch = refl;
 }

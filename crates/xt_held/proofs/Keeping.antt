@@ -19,12 +19,12 @@ use Rattle.xt_world.specs.ParameterView.{parameters_of}
 use Rattle.xt_world.proofs.Keys.{lookup-insert}
 use Rattle.xt_touch.specs.View.{since_of}
 use Rattle.xt_touch.specs.declared.since.Since.{Since}
-use Rattle.xt_record.specs.declared.reuse.Steps.{Steps}
+use Rattle.xt_held.specs.declared.counts.Counts.{Counts}
 use Rattle.xt_held.specs.OutcomeView.{IsFreeFor}
 use Rattle.xt_held.specs.RunView.{KeptSpared, LastHolds, LastServes, last_known}
 use Rattle.xt_held.specs.StylesheetView.{AreCompiled}
 use Rattle.xt_held.specs.Tried.{AreSame}
-use Rattle.xt_held.specs.View.{AreAllBelow, Basis, HasBelow, IsBatchOf, IsCurrent, IsKept, document_named, documents_of, edited_basis, last_in, made_of, numbered_document, outcome_in, pending_of, present_basis, present_by, steps_in}
+use Rattle.xt_held.specs.View.{AreAllBelow, Basis, HasBelow, IsBatchOf, IsCurrent, IsKept, document_named, documents_of, edited_basis, last_in, made_of, numbered_document, outcome_in, pending_of, present_basis, present_by, counts_in}
 use Rattle.xt_held.specs.declared.batch.Batch.{Batch}
 use Rattle.xt_held.specs.declared.held.Held.{Held}
 use Rattle.xt_held.specs.declared.last_run.LastRun.{LastRun}
@@ -92,14 +92,14 @@ same_told outcome now compiled kept basis other o k b h =
 -- what is told of what is present, and what is known of what is pending
 pub current_by : (held : Held) → IsToldOn (outcome_in held) held.compiled (present_basis held) → HasBelow (made_of held) held
     → LastServes held.compiled (parameters_of held.parameters) held.source held.last
-    → IfSome held.batch (IsBatchOf (made_of held) (documents_of held).modules) → IsFreeFor (outcome_in held) (steps_in held) → IsCurrent held
+    → IfSome held.batch (IsBatchOf (made_of held) (documents_of held).modules) → IsFreeFor (outcome_in held) (counts_in held) → IsCurrent held
 current_by held told below serves batch free =
     record { outcome = told.outcome; compiled = told.compiled; below = below; last = told.last; serves = serves; batch = batch; free = free }
 
 -- what is told and what it took are the same
-pub same_free : (outcome now : spec.Outcome) (steps took : Steps) → now ≡ outcome → took ≡ steps → IsFreeFor outcome steps → IsFreeFor now took
-same_free outcome now steps took o s h =
-    subst (λ (x : spec.Outcome). IsFreeFor x took) (sym o) (subst (λ (x : Steps). IsFreeFor outcome x) (sym s) h)
+pub same_free : (outcome now : spec.Outcome) (counts took : Counts) → now ≡ outcome → took ≡ counts → IsFreeFor outcome counts → IsFreeFor now took
+same_free outcome now counts took o s h =
+    subst (λ (x : spec.Outcome). IsFreeFor x took) (sym o) (subst (λ (x : Counts). IsFreeFor outcome x) (sym s) h)
 
 -- ---- What is kept
 
@@ -111,7 +111,7 @@ pub record IsReordered (old new : Held) : Type 0 where
   pub parameters : parameters_of new.parameters ≡ parameters_of old.parameters
   pub made : made_of new ≡ made_of old
   pub outcome : outcome_in new ≡ outcome_in old
-  pub steps : steps_in new ≡ steps_in old
+  pub counts : counts_in new ≡ counts_in old
   pub last : last_in new ≡ last_in old
   pub batch : new.batch ≡ old.batch
 
@@ -150,7 +150,7 @@ module _ (old new : Held) (h : IsReordered old new) where
       (still_below now.below)
       (same_serves new.compiled old.compiled (parameters_of new.parameters) (parameters_of old.parameters) new.source old.source new.last old.last h.compiled
       h.parameters h.source h.last now.serves) (still_batch now.batch)
-      (same_free (outcome_in old) (outcome_in new) (steps_in old) (steps_in new) h.outcome h.steps now.free)
+      (same_free (outcome_in old) (outcome_in new) (counts_in old) (counts_in new) h.outcome h.counts now.free)
 
   pub kept_so : IsKept old new
   kept_so = record {
@@ -159,7 +159,7 @@ module _ (old new : Held) (h : IsReordered old new) where
     pending = same_pending;
     made = h.made;
     outcome = h.outcome;
-    steps = h.steps;
+    counts = h.counts;
     last = h.last;
     current = still_current;
   }
@@ -173,7 +173,7 @@ kept_modules old new entries same = kept_so old new (record {
   parameters = ap (λ (held : Held). parameters_of held.parameters) same;
   made = ap made_of same;
   outcome = ap outcome_in same;
-  steps = ap steps_in same;
+  counts = ap counts_in same;
   last = ap last_in same;
   batch = ap (λ (held : Held). held.batch) same;
 })

@@ -9,7 +9,7 @@ use Rattle.xt_touch.specs.declared.since.Since.{Since}
 use Rattle.xt_world.specs.ParameterView.{parameters_of}
 use Rattle.xt_held.specs.OutcomeView.{outcome_of}
 use Rattle.xt_held.specs.StylesheetView.{AreCompiled}
-use Rattle.xt_held.specs.View.{Basis, HasBelow, HasRoom, IsBatchOf, IsBelow, IsComing, IsCurrent, IsMadeFrom, IsPending, IsTold, IsToldOf, StaysTold, changed_by, documents_in, documents_of, edited_basis, last_in, left_after, made_of, next_basis, next_batch, next_before, next_compiled, next_documents, next_last, next_made, next_outcome, next_pending, next_present, next_source, outcome_after, outcome_in, pending_of, present_basis, present_by, present_of, next_steps, steps_by, steps_in, told_by, with_coming, with_edit}
+use Rattle.xt_held.specs.View.{Basis, HasBelow, HasRoom, IsBatchOf, IsBelow, IsComing, IsCurrent, IsMadeFrom, IsPending, IsTold, IsToldOf, StaysTold, changed_by, documents_in, documents_of, edited_basis, last_in, left_after, made_of, next_basis, next_batch, next_before, next_compiled, next_documents, next_last, next_made, next_outcome, next_pending, next_present, next_source, outcome_after, outcome_in, pending_of, present_basis, present_by, present_of, next_counts, counts_by, counts_in, told_by, with_coming, with_edit}
 use Rattle.xt_held.specs.declared.batch.Batch.{Batch}
 use Rattle.xt_held.specs.declared.held.Held.{Held}
 use Rattle.xt_held.specs.declared.last_run.LastRun.{LastRun}
@@ -167,7 +167,7 @@ pub record IsAdopted (ready : Ready) (old new : Held) : Type 0 where
   pub batch : new.batch ≡ next_batch ready.change old.batch
   pub made : made_of new ≡ next_made ready
   pub outcome : outcome_in new ≡ next_outcome ready old
-  pub steps : steps_in new ≡ next_steps ready old
+  pub counts : counts_in new ≡ next_counts ready old
   pub below : HasBelow (made_of new) new
 
 -- what is taken over of an outcome
@@ -202,7 +202,7 @@ adopted_so ready old put new taken is others below =
       batch = ap (λ (held : Held). held.batch) taken ∙ is.batch;
       made = ap made_of taken;
       outcome = ap outcome_in taken ∙ outcome_so ready.coming put.outcome ∙ ap (unwrap_or (told_by ready.coming)) is.told.outcome;
-      steps = ap steps_in taken ∙ ap (steps_by ready.coming) is.told.steps;
+      counts = ap counts_in taken ∙ ap (counts_by ready.coming) is.told.counts;
       below = subst (λ (held : Held). HasBelow (made_of held) held) (sym taken) (is.below (next_made ready) others below);
     }
 
@@ -226,7 +226,7 @@ module _ (change : Change) (next : NodeId) (old new : Held) where
       (same_serves new.compiled (next_compiled change old) (parameters_of new.parameters) (next_documents ready old).parameters new.source (next_source change old)
       new.last (next_last ready old) h.compiled (ap (λ (ds : Documents). ds.parameters) h.documents) h.source h.last told.last.serves)
       (subst (λ (batch : Option Batch). IfSome batch (IsBatchOf (made_of new) (documents_of new).modules)) (sym closed) tt)
-      (same_free (outcome_of came.outcome) (outcome_in new) came.steps (steps_in new) h.outcome h.steps told.fits.steps)
+      (same_free (outcome_of came.outcome) (outcome_in new) came.counts (counts_in new) h.outcome h.counts told.fits.counts)
 
   pending_current : (since : Since) → IsAdopted (pending_ready change next since) old new → IsPending (pending_ready change next since) old → IsCurrent new
   pending_current since h is =
@@ -243,7 +243,7 @@ module _ (change : Change) (next : NodeId) (old new : Held) where
       (subst (λ (first : ℕ). IfSome (next_batch change old.batch) (IsBatchOf first (documents_of new).modules)) (sym h.made)
       (subst (λ (ds : Documents). IfSome (next_batch change old.batch) (IsBatchOf next.number ds.modules)) (sym h.documents)
       (batch_stays change old.batch (made_of old) next.number (documents_of old) is.grows is.current.batch))))
-      (same_free (outcome_in old) (outcome_in new) (steps_in old) (steps_in new) h.outcome h.steps is.current.free)
+      (same_free (outcome_in old) (outcome_in new) (counts_in old) (counts_in new) h.outcome h.counts is.current.free)
 
   current_so : (coming : Coming) → IsAdopted (record { change = change; next = next; coming = coming }) old new
       → IsComing coming (record { change = change; next = next; coming = coming }) old → IsCurrent new

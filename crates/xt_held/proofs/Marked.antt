@@ -17,6 +17,7 @@ use Rattle.spec_touch.specs.Leads.{Leads, seen_change}
 use Rattle.spec_touch.specs.Marks.{KeepsPlain, KeepsUnits, SourceEdited, SourceMoved, ModulesChanged, ParameterGiven, Anything, WorldChange, answers}
 use Rattle.spec_touch.specs.Plain.{AreAsking}
 use Rattle.xt_touch.specs.View.{remembered}
+use Rattle.spec_items.specs.Liftable.{with_items}
 use Rattle.xt_syntax.specs.SheetView.{rules_of, space_rules_of}
 use Rattle.xt_syntax.specs.declared.space_rules.SpaceRules.{SpaceRules}
 use Rattle.xt_own.specs.View.{OwnDecides}
@@ -39,7 +40,7 @@ use Rattle.xt_held.proofs.Sparing.{none_keep, seen_whole, sheet_lost, sheet_stay
 
 answers_by : (modules : Modules) (compiled : Compiled) → IsCompiledFrom modules compiled → AnswersAsSome (Some compiled)
 answers_by modules (Refused why) h = tt
-answers_by modules (Stylesheet held rules method) h = (h.holds.0, h.holds.2)
+answers_by modules (Stylesheet held rules method) h = (with_items h.holds.0, h.holds.2)
 
 answers_among : (modules : Modules) (main : Option Plain) (compiled : Option Compiled) → AreCompiledBy modules main compiled → AnswersAsSome compiled
 answers_among modules main None h = tt

@@ -8,7 +8,7 @@ use Rattle.spec_run.specs.Outcome as spec
 use Rattle.xt_syntax.specs.PartView.{place_of}
 use Rattle.xt_import.specs.View.{plain_of}
 use Rattle.spec_touch.specs.Marks.{WorldChange}
-use Rattle.xt_record.specs.declared.reuse.Steps.{Steps}
+use Rattle.xt_held.specs.declared.counts.Counts.{Counts}
 use Rattle.xt_held.specs.declared.last_run.Kept.{Kept}
 use Rattle.xt_held.specs.declared.outcome.Came.{Came}
 use Rattle.xt_held.specs.declared.outcome.Outcome.{Outcome}
@@ -26,26 +26,26 @@ outcome_of (outcomes.Refused code place messages) = spec.Failed (record { code =
 -- ---- What a run leaves to the next, and what it took
 
 -- what it takes to run nothing
-abbrev pub no_steps : Steps
-no_steps = record { ran = 0; asked = 0 }
+abbrev pub no_counts : Counts
+no_counts = record { ran = 0; asked = 0; did = 0 }
 
 abbrev pub is_done : spec.Outcome → Bool
 is_done (spec.Done result method messages) = true
 is_done (spec.Failed why messages) = false
 
 -- where there is no stylesheet, or no source, nothing is run
-abbrev pub IsFreeAt : Code → Steps → Type 0
-IsFreeAt (Static code) steps = steps ≡ no_steps
-IsFreeAt (Dynamic code) steps = Unit {0}
+abbrev pub IsFreeAt : Code → Counts → Type 0
+IsFreeAt (Static code) counts = counts ≡ no_counts
+IsFreeAt (Dynamic code) counts = Unit {0}
 
-abbrev pub IsFreeFor : spec.Outcome → Steps → Type 0
-IsFreeFor (spec.Done result method messages) steps = Unit {0}
-IsFreeFor (spec.Failed why messages) steps = IsFreeAt why.code steps
+abbrev pub IsFreeFor : spec.Outcome → Counts → Type 0
+IsFreeFor (spec.Done result method messages) counts = Unit {0}
+IsFreeFor (spec.Failed why messages) counts = IsFreeAt why.code counts
 
 -- what the run kept is there where it ended with a result, and only there; and what was not run took nothing
 pub record Fits (came : Came) : Type 0 where
   pub kept : is_some came.kept ≡ is_done (outcome_of came.outcome)
-  pub steps : IsFreeFor (outcome_of came.outcome) came.steps
+  pub counts : IsFreeFor (outcome_of came.outcome) came.counts
 
 -- what changed since the last run that ended with a result: nothing after such a run
 abbrev pub since_after : (kept : Option Kept) → List WorldChange → List WorldChange

@@ -6,6 +6,7 @@ use Rattle.spec_structure.specs.Modules.{Modules}
 use Rattle.spec_compile.specs.Sheet as compile
 use Rattle.spec_compile.specs.Sheet.{IsSheet}
 use Rattle.spec_run.specs.Documents.{main_name}
+use Rattle.spec_items.specs.Liftable.{with_items}
 use Rattle.xt_syntax.specs.SheetView.{space_rules_of}
 use Rattle.xt_compile.specs.View.{refusal_in}
 pub use Rattle.xt_world.specs.Answering.{AnswersAs}
@@ -24,9 +25,17 @@ without_one name modules = λ other. if bytes_eq other name then None else modul
 abbrev pub IsThere : Modules → List ℕ → Type 0
 IsThere modules name = (tree : Plain) × (modules name ≡ Some tree)
 
+-- it is run as this stylesheet, of which it holds the rules for white space and the output method
+abbrev pub RunsAs : Compiled → plain.Sheet → Type 0
+RunsAs (Stylesheet held rules method) sheet = AnswersAs held sheet × (space_rules_of rules ≡ sheet.space_rules) × (method ≡ sheet.method)
+RunsAs (Refused why) sheet = ⊥
+
+-- What is run has the content of each xsl:for-each in a template of its own, so that each item is an instantiation. No outcome tells it from the stylesheet
+-- that the modules are
 abbrev pub Holds : Compiled → Result plain.Sheet compile.Refusal → Type 0
 Holds (Stylesheet held rules method) result =
-    (sheet : plain.Sheet) × (result ≡ Ok sheet) × AnswersAs held sheet × (space_rules_of rules ≡ sheet.space_rules) × (method ≡ sheet.method)
+    (sheet : plain.Sheet) × (result ≡ Ok sheet) × AnswersAs held (with_items sheet) × (space_rules_of rules ≡ (with_items sheet).space_rules)
+    × (method ≡ (with_items sheet).method)
 Holds (Refused why) result = result ≡ Err (refusal_in why)
 
 -- it can be run

@@ -21,7 +21,7 @@ use Rattle.xt_edit.specs.View.{AreBelow}
 use Rattle.xt_edit.specs.declared.fault.EditFault.{EditFault}
 use Rattle.xt_edit.specs.declared.fault.EditFault.TheVariants as faults
 use Rattle.xt_import.specs.View.{is_name, modules_in, plain_of}
-use Rattle.xt_record.specs.declared.reuse.Steps.{Steps}
+use Rattle.xt_held.specs.declared.counts.Counts.{Counts}
 use Rattle.xt_world.specs.ParameterView.{HasRoomForOne, parameters_of}
 use Rattle.xt_held.specs.OutcomeView.{Fits, IsFreeFor, outcome_of}
 use Rattle.xt_held.specs.RunView.{IsFaultless, LastHolds, LastServes, last_known}
@@ -58,8 +58,8 @@ abbrev pub outcome_in : Held → spec.Outcome
 outcome_in held = outcome_of held.outcome
 
 -- what the last change outside a batch, or commit, took, and what the last run that ended with a result left
-abbrev pub steps_in : Held → Steps
-steps_in held = held.steps
+abbrev pub counts_in : Held → Counts
+counts_in held = held.counts
 
 abbrev pub last_in : Held → LastRun
 last_in held = held.last
@@ -123,7 +123,7 @@ pub record IsCurrent (held : Held) : Type 0 where
   pub last : LastHolds (outcome_in held) held.compiled (present_of held).parameters (present_basis held).source (present_basis held).last
   pub serves : LastServes held.compiled (parameters_of held.parameters) held.source held.last
   pub batch : IfSome held.batch (IsBatchOf (made_of held) (documents_of held).modules)
-  pub free : IsFreeFor (outcome_in held) (steps_in held)
+  pub free : IsFreeFor (outcome_in held) (counts_in held)
 
 -- what is known of what the last run left while a change is made ready
 pub record IsKnown (held : Held) : Type 0 where
@@ -136,7 +136,7 @@ pub record IsKept (old new : Held) : Type 0 where
   pub pending : pending_of new ≡ pending_of old
   pub made : made_of new ≡ made_of old
   pub outcome : outcome_in new ≡ outcome_in old
-  pub steps : steps_in new ≡ steps_in old
+  pub counts : counts_in new ≡ counts_in old
   pub last : last_in new ≡ last_in old
   pub current : IsCurrent old → IsCurrent new
 
@@ -222,12 +222,12 @@ told_of ready = told_by ready.coming
 abbrev pub next_outcome : Ready → Held → spec.Outcome
 next_outcome ready held = unwrap_or (told_of ready) (outcome_in held)
 
-abbrev pub steps_by : Coming → Steps → Steps
-steps_by (Told came) steps = came.steps
-steps_by (Pending since) steps = steps
+abbrev pub counts_by : Coming → Counts → Counts
+counts_by (Told came) counts = came.counts
+counts_by (Pending since) counts = counts
 
-abbrev pub next_steps : Ready → Held → Steps
-next_steps ready held = steps_by ready.coming (steps_in held)
+abbrev pub next_counts : Ready → Held → Counts
+next_counts ready held = counts_by ready.coming (counts_in held)
 
 -- what the modules were when they last were a stylesheet, where they are none from now on, by what they were until now
 abbrev pub before_by : (compiled was before : Option Compiled) → Option Compiled
@@ -269,7 +269,7 @@ next_pending ready held = option_map (λ batch. next_documents ready held) (next
 
 -- with what came in place of what came before
 abbrev pub with_came : Came → Held → Held
-with_came came held = record held { outcome = came.outcome; steps = came.steps; last = left_by came held.last.before held.last }
+with_came came held = record held { outcome = came.outcome; counts = came.counts; last = left_by came held.last.before held.last }
 
 abbrev pub outcome_after : Coming → Outcome → Outcome
 outcome_after (Told came) outcome = came.outcome
@@ -278,7 +278,7 @@ outcome_after (Pending since) outcome = outcome
 abbrev pub with_coming : Coming → Held → Held
 with_coming coming held = record held {
   outcome = outcome_after coming held.outcome;
-  steps = steps_by coming held.steps;
+  counts = counts_by coming held.counts;
   last = left_after coming held.last.before held.last;
 }
 
@@ -295,7 +295,7 @@ with_edited_modules compiled held = record (with_recompiled compiled held) { bat
 -- the outcome and what it took have not changed
 pub record StaysTold (old new : Held) : Type 0 where
   pub outcome : outcome_in new ≡ outcome_in old
-  pub steps : steps_in new ≡ steps_in old
+  pub counts : counts_in new ≡ counts_in old
 
 -- there is room for it, so that no memory is taken
 abbrev pub HasRoom : Change → Held → Type 0
@@ -410,7 +410,7 @@ pub record IsBegun (old new : Held) : Type 0 where
   pub documents : documents_of new ≡ documents_of old
   pub made : made_of new ≡ made_of old
   pub outcome : outcome_in new ≡ outcome_in old
-  pub steps : steps_in new ≡ steps_in old
+  pub counts : counts_in new ≡ counts_in old
 
 -- where a batch is to be opened: 16 where one is open
 abbrev pub Begins : (old new : Held) → Result (Unit {0}) EditFault → Type 0
@@ -445,7 +445,7 @@ pub record IsAbandoned (old new : Held) : Type 0 where
   pub pending : pending_of new ≡ None
   pub made : made_of new ≡ made_of old
   pub outcome : outcome_in new ≡ outcome_in old
-  pub steps : steps_in new ≡ steps_in old
+  pub counts : counts_in new ≡ counts_in old
 
 -- where a batch is to be abandoned: 17 where none is open. It takes no memory
 abbrev pub Abandons : (old new : Held) → Result (Unit {0}) EditFault → Type 0

@@ -19,16 +19,17 @@ ghost use Rattle.xt_touch.specs.View.{since_of};
 ghost use Rattle.xt_held.specs.RunView.{AnswersAsSome, IsFaultless, IsMadeBy, IsMadeByEdit, IsMadeByMove, LastHolds, LastServes, StaysSpared, last_known};
 ghost use Rattle.xt_held.specs.StylesheetView.{AreCompiled};
 ghost use Rattle.xt_import.specs.View.{is_name, plain_of};
-ghost use Rattle.xt_held.specs.OutcomeView.{Fits, no_steps, outcome_of, plain_in};
-ghost use Rattle.xt_held.specs.View.{HasBelow, HasRoom, IsBelow, IsCurrent, IsKept, IsKnown, IsMadeFrom, IsReady, IsFaultlessAs, Prepares, PreparesDrop, PreparesEdit, PreparesMove, PreparesParameter, StaysTold, before_by, before_with, changed_by, compiled_by, document_named, documents_of, edit_fault_of, last_in, left_by, made_of, next_batch, next_before, next_compiled, next_documents, next_last, next_made, next_outcome, next_pending, next_present, next_source, next_steps, numbered_document, outcome_in, pending_of, present_of, steps_in, with_came, with_coming, with_document, with_edit, with_edited_modules, with_recompiled};
+ghost use Rattle.xt_held.specs.OutcomeView.{Fits, no_counts, outcome_of, plain_in};
+ghost use Rattle.xt_held.specs.View.{HasBelow, HasRoom, IsBelow, IsCurrent, IsKept, IsKnown, IsMadeFrom, IsReady, IsFaultlessAs, Prepares, PreparesDrop, PreparesEdit, PreparesMove, PreparesParameter, StaysTold, before_by, before_with, changed_by, compiled_by, document_named, documents_of, edit_fault_of, last_in, left_by, made_of, next_batch, next_before, next_compiled, next_documents, next_last, next_made, next_outcome, next_pending, next_present, next_source, next_counts, numbered_document, outcome_in, pending_of, present_of, counts_in, with_came, with_coming, with_document, with_edit, with_edited_modules, with_recompiled};
 ghost use Rattle.xt_held.specs.declared.ready.Recompiled.TheVariants as recompiled;
 
 use crate::batch::Batch;
+use crate::counts::{Counts, no_counts};
 use crate::last_run::{Kept, LastRun};
 use crate::marking::{since_edit, since_modules, since_move, since_parameter};
 use crate::name::DocName;
 use crate::origin::Origin;
-use crate::outcome::{Came, Outcome, at_no_element, no_steps, outcome_of};
+use crate::outcome::{Came, Outcome, at_no_element, outcome_of};
 use crate::parameter::{TriedParameter, outcome_with, parameter_fault};
 use crate::ready::{Change, Coming, Ready, Recompiled};
 use crate::stylesheet::{Compiled, is_stylesheet, last_known};
@@ -46,7 +47,7 @@ use xt_edit::{Edit, EditFault, Edited, apply, relocate};
 use xt_io::Line;
 use xt_names::Scope;
 use xt_own::OwnReads;
-use xt_record::{Pool, Steps};
+use xt_record::Pool;
 use xt_text::{Memory, Path, Text};
 use xt_touch::Since;
 use xt_tree::{Doc, NodeId};
@@ -67,7 +68,7 @@ pub struct Held {
     pub(crate) next: NodeId,
     pub(crate) outcome: Outcome,
     pub(crate) last: LastRun,
-    pub(crate) steps: Steps,
+    pub(crate) counts: Counts,
     pub(crate) batch: Option<Batch>,
 }
 
@@ -79,7 +80,7 @@ impl Held {
         ensures present { present_of result ≡ no_documents }
         ensures pending { pending_of result ≡ None }
         ensures made { made_of result ≡ 0 }
-        ensures steps { steps_in result ≡ no_steps }
+        ensures counts { counts_in result ≡ no_counts }
         ensures current { IsCurrent result }
     {
         Held {
@@ -97,7 +98,7 @@ impl Held {
                 since: Since::nothing(alloc),
                 before: None,
             },
-            steps: no_steps(),
+            counts: no_counts(),
             batch: None,
         }
     }
@@ -221,7 +222,7 @@ impl Held {
         ensures pending { pending_of self.new ≡ next_pending ready self.old }
         ensures made { made_of self.new ≡ next_made ready }
         ensures outcome { outcome_in self.new ≡ next_outcome ready self.old }
-        ensures steps { steps_in self.new ≡ next_steps ready self.old }
+        ensures counts { counts_in self.new ≡ next_counts ready self.old }
         ensures last { last_in self.new ≡ next_last ready self.old }
         ensures current { IsCurrent self.new }
     {
@@ -252,12 +253,12 @@ impl Held {
         let Came {
             outcome,
             kept,
-            steps,
+            counts,
             since,
         } = came;
         drop(mem::replace(&mut self.outcome, outcome));
         drop(mem::replace(&mut self.last.since, since));
-        self.steps = steps;
+        self.counts = counts;
         match kept {
             Some(kept) => drop(mem::replace(&mut self.last.kept, kept)),
             None => {}
@@ -272,10 +273,10 @@ impl Held {
     }
 
     /// What the last change took that was adopted outside a batch, or the last commit. Takes no memory.
-    pub fn stats(&self) -> Steps
-        ensures { result ≡ steps_in self.now }
+    pub fn stats(&self) -> Counts
+        ensures { result ≡ counts_in self.now }
     {
-        self.steps
+        self.counts
     }
 
     /// The document of this name, where there is one; while a batch is open, the pending one. Takes no memory.

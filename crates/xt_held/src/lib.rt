@@ -15,7 +15,7 @@
 //! let ready = held.set_source(alloc, body)?;         // nothing is changed yet
 //! let outcome = ready.outcome();                     // what it will come to
 //! held.adopt(ready);                                 // takes no memory
-//! let steps = held.stats();                          // what the change took
+//! let counts = held.stats();                         // what the change took
 //! let ready = held.edit(alloc, name, &edit)?;        // a document by its name, edited by path
 //! let ready = held.relocate(alloc, name, &path, &other)?;  // a node of it moved, by two paths
 //! let ready = held.set_param(alloc, name, value)?;   // the same for a parameter
@@ -27,6 +27,7 @@
 #![tactic(auto)]
 
 mod batch;
+mod counts;
 mod held;
 mod last_run;
 mod marking;
@@ -39,9 +40,9 @@ mod stylesheet;
 mod tried;
 mod unread;
 
+pub use counts::Counts;
 pub use held::Held;
 pub use name::DocName;
 pub use outcome::Outcome;
 pub use ready::Ready;
 pub use xt_edit::{Edit, EditFault};
-pub use xt_record::Steps;

@@ -23,13 +23,15 @@ ghost use Rattle.spec_run.specs.Documents.{Parameters as Values};
 ghost use Rattle.xt_world.specs.ParameterView.{parameters_of};
 ghost use Rattle.xt_world.specs.View.{truth_in};
 ghost use Rattle.xt_touch.specs.View.{since_of};
-ghost use Rattle.xt_held.specs.OutcomeView.{Fits, no_steps, outcome_of, plain_in, since_after};
+ghost use Rattle.xt_held.specs.OutcomeView.{Fits, no_counts, outcome_of, plain_in, since_after};
 ghost use Rattle.xt_held.specs.RunView.{Ask, HoldsWith, KeptHolds, KeptSpared, SparedIn, SparesRecords, truth_seen};
 ghost use Rattle.xt_held.specs.StylesheetView.{AnswersAs, AreCompiled, IsCompiledFrom};
 
+use crate::counts::{Counts, counts_of, no_counts};
 use crate::last_run::Kept;
 use crate::stylesheet::{Compiled, copy_method};
 use spec_expression::StaticCode;
+use spec_items::items_change_no_outcome;
 use spec_seen::labels_do_not_matter;
 use std::alloc::Global;
 use xt_base::{Code, Place};
@@ -38,7 +40,7 @@ use xt_driver::{Whole, run};
 use xt_engine::Refused;
 use xt_own::{OwnReads, Prepared};
 use xt_questions::copy_place;
-use xt_record::{Pool, Reuse, Steps};
+use xt_record::{Pool, Reuse};
 use xt_result::{ResultTree, shape};
 use xt_runner::Runner;
 use xt_spared::Spared;
@@ -78,7 +80,7 @@ pub(crate) struct Came {
     /// What the run kept, where it ended with a result.
     pub kept: Option<Kept>,
     /// What the run took, where there was one.
-    pub steps: Steps,
+    pub counts: Counts,
     /// What changed since the last run that ended with a result, which may be this one.
     pub since: Since,
 }
@@ -114,22 +116,15 @@ pub(crate) fn outcome_of(
 fn with_no_run(outcome: Outcome, since: Since) -> Came
     ensures outcome { result.outcome ≡ outcome }
     ensures kept { result.kept ≡ None }
-    ensures steps { result.steps ≡ no_steps }
+    ensures counts { result.counts ≡ no_counts }
     ensures since { result.since ≡ since }
 {
     Came {
         outcome,
         kept: None,
-        steps: no_steps(),
+        counts: no_counts(),
         since,
     }
-}
-
-/// What it takes to run nothing.
-pub(crate) fn no_steps() -> Steps
-    ensures { result ≡ no_steps }
-{
-    Steps { ran: 0, asked: 0 }
 }
 
 /// A refusal that no element has. Takes no memory.
@@ -162,6 +157,7 @@ fn transformed(
     ensures last { IfOk result (λ came. IfSome came.kept (KeptHolds (Some compiled.now) (parameters_of parameters.now) (Some source.now))) }
     ensures since { IfOk result (λ came. since_of came.since ≡ since_after came.kept (since_of since)) }
 {
+    items_change_no_outcome();
     match compiled {
         Compiled::Stylesheet(stylesheet, space_rules, method) => {
             let over = whole_of_seen(
@@ -208,7 +204,7 @@ fn refused(alloc: Global, refusal: &StaticRefusal, since: Since) -> Result<Came,
 struct Over {
     whole: Whole,
     kept: Kept,
-    steps: Steps,
+    counts: Counts,
 }
 
 // The same with the records that it keeps alone.
@@ -216,7 +212,7 @@ struct Over {
 struct Recorded {
     whole: Whole,
     records: Pool,
-    steps: Steps,
+    counts: Counts,
 }
 
 // The run of the stylesheet on what it sees of the source (XSLT 1.0, section 3.4).
@@ -292,11 +288,15 @@ fn run_recorded(
         stylesheet.globals.as_slice(),
         &mut reuse,
     );
-    with_records(whole, reuse)
+    with_records(whole, reuse, engine.did)
 }
 
-// The run with the records that it keeps.
-fn with_records(whole: Result<Whole, Memory>, reuse: Reuse<'_>) -> Result<Recorded, Memory>
+// The run with the records that it keeps, where its engine did so many instructions.
+fn with_records(
+    whole: Result<Whole, Memory>,
+    reuse: Reuse<'_>,
+    did: u64,
+) -> Result<Recorded, Memory>
     ensures run { IfOk result (λ over. whole ≡ Ok over.whole) }
     ensures records { IfOk result (λ over. (ask : Ask) → IsSure ask reuse.entry → AreAnswered ask over.records) }
 {
@@ -306,7 +306,7 @@ fn with_records(whole: Result<Whole, Memory>, reuse: Reuse<'_>) -> Result<Record
             Ok(Recorded {
                 whole,
                 records,
-                steps,
+                counts: counts_of(steps, did),
             })
         }
         Err(_) => {
@@ -338,12 +338,12 @@ fn with_own(
     let Recorded {
         whole,
         records,
-        steps,
+        counts,
     } = recorded;
     Ok(Over {
         whole,
         kept: Kept { records, own },
-        steps,
+        counts,
     })
 }
 
@@ -374,7 +374,11 @@ fn ended(alloc: Global, method: Option<Method>, over: Over, since: Since) -> Res
     ensures kept { IfOk result (λ came. IfSome came.kept (λ kept. kept ≡ over.kept)) }
     ensures since { IfOk result (λ came. since_of came.since ≡ since_after came.kept (since_of since)) }
 {
-    let Over { whole, kept, steps } = over;
+    let Over {
+        whole,
+        kept,
+        counts,
+    } = over;
     let Whole {
         content,
         messages,
@@ -391,7 +395,7 @@ fn ended(alloc: Global, method: Option<Method>, over: Over, since: Since) -> Res
                         messages,
                     },
                     kept: Some(kept),
-                    steps,
+                    counts,
                     since: Since::nothing(alloc),
                 }),
                 Err(_) => {
@@ -404,13 +408,13 @@ fn ended(alloc: Global, method: Option<Method>, over: Over, since: Since) -> Res
         Some(why) => {
             drop(method);
             drop(kept);
-            Ok(refused_in_run(why, messages, steps, since))
+            Ok(refused_in_run(why, messages, counts, since))
         }
     }
 }
 
 // The outcome of a run that was refused, of which nothing is kept.
-fn refused_in_run(why: Refused, messages: Vec<Text>, steps: Steps, since: Since) -> Came
+fn refused_in_run(why: Refused, messages: Vec<Text>, counts: Counts, since: Since) -> Came
     ensures outcome { outcome_of result.outcome ≡ spec.Failed (refused_dynamic (refused_of why)) messages.items }
     ensures fits { Fits result }
     ensures kept { result.kept ≡ None }
@@ -423,7 +427,7 @@ fn refused_in_run(why: Refused, messages: Vec<Text>, steps: Steps, since: Since)
             messages,
         },
         kept: None,
-        steps,
+        counts,
         since,
     }
 }

@@ -7,12 +7,13 @@ ghost use Rattle.xt_syntax.specs.SheetView.{sheet_of};
 ghost use Rattle.xt_compile.specs.View.{IsCompiled};
 ghost use Rattle.xt_import.specs.View.{modules_in};
 ghost use Rattle.xt_held.specs.RunView.{last_known};
-ghost use Rattle.xt_held.specs.StylesheetView.{AreCompiled, Holds, IsCompiledFrom, IsStylesheet, IsThere};
+ghost use Rattle.xt_held.specs.StylesheetView.{AreCompiled, Holds, IsCompiledFrom, IsStylesheet, IsThere, RunsAs};
 
 use indexmap::IndexMap;
 use std::alloc::Global;
 use xt_base::Place;
 use xt_compile::{SheetFault, StaticRefusal, sheet};
+use xt_lift::with_items;
 use xt_names::copy_name;
 use xt_syntax::{Method, Sheet, SpaceRules, Unit};
 use xt_text::{Memory, Path, Text};
@@ -90,7 +91,8 @@ fn sheet_of_main(alloc: Global, modules: &IndexMap<String, Doc>) -> Result<Sheet
     sheet(alloc, modules, &main)
 }
 
-// The stylesheet of these modules made ready to be run, its units called by the numbers of their elements.
+// The stylesheet of these modules made ready to be run: the content of each xsl:for-each stands in a template of its own, at
+// its element, and units are called by the numbers of their elements.
 fn numbered(
     alloc: Global,
     modules: &IndexMap<String, Doc>,
@@ -98,16 +100,17 @@ fn numbered(
 ) -> Result<Compiled, Memory>
     ensures { IfOk result (λ compiled. Holds compiled (Ok (sheet_of sheet))) }
 {
-    let Ok(numbers) = numbers_of(alloc, modules, sheet.units.as_slice()) else {
-        drop(sheet);
+    let lifted = with_items(alloc, sheet)?;
+    let Ok(numbers) = numbers_of(alloc, modules, lifted.units.as_slice()) else {
+        drop(lifted);
         return Err(Memory);
     };
-    runnable(alloc, sheet, numbers)
+    runnable(alloc, lifted, numbers)
 }
 
 // The stylesheet made ready to be run. The run asks neither for its rules of white space nor for its method.
 fn runnable(alloc: Global, sheet: Sheet, numbers: Vec<u64>) -> Result<Compiled, Memory>
-    ensures { IfOk result (λ compiled. Holds compiled (Ok (sheet_of sheet))) }
+    ensures { IfOk result (λ compiled. RunsAs compiled (sheet_of sheet)) }
 {
     let Sheet {
         units,

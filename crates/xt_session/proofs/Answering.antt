@@ -24,11 +24,11 @@ use Rattle.xt_base.specs.Code.{edit_number}
 use Rattle.xt_wire.specs.View.{Reads, code_of_fault}
 use Rattle.xt_wire.specs.declared.fault.WireFault.{WireFault}
 use Rattle.xt_wire.specs.declared.fault.WireFault.TheVariants as variant
-use Rattle.xt_record.specs.declared.reuse.Steps.{Steps}
 use Rattle.xt_held.specs.OutcomeView as view
 use Rattle.xt_held.specs.View as repair
 use Rattle.xt_held.specs.View.{IsAbandoned, IsBegun, IsCommit, IsKept, IsReady, IsToldOf, documents_of, edited_basis, made_of, next_documents, next_made, next_pending, next_present, pending_of, present_by, present_of, told_of}
 use Rattle.xt_held.specs.declared.batch.Batch.{Batch}
+use Rattle.xt_held.specs.declared.counts.Counts.{Counts}
 use Rattle.xt_held.specs.declared.held.Held.{Held}
 use Rattle.xt_held.specs.declared.name.DocName.{DocName}
 use Rattle.xt_held.specs.declared.name.DocName.TheVariants as names
@@ -71,14 +71,14 @@ pub gives_counts : (old : State) (outcome : Outcome) (reply : Reply) (text : Lis
     → text ≡ reply_text reply → GivesText old TellsCounts text old
 gives_counts old outcome reply text stands tells e = record { reply = reply; gives = ((outcome, stands, tells), refl); text_is = e }
 
--- what took nothing has two zeros
-free_at : (code : Code) (steps : Steps) → view.IsFreeAt code steps → IsFreeAt code steps.ran steps.asked
-free_at (Static code) steps h = (ap (λ (s : Steps). s.ran) h, ap (λ (s : Steps). s.asked) h)
-free_at (Dynamic code) steps h = tt
+-- what took nothing has three zeros
+free_at : (code : Code) (counts : Counts) → view.IsFreeAt code counts → IsFreeAt code counts.ran counts.asked counts.did
+free_at (Static code) counts h = (ap (λ (c : Counts). c.ran) h, ap (λ (c : Counts). c.asked) h, ap (λ (c : Counts). c.did) h)
+free_at (Dynamic code) counts h = tt
 
-pub free_for : (outcome : Outcome) (steps : Steps) → view.IsFreeFor outcome steps → IsFreeFor outcome steps.ran steps.asked
-free_for (Done result method messages) steps h = tt
-free_for (Failed why messages) steps h = free_at why.code steps h
+pub free_for : (outcome : Outcome) (counts : Counts) → view.IsFreeFor outcome counts → IsFreeFor outcome counts.ran counts.asked counts.did
+free_for (Done result method messages) counts h = tt
+free_for (Failed why messages) counts h = free_at why.code counts h
 
 -- by the output method
 pub as_text : (m : Option (Method Expanded)) (tree : Plain) → is_text m ≡ true → written_by m tree ≡ Written (texts_in tree)

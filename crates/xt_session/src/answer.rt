@@ -130,8 +130,8 @@ fn statistics(alloc: Global, held: &Held) -> Result<Text, Memory>
     requires { IsCurrent held.now }
     ensures { IfOk result (λ text. GivesText (state_of held.now) TellsCounts text (state_of held.now)) }
 {
-    let steps = held.stats();
-    text_of(alloc, counts_reply(steps.ran, steps.asked))
+    let counts = held.stats();
+    text_of(alloc, counts_reply(counts.ran, counts.asked, counts.did))
 }
 
 // Shows the document of this name, where it is held.

@@ -78,10 +78,10 @@ fn is_text(method: &Option<Method>) -> bool
 }
 
 /// The reply to a request for the counts, where they are these.
-pub(crate) fn counts_reply(ran: u64, asked: u64) -> Reply
-    ensures { (outcome : run.Outcome) → machine.IsFreeFor outcome ran asked → machine.TellsNumbers outcome (reply_of result) }
+pub(crate) fn counts_reply(ran: u64, asked: u64, did: u64) -> Reply
+    ensures { (outcome : run.Outcome) → machine.IsFreeFor outcome ran asked did → machine.TellsNumbers outcome (reply_of result) }
 {
-    Reply::Counted { ran, asked }
+    Reply::Counted { ran, asked, did }
 }
 
 /// The reply to a request for this document: its lines.

@@ -35,13 +35,15 @@ text_written begun numbered ended whole more text count b n m e t w =
     ∙ append_assoc ((codes "text " ++ decimal (length (encode_utf8_all text))) ++ 10 ∷ []) text (10 ∷ [])
     ∙ ap (λ (ts : List ℕ). ((codes "text " ++ decimal (length (encode_utf8_all text))) ++ 10 ∷ []) ++ ts) (sym (append-nil (text ++ 10 ∷ [])))
 
--- two numbers behind a word each
-pub counts_written : (begun ran_told parted asked_told whole : List ℕ) (ran asked : ℕ) → begun ≡ codes "ran " → ran_told ≡ begun ++ decimal ran
-    → parted ≡ ran_told ++ chars (codes " asked ") → asked_told ≡ parted ++ decimal asked → whole ≡ asked_told ++ 10 ∷ []
-    → whole ≡ with_newline (codes "ran " ++ decimal ran ++ codes " asked " ++ decimal asked)
-counts_written begun ran_told parted asked_told whole ran asked b r p a w =
-    w ∙ ap (λ (t : List ℕ). t ++ 10 ∷ []) (a ∙ ap (λ (t : List ℕ). t ++ decimal asked)
-    (p ∙ λ i. (r ∙ ap (λ (t : List ℕ). t ++ decimal ran) b) i ++ ascii_chars (codes " asked ") refl i))
+-- three numbers behind a word each
+pub counts_written : (begun ran_told parted asked_told second did_told whole : List ℕ) (ran asked did : ℕ) → begun ≡ codes "ran "
+    → ran_told ≡ begun ++ decimal ran → parted ≡ ran_told ++ chars (codes " asked ") → asked_told ≡ parted ++ decimal asked
+    → second ≡ asked_told ++ chars (codes " did ") → did_told ≡ second ++ decimal did → whole ≡ did_told ++ 10 ∷ []
+    → whole ≡ with_newline (codes "ran " ++ decimal ran ++ codes " asked " ++ decimal asked ++ codes " did " ++ decimal did)
+counts_written begun ran_told parted asked_told second did_told whole ran asked did b r p a s d w =
+    let two = a ∙ ap (λ (t : List ℕ). t ++ decimal asked)
+    (p ∙ λ i. (r ∙ ap (λ (t : List ℕ). t ++ decimal ran) b) i ++ ascii_chars (codes " asked ") refl i) in
+    w ∙ ap (λ (t : List ℕ). t ++ 10 ∷ []) (d ∙ ap (λ (t : List ℕ). t ++ decimal did) (s ∙ λ i. two i ++ ascii_chars (codes " did ") refl i))
 
 -- all lines are written, and then the line that ends them
 pub all_shown : (lines : List (List ℕ)) (text new : List ℕ) (n : ℕ) → length lines ≤ n

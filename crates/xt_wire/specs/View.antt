@@ -111,5 +111,5 @@ reply_of OkDropped = written.OkDropped
 reply_of (Refused why) = written.Refused (refusal_of why)
 reply_of (Shown lines) = written.Shown lines.items
 reply_of (Written text) = written.Written text
-reply_of (Counted ran asked) = written.Counted ran asked
+reply_of (Counted ran asked did) = written.Counted ran asked did
 reply_of (No code) = written.No (edit_number code)

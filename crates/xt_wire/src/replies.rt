@@ -28,8 +28,8 @@ pub enum Reply {
     Shown(Vec<Text>),
     /// The text of a result.
     Written(Text),
-    /// How many instantiations were run, and how many reads were asked again.
-    Counted { ran: u64, asked: u64 },
+    /// How many instantiations were run, how many reads were asked again, and how many instructions were done.
+    Counted { ran: u64, asked: u64, did: u64 },
     /// The command is refused.
     No(EditCode),
 }

@@ -25,7 +25,7 @@ pub fn reply(alloc: Global, reply: &Reply) -> Result<Text, Memory>
         Reply::Refused(why) => refusal_line(alloc, "refused ", why),
         Reply::Shown(lines) => shown_lines(alloc, lines.as_slice()),
         Reply::Written(text) => written_text(alloc, text),
-        Reply::Counted { ran, asked } => counts_line(alloc, *ran, *asked),
+        Reply::Counted { ran, asked, did } => counts_line(alloc, *ran, *asked, *did),
         Reply::No(code) => no_line(alloc, *code),
     }
 }
@@ -68,13 +68,15 @@ fn written_text(alloc: Global, text: &Text) -> Result<Text, Memory>
 }
 
 // The line of the counts.
-fn counts_line(alloc: Global, ran: u64, asked: u64) -> Result<Text, Memory>
-    ensures { IfOk result (λ text. text ≡ with_newline (codes "ran " ++ decimal ran ++ codes " asked " ++ decimal asked)) }
+fn counts_line(alloc: Global, ran: u64, asked: u64, did: u64) -> Result<Text, Memory>
+    ensures { IfOk result (λ text. text ≡ with_newline (codes "ran " ++ decimal ran ++ codes " asked " ++ decimal asked ++ codes " did " ++ decimal did)) }
 {
     let mut text = Text::from_str(alloc, "ran ")?;
     push_number(&mut text, ran)?;
     text.push_str(" asked ")?;
     push_number(&mut text, asked)?;
+    text.push_str(" did ")?;
+    push_number(&mut text, did)?;
     text.push('\n')?;
     Ok(text)
 }

@@ -3,4 +3,13 @@ use Rattle.xt_session.proofs.replies.counts_reply.Goals as goal
 
 pub returns : goal.returns
 returns c = λ outcome free.
-    record { ran = c.args.ran; asked = c.args.asked; ran_fits = c.ranges.ran.fits; asked_fits = c.ranges.asked.fits; free = free; is = refl }
+    record {
+      ran = c.args.ran;
+      asked = c.args.asked;
+      did = c.args.did;
+      ran_fits = c.ranges.ran.fits;
+      asked_fits = c.ranges.asked.fits;
+      did_fits = c.ranges.did.fits;
+      free = free;
+      is = refl;
+    }

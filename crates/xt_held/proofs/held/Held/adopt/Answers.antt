@@ -1,5 +1,5 @@
 use Rattle.std.proofs.Common.{ap, ◌∙◌}
-use Rattle.xt_held.specs.View.{steps_by, steps_in}
+use Rattle.xt_held.specs.View.{counts_by, counts_in}
 use Rattle.xt_held.proofs.Making.{IsAdopted, IsPut, adopted_current, adopted_pending, adopted_present, adopted_so}
 use Rattle.xt_held.proofs.held.Held.adopt.Goals as goal
 
@@ -115,5 +115,5 @@ returns-clause-current c =
     let is : IsAdopted ready held c.take_over.new.self = adopted_so ready held c.put.new.self c.take_over.new.self c.take_over.ensures put c.requires.others c.requires.below in
     adopted_current ready held c.take_over.new.self is c.requires
 
-pub returns-clause-steps : goal.returns-clause-steps
-returns-clause-steps c = ap steps_in c.take_over.ensures ∙ ap (steps_by c.args.ready.coming) c.put.ensures.told.steps
+pub returns-clause-counts : goal.returns-clause-counts
+returns-clause-counts c = ap counts_in c.take_over.ensures ∙ ap (counts_by c.args.ready.coming) c.put.ensures.told.counts

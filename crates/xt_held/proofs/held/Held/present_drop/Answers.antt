@@ -14,15 +14,15 @@ use Rattle.xt_held.proofs.held.Held.present_drop.Goals as goal
 
 pub returns-in_err-compiled-clause-kept : goal.returns-in_err-compiled-clause-kept
 returns-in_err-compiled-clause-kept c =
-    kept_so c.args.self.now _ (record { modules = c.compiled_without.ensures.kept; source = refl; compiled = refl; parameters = refl; made = refl; outcome = refl; steps = refl; last = refl; batch = refl })
+    kept_so c.args.self.now _ (record { modules = c.compiled_without.ensures.kept; source = refl; compiled = refl; parameters = refl; made = refl; outcome = refl; counts = refl; last = refl; batch = refl })
 
 pub returns-in_default-clause-kept : goal.returns-in_default-clause-kept
 returns-in_default-clause-kept c =
-    kept_so c.args.self.now _ (record { modules = c.in_ok-compiled.ensures.kept; source = refl; compiled = refl; parameters = refl; made = refl; outcome = refl; steps = refl; last = refl; batch = refl })
+    kept_so c.args.self.now _ (record { modules = c.in_ok-compiled.ensures.kept; source = refl; compiled = refl; parameters = refl; made = refl; outcome = refl; counts = refl; last = refl; batch = refl })
 
 pub returns-clause-kept : goal.returns-clause-kept
 returns-clause-kept c =
-    kept_so c.args.self.now _ (record { modules = c.in_ok-compiled.ensures.kept; source = refl; compiled = refl; parameters = refl; made = refl; outcome = refl; steps = refl; last = refl; batch = refl })
+    kept_so c.args.self.now _ (record { modules = c.in_ok-compiled.ensures.kept; source = refl; compiled = refl; parameters = refl; made = refl; outcome = refl; counts = refl; last = refl; batch = refl })
 
 pub outcome_with_modules-requires-clause-known : goal.outcome_with_modules-requires-clause-known
 outcome_with_modules-requires-clause-known c =
@@ -44,6 +44,6 @@ returns-clause-ok c =
     let are = subst (λ (o : Option Compiled). AreCompiled modules o) (sym c.as_ref.ensures.value) c.in_ok-compiled.ensures.compiled in
     let holds = subst (λ (o : Option Compiled). LastHolds (outcome_of came.outcome) o (parameters_of held.parameters) held.source
     (left_by came (before_by o held.compiled held.last.before) held.last)) c.as_ref.ensures.value c.in-Ok.ensures.last in
-    ready_so held _ (record { modules = c.in_ok-compiled.ensures.kept; source = refl; compiled = refl; parameters = refl; made = refl; outcome = refl; steps = refl; last = refl; batch = refl })
+    ready_so held _ (record { modules = c.in_ok-compiled.ensures.kept; source = refl; compiled = refl; parameters = refl; made = refl; outcome = refl; counts = refl; last = refl; batch = refl })
     (none_open held.batch (documents_of held) c.requires.alone) name c.in_ok-dropped.dropped c.in_ok-dropped.ensures compiled came held.next refl c.in_ok-compiled.ensures.compiled (c.in-Ok.ensures.outcome modules are)
     c.in-Ok.ensures.fits holds c.requires.current
