@@ -1,0 +1,13 @@
+pub mod Ranked
+pub mod Unmoved
+pub mod Alone
+pub mod Answered
+pub mod Leading
+pub mod Above
+pub mod Expression
+pub mod Ways
+pub mod Placed
+pub mod Documents
+pub mod Needless
+pub mod Grammar
+pub mod Examples

@@ -1,0 +1,4 @@
+pub mod Asked
+pub mod AsExpression
+pub mod Tree
+pub mod Given
