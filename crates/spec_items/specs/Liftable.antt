@@ -1,4 +1,4 @@
--- When the contents of a stylesheet may be lifted. Each stylesheet that a document can write is such a one; any other is run as it is.
+-- When the contents of a stylesheet may be lifted. Any other stylesheet is run as it is. That what a document can write is always such a one is meant, and proved nowhere.
 use Rattle.std.specs.Prelude.{Bool, true, false, not, ◌&&◌, ◌==◌, nat_lt, List, [], ◌∷◌, length, None, Some, if◌then◌else◌}
 use Rattle.std.specs.List.{list_all, list_any}
 use Rattle.spec_document.specs.Name.{Expanded}

@@ -135,7 +135,7 @@ step-attributes change axis.Namespace w e l k m u = refl
 
 -- ---- Nodes by their names
 
-passes-same : (a : Axis) (test : Test) (e f : Item ℕ) → kind_of e ≡ kind_of f → expanded_name e ≡ expanded_name f
+pub passes-same : (a : Axis) (test : Test) (e f : Item ℕ) → kind_of e ≡ kind_of f → expanded_name e ≡ expanded_name f
     → passes a test e ≡ passes a test f
 passes-same a tree.AnyName e f kind name = ap (is_principal a) kind
 passes-same a (tree.InNamespace uri) e f kind name = λ i. is_principal a (kind i) && is_in_namespace uri (name i)

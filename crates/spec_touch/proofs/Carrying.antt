@@ -1,14 +1,14 @@
 -- A move leads from the document before to the one after: to another parent in two steps, as the node is taken away and then put in.
 use Rattle.std.proofs.Common.{◌≡◌, ◌≤◌, ◌<◌, arith, ℕ, ◌+◌, ◌-◌, ◌==◌, Bool, true, false, cond, List, [], ◌∷◌, ◌++◌, Option, None, Some}
 use Rattle.std.proofs.Common.{refl, sym, ap, ◌∙◌, subst}
-use Rattle.std.specs.Prelude.{Result, Ok, Err, nat_lt, is_none}
+use Rattle.std.specs.Prelude.{Result, Ok, Err, ◌&&◌, ◌||◌, nat_lt, is_none}
 use Rattle.std.specs.Option.{option_map, option_and_then}
 use Rattle.std.proofs.lemmas.Bool.{ltb-true, ltb-false}
 use Rattle.std.proofs.lemmas.Slice.Eq.{bytes_eq-Decides}
 use Rattle.spec_document.specs.declared.parent.Parent.{Parent}
 use Rattle.spec_document.specs.Forest.{Content, Element, Text, Comment, Instruction, Forest, Empty, Node, Document}
 use Rattle.spec_document.specs.Forest.{labels, plain, numbered, followed, IsNormal}
-use Rattle.spec_document.specs.Place.{Found, root_of, child_at, node_at}
+use Rattle.spec_document.specs.Place.{Found, root_of, child_at, node_at, scope_at}
 use Rattle.spec_document.specs.Fault.{Fault, fault_if}
 use Rattle.spec_document.specs.Top.{kept, without_texts}
 use Rattle.spec_document.specs.Document.{elements_beside}
@@ -18,7 +18,7 @@ use Rattle.spec_edit.proofs.Around.{IsChild, child, IsBelow, below, filled, some
 use Rattle.spec_edit.proofs.Shapes.{answered, ok_same, answer_ok, append_none, same_nodes}
 use Rattle.spec_edit.proofs.Numbers.{occurs-labels, stands, stands_around, stands-filled, stands-followed, stands-met}
 use Rattle.spec_edit.proofs.Numbers.{added-earlier, numbered-again, AreOnce, AreBelow}
-use Rattle.spec_change.specs.Change.{Change, sibling_labels, passed, change_between, change_at}
+use Rattle.spec_change.specs.Change.{Change, is_among, sibling_labels, passed, change_between, change_at}
 use Rattle.spec_change.proofs.Changing.{with_children, found-changed}
 use Rattle.spec_move.specs.Changed.{in_order, between, document_without, changes_between, change_by}
 use Rattle.spec_move.specs.Move.{is_path, goes_through, origin_faults, target_faults, keeps_labels, rearranged, path_without, tree_of}
@@ -28,11 +28,17 @@ use Rattle.spec_move.proofs.Around.{path-spot, way-kept, steps_of}
 use Rattle.spec_edit.proofs.Normal.{IsAbove, normal-met, normal-whole}
 use Rattle.spec_move.proofs.Normal.{parts_of}
 use Rattle.spec_move.proofs.Moving.{Place, tree, above-by}
+use Rattle.spec_node.specs.declared.node_ref.NodeRef.{NodeRef}
 use Rattle.spec_touch.specs.Leads.{Leads, seen_change}
+use Rattle.spec_touch.specs.Moved.{goes_along}
+use Rattle.spec_touch.specs.Touched.{goes_or_comes, is_attribute}
 use Rattle.spec_touch.specs.Plain.{TellsApart}
 use Rattle.spec_stylesheet.specs.Sheet.{SpaceRule}
 use Rattle.spec_seen.specs.Seen.{seen}
+use Rattle.spec_touch.proofs.Entries.{first-of, second-of}
 use Rattle.spec_touch.proofs.Leading.{children-lead}
+use Rattle.spec_touch.proofs.Planting.{Target, keeps-scope, stays-in}
+use Rattle.spec_touch.proofs.Staying.{StaysIn}
 use Rattle.spec_touch.proofs.SeenLeading.{children-lead-seen}
 use Rattle.spec_touch.proofs.ToldApart.{none-told}
 use Rattle.spec_touch.proofs.Parting.{Holds, is_root, is_element, child-holds}
@@ -123,7 +129,7 @@ pub data Moved (first : ℕ) (document : Document ℕ) (new : Edited ℕ) (path 
   is_carried : is_path from.above to.above ≡ false → (old x : Found ℕ) → node_at document from.above ≡ Some old
       → child_at old.above old.children from.position ≡ Some x → (at : Place document from old x) → (next : Found ℕ)
       → node_at document to.above ≡ Some next → (parent : Parent) → parent_by next.content next ≡ Some parent
-      → goes_through to.above path ≡ false → (keeps : Bool)
+      → goes_through to.above path ≡ false → (keeps : Bool) → (keeps ≡ true → scope_at old ≡ scope_at next)
       → new.nodes ≡ carried from to old (placed same_nodes keeps first (kept (elements_beside parent) (tree at))).nodes document
       → Moved first document new path from to
 
@@ -177,7 +183,7 @@ module _ (first : ℕ) (document : Document ℕ) (new : Edited ℕ) where
         let beside = elements_beside parent in
         let made = with_placed from to old document (placed same_nodes keeps first (kept beside (tree at))) in
         let a = answer_ok (move_faults keeps first beside next (tree at)) (Ok made) new u.1 in
-        is_carried apart old x there found at next way parent stands u.0 keeps (sym (ap (λ d. d.nodes) (ok_same made new a.1)))
+        is_carried apart old x there found at next way parent stands u.0 keeps (keeps-scope old next) (sym (ap (λ d. d.nodes) (ok_same made new a.1)))
 
     to-other : is_path from.above to.above ≡ false → (o : Option (Found ℕ)) → node_at document to.above ≡ o
         → moved_from same_nodes first (p ∷ ps) from to document (tree at) (Some old) o ≡ Ok new → Result_is
@@ -286,6 +292,18 @@ put-fresh first document from old x at beside false left most once low k some =
         omega arith
         )
 
+-- where a change is of children, what goes or comes is told to be gone or brought
+gone_or_brought : (change : Change) (node : NodeRef) → change.of_attributes ≡ false → goes_or_comes change node ≡ true
+    → (is_among change.gone node.node.number || is_among change.brought node.node.number) ≡ true
+gone_or_brought change node e h =
+    no-more (is_among change.gone node.node.number || is_among change.brought node.node.number)
+    ((λ i. is_among change.gone node.node.number || is_among change.brought node.node.number
+    || (sym e i && is_attribute node.part && (node.node.number == change.node))) ∙ h)
+  where
+    no-more : (b : Bool) → (b || false) ≡ true → b ≡ true
+    no-more true k = refl
+    no-more false k = k
+
 pub record Carried (document after : Document ℕ) (from to : Spot) : Type 0 where
   pub left : Change
   pub entered : Change
@@ -294,6 +312,8 @@ pub record Carried (document after : Document ℕ) (from to : Spot) : Type 0 whe
   pub enters : Leads entered (document_without from document) after
   pub leaves_apart : TellsApart left document (document_without from document)
   pub enters_apart : AreOnce (document.root ∷ labels after.nodes) → TellsApart entered (document_without from document) after
+  -- a node of this number stands in the same tree before and after
+  pub stays : (node : NodeRef) → goes_along left entered node ≡ true → StaysIn left node.node.number document after
   -- as they are seen
   pub leaves_seen : (rules : List SpaceRule) → Leads (seen_change left (seen rules document) (seen rules (document_without from document)))
       (seen rules document) (seen rules (document_without from document))
@@ -334,7 +354,8 @@ module _ (first : ℕ) (document : Document ℕ) (p : ℕ) (ps : List ℕ) (to :
     (there : node_at document (spot_from p ps).above ≡ Some old) (found : child_at old.above old.children (spot_from p ps).position ≡ Some x)
     (at : Place document (spot_from p ps) old x) (way : node_at document to.above ≡ Some next) (parent : Parent)
     (stands_there : parent_by next.content next ≡ Some parent) (apart : is_path (spot_from p ps).above to.above ≡ false)
-    (through : goes_through to.above (p ∷ ps) ≡ false) (keeps : Bool) (normal : IsNormal document.nodes)
+    (through : goes_through to.above (p ∷ ps) ≡ false) (keeps : Bool) (same : keeps ≡ true → scope_at old ≡ scope_at next)
+    (normal : IsNormal document.nodes)
     (once : AreOnce (document.root ∷ labels document.nodes)) (low : AreBelow first (document.root ∷ labels document.nodes)) where
   abbrev origin : Spot
   origin = spot_from p ps
@@ -366,10 +387,13 @@ module _ (first : ℕ) (document : Document ℕ) (p : ℕ) (ps : List ℕ) (to :
             );
       }
 
+  middle-is : middle.nodes ≡ filled at.around (met at.before at.after)
+  middle-is = at.changed (deleted (origin.position - 1)) ∙ ap (filled at.around) (left-siblings document origin old x at)
+
   middle-normal : IsNormal middle.nodes
   middle-normal =
       let parts = parts_of document origin old x at normal in
-      subst IsNormal (sym (at.changed (deleted (origin.position - 1)) ∙ ap (filled at.around) (left-siblings document origin old x at)))
+      subst IsNormal (sym middle-is)
       (normal-whole None at.around (followed at.before (Node at.label at.content at.children at.after)) (met at.before at.after)
       parts.around parts.whole (normal-met at.before at.after parts.before parts.after))
 
@@ -380,13 +404,24 @@ module _ (first : ℕ) (document : Document ℕ) (p : ℕ) (ps : List ℕ) (to :
       let now = k.now.children in
       let most = left-most document origin old x at in
       let used = put-fresh first document origin old x at (elements_beside parent) keeps middle.nodes most once low in
+      let b = below (path_without origin old to.above) (root_of middle) k.now k.there in
+      let target : Target document origin to old x next at =
+      record {
+        into = b.around;
+        siblings = now;
+        left = sym middle-is ∙ b.whole;
+        above = sym k.above ∙ b.above;
+        carried_is = λ nodes. b.changed (inserted n nodes);
+      } in
       let leaving : Split (λ _. Unit {0}) old.children (deleted (origin.position - 1) old.children) =
       split-is at.siblings (left-siblings document origin old x at) (met-split at.before (split_goes (unsplit (λ _. Unit {0}) at.after))) in
       let entering : Split (λ j. stands (λ m. m == j) put ≡ 0) now (inserted n put now) =
       split-is (sym (first-later n now)) refl (met-split (first_siblings n now) (come-split put (later_siblings n now) (λ _ none. none))) in
+      let went = change_made (λ _. Unit {0}) document origin.above old there (deleted (origin.position - 1)) in
+      let came = change_made (λ j. stands (λ m. m == j) put ≡ 0) middle (path_without origin old to.above) k.now k.there (inserted n put) in
       record {
-        left = change_made (λ _. Unit {0}) document origin.above old there (deleted (origin.position - 1));
-        entered = change_made (λ j. stands (λ m. m == j) put ≡ 0) middle (path_without origin old to.above) k.now k.there (inserted n put);
+        left = went;
+        entered = came;
         told = (λ i. cond (apart i) (option_map in_order (change_at false document carried_document origin.above))
             (option_and_then (changes_between origin to document carried_document) (there i)))
             ∙ ap (option_and_then (λ left. option_map (between left) (change_at false middle carried_document (path_without origin old to.above))))
@@ -399,6 +434,9 @@ module _ (first : ℕ) (document : Document ℕ) (p : ℕ) (ps : List ℕ) (to :
         leaves_apart = made-apart (λ _. Unit {0}) document origin.above old there (deleted (origin.position - 1)) once middle-alone;
         enters_apart = λ then_once. made-apart (λ j. stands (λ m. m == j) put ≡ 0) middle (path_without origin old to.above) k.now k.there
             (inserted n put) middle-alone then_once;
+        stays = λ node g. stays-in first document origin to old x next at target (elements_beside parent) keeps same once low node.node.number
+            went refl (gone_or_brought went node refl (first-of (goes_or_comes went node) (goes_or_comes came node) g))
+            (gone_or_brought came node refl (second-of (goes_or_comes went node) (goes_or_comes came node) g));
         leaves_seen = λ rules. children-lead-seen rules (λ _. Unit {0}) document (record { nodes = middle.nodes; made = 0 }) normal most-once
             (λ _ _. tt) (change_made (λ _. Unit {0}) document origin.above old there (deleted (origin.position - 1))) old
             (deleted (origin.position - 1)) leaving refl refl refl refl origin.above refl there

@@ -5,6 +5,11 @@ pub mod Scopes
 pub mod Entries
 pub mod Running
 pub mod Answering
+pub mod Apart
+pub mod Holding
+pub mod Pairing
+pub mod Staying
+pub mod Planting
 pub mod Parting
 pub mod Leading
 pub mod Carrying

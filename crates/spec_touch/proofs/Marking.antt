@@ -29,7 +29,7 @@ use Rattle.spec_touch.specs.Touched.{is_touched}
 use Rattle.spec_touch.proofs.Answering.{unmarked, neither-first, neither-second}
 use Rattle.spec_touch.proofs.KeepingSpace.{keeps-space}
 use Rattle.spec_touch.proofs.Leading.{after_edit}
-use Rattle.spec_touch.proofs.Moving.{after_move, move-unmarked}
+use Rattle.spec_touch.proofs.Moving.{after_move, by-either, move-unmarked}
 use Rattle.spec_touch.proofs.MovingChoices.{move-spared}
 use Rattle.spec_touch.proofs.SeenLeading.{edit-leads-seen}
 use Rattle.spec_touch.proofs.Sparing.{choice-spared}
@@ -84,12 +84,6 @@ parameter-unmarked given old new h s c e (question.Copy node) u =
     λ i. truth_by ref_of same_ref (sym c i) (sym s i) old.parameters (entries_of (sym e i)) (question.Copy node)
 parameter-unmarked given old new h s c e (question.Unit element) u =
     λ i. truth_by ref_of same_ref (sym c i) (sym s i) old.parameters (entries_of (sym e i)) (question.Unit element)
-
--- what is not marked is not touched, or spared
-by-either : {A : Type 0} (touched is_spared : Bool) → (touched && not is_spared) ≡ false → (touched ≡ false → A) → (is_spared ≡ true → A) → A
-by-either false is_spared e f g = f refl
-by-either true true e f g = g refl
-by-either true false e f g = absurd (cc)
 
 -- with one stylesheet and the same parameters
 module _ (sheet : Sheet) (parameters : Parameters) (called : stylesheet.Place → NodeRef) (asking : List (Option Expanded))

@@ -1,7 +1,7 @@
 -- A question that a move does not mark has the same true answer before and after.
-use Rattle.std.proofs.Common.{◌≡◌, ◌≤◌, arith, ℕ, ◌-◌, ◌==◌, true, false, cond, List, [], ◌∷◌, ◌++◌, None, Some}
-use Rattle.std.proofs.Common.{sym, ap, ◌∙◌, subst}
-use Rattle.std.specs.Prelude.{◌||◌, Ok}
+use Rattle.std.proofs.Common.{◌≡◌, ◌≤◌, arith, ℕ, ◌-◌, ◌==◌, Bool, true, false, not, cond, List, [], ◌∷◌, ◌++◌, None, Some}
+use Rattle.std.proofs.Common.{refl, sym, ap, ◌∙◌, subst}
+use Rattle.std.specs.Prelude.{◌&&◌, ◌||◌, Ok}
 use Rattle.std.specs.Option.{option_map, option_and_then}
 use Rattle.spec_document.specs.Forest.{Forest, Empty, Node, Document, labels, IsNormal}
 use Rattle.spec_document.specs.Place.{Found, root_of, child_at, node_at}
@@ -27,10 +27,11 @@ use Rattle.spec_node.specs.Naming.{ref_of, same_ref}
 use Rattle.spec_touch.specs.Touched.{is_touched}
 use Rattle.spec_touch.specs.Leads.{Leads, seen_change}
 use Rattle.spec_seen.specs.Seen.{seen}
-use Rattle.spec_touch.specs.Moved.{asks_order, move_touched}
+use Rattle.spec_touch.specs.Moved.{asks_order, stays_in_move, move_touched}
 use Rattle.spec_touch.proofs.Answering.{unmarked, neither-first, neither-second}
 use Rattle.spec_touch.proofs.Carrying.{Moved, is_still, is_within, is_carried, move-made, Carried, carry, document_with, change-told}
 use Rattle.spec_touch.proofs.Reordering.{sides, reordered-unmarked}
+use Rattle.spec_touch.proofs.Staying.{stays-kept}
 
 abbrev pub after_move : Document ℕ → Edited ℕ → Document ℕ
 after_move document new = record { root = document.root; nodes = new.nodes }
@@ -48,6 +49,12 @@ within-told from to document after change c same told e =
     some_same (in_order c) change
     (sym (ap (λ b. cond b (option_map in_order (change_at false document after from.above))
     (option_and_then (changes_between from to document after) (node_at document from.above))) same ∙ ap (option_map in_order) told) ∙ e)
+
+-- what is not marked is not touched, or is left out
+pub by-either : {A : Type 0} (touched left_out : Bool) → (touched && not left_out) ≡ false → (touched ≡ false → A) → (left_out ≡ true → A) → A
+by-either false left_out e f g = f refl
+by-either true true e f g = g refl
+by-either true false e f g = absurd (cc)
 
 module _ (first : ℕ) (document : Document ℕ) (new : Edited ℕ) (normal : IsNormal document.nodes)
     (once : AreOnce (document.root ∷ labels document.nodes)) (low : AreBelow first (document.root ∷ labels document.nodes)) where
@@ -67,11 +74,12 @@ module _ (first : ℕ) (document : Document ℕ) (new : Edited ℕ) (normal : Is
         → change_by from to document d ≡ Some change → move_touched change q ≡ false → IsKeptAnswer d
     carried-kept from to d c change e u =
         let same = some_same (between c.left c.entered) change (sym c.told ∙ e) in
-        let neither : (is_touched c.left q || is_touched c.entered q) ≡ false = ap (λ m. move_touched m q) same ∙ u in
-        unmarked c.left document (document_without from document) c.leaves sheet parameters called q
+        by-either (is_touched c.left q || is_touched c.entered q) (stays_in_move c.left c.entered q) (ap (λ m. move_touched m q) same ∙ u)
+        (λ neither. unmarked c.left document (document_without from document) c.leaves sheet parameters called q
         (neither-first (is_touched c.left q) (is_touched c.entered q) neither)
         ∙ unmarked c.entered (document_without from document) d c.enters sheet parameters called q
-        (neither-second (is_touched c.left q) (is_touched c.entered q) neither)
+        (neither-second (is_touched c.left q) (is_touched c.entered q) neither))
+        (λ stays. stays-kept c.left c.entered document d c.stays sheet parameters called q stays)
 
     within-kept : (from to : Spot) (old x : Found ℕ) (there : node_at document from.above ≡ Some old)
         (i : IsChild old.above old.children from.position x) → is_path from.above to.above ≡ true → (d : Document ℕ)
@@ -99,9 +107,9 @@ module _ (first : ℕ) (document : Document ℕ) (new : Edited ℕ) (normal : Is
         ap (λ f. truth_by ref_of same_ref called sheet parameters (entries_of (document_with document f)) q) (sym is)
     by-made p ps to (is_within same old x there i is) change e u =
         within-kept (spot_from p ps) to old x there i same after (ap (document_with document) is) change e u
-    by-made p ps to (is_carried apart old x there found at next way parent stand through keeps is) change e u =
+    by-made p ps to (is_carried apart old x there found at next way parent stand through keeps scope is) change e u =
         carried-kept (spot_from p ps) to after (subst (λ f. Carried document (document_with document f) (spot_from p ps) to) (sym is)
-        (carry first document p ps to old x next there found at way parent stand apart through keeps normal once low)) change e u
+        (carry first document p ps to old x next there found at way parent stand apart through keeps scope normal once low)) change e u
 
     pub move-unmarked : (path other : List ℕ) → moved_nodes first path other document ≡ Ok new → (change : MoveChange)
         → move_change path other document after ≡ Some change → move_touched change q ≡ false → IsKeptAnswer after
@@ -128,9 +136,9 @@ module _ (first : ℕ) (document : Document ℕ) (new : Edited ℕ) (normal : Is
       → is_path (spot_from p ps).above to.above ≡ false → Carried document after (spot_from p ps) to
   carried-by p ps to (is_still same x at is) apart = absurd (let no : true ≡ false = sym same ∙ apart in cc)
   carried-by p ps to (is_within same old x there i is) apart = absurd (let no : true ≡ false = sym same ∙ apart in cc)
-  carried-by p ps to (is_carried _ old x there found at next way parent stand through keeps is) apart =
+  carried-by p ps to (is_carried _ old x there found at next way parent stand through keeps scope is) apart =
       subst (λ f. Carried document (document_with document f) (spot_from p ps) to) (sym is)
-      (carry first document p ps to old x next there found at way parent stand apart through keeps normal once low)
+      (carry first document p ps to old x next there found at way parent stand apart through keeps scope normal once low)
 
   makes : (p : ℕ) (ps : List ℕ) (to : Spot) → Moved first document new (p ∷ ps) (spot_from p ps) to → Makes (spot_from p ps) to
   makes p ps to (is_still same x at is) =
@@ -148,8 +156,8 @@ module _ (first : ℕ) (document : Document ℕ) (new : Edited ℕ) (normal : Is
       within-makes from to (change_between false (passed from.above (root_of document)) old (with_children old (g old.children))) same
       (ap (λ f. change_at false document (document_with document f) from.above) is
       ∙ change-told (λ _. Unit {0}) document from.above old there g)
-  makes p ps to (is_carried apart old x there found at next way parent stand through keeps is) =
-      let c = carried-by p ps to (is_carried apart old x there found at next way parent stand through keeps is) apart in
+  makes p ps to (is_carried apart old x there found at next way parent stand through keeps scope is) =
+      let c = carried-by p ps to (is_carried apart old x there found at next way parent stand through keeps scope is) apart in
       record { change = between c.left c.entered; told = c.told }
 
   pub record MakesChange (path other : List ℕ) : Type 0 where

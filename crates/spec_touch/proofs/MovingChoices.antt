@@ -118,9 +118,9 @@ module _ (first : ℕ) (document : Document ℕ) (new : Edited ℕ) (normal : Is
   by-made (is_still same x at is) change e u =
       ap (λ f. truth_by ref_of same_ref called sheet parameters (entries_of (document_with document f)) q) (sym is)
   by-made (is_within same old x there i is) change e u = within-spared old x there i same is change e u
-  by-made (is_carried apart old x there found at beyond way parent stand through keeps is) change e u =
+  by-made (is_carried apart old x there found at beyond way parent stand through keeps scope is) change e u =
       carried-spared (subst (λ f. Carried document (document_with document f) from to) (sym is)
-      (carry first document p ps to old x beyond there found at way parent stand apart through keeps normal once low)) change e u
+      (carry first document p ps to old x beyond there found at way parent stand apart through keeps scope normal once low)) change e u
 
   pub by-move : (change : MoveChange) → move_change (p ∷ ps) (next ∷ more) document after ≡ Some change
       → spared_by_move asking change q ≡ true → IsSame after

@@ -250,7 +250,9 @@ fn whole(
     ensures kept { IfOk result (λ over. HoldsWith stylesheet.now (truth_in stylesheet.now (parameters_of parameters.now) source.now) over.kept) }
 {
     source.distinct_numbers();
-    let prepared = last.own.prepare(alloc, since, source, stylesheet)?;
+    let prepared = last
+        .own
+        .prepare(alloc, since, source, stylesheet, &last.records)?;
     let spared = &prepared.spared;
     let Ok(recorded) = run_recorded(alloc, stylesheet, parameters, source, &last.records, spared)
     else {

@@ -21,8 +21,8 @@ struct Lifted {
     items: Vec<Unit>,
 }
 
-/// The stylesheet in which the content of each xsl:for-each stands in a template of its own, where that changes no run:
-/// of each stylesheet that a document can write. Any other stays as it is. Want of memory alone is an error.
+/// The stylesheet in which the content of each xsl:for-each stands in a template of its own, where `is_liftable` says
+/// that this changes no run. Any other stays as it is. Want of memory alone is an error.
 pub fn with_items(alloc: Global, sheet: Sheet) -> Result<Sheet, Memory>
     ensures { IfOk result (λ s. sheet_of s ≡ liftable.with_items (sheet_of sheet)) }
 {

@@ -10,7 +10,7 @@ use Rattle.xt_spared.specs.declared.choices.OwnChoice.{OwnChoice}
 use Rattle.xt_spared.specs.declared.choices.OwnChoices.{OwnChoices}
 use Rattle.xt_world.specs.declared.stylesheet.Stylesheet.{Stylesheet}
 use Rattle.xt_own.specs.Keys.{AllKeys, IsKeyOf}
-use Rattle.xt_own.specs.View.{AllDecide, IsDecided, OwnDecides}
+use Rattle.xt_own.specs.View.{AllDecide, IsDecided, IsWorld, OwnDecides}
 use Rattle.xt_own.specs.declared.own_reads.OwnReads.{OwnReads}
 use Rattle.xt_own.specs.declared.own_key.OwnKey.{OwnKey}
 
@@ -43,12 +43,13 @@ carried_decided (Ok None) own s was e is = tt
 carried_decided (Ok (Some shared)) own s was e is = subst (λ (o : OwnChoice). IsDecided s was (own_of o)) (sym e) is
 carried_decided (Err x) own s was e is = tt
 
--- choices and keys together
+-- choices and keys together, of a run in a world
 pub together : (r : Result OwnReads Memory) (choices : Result OwnChoices Memory) (keys : Result (Vec OwnKey Global) Memory) (s : Stylesheet) (was : Ask)
     → IfOk r (λ own. choices ≡ Ok own.choices) → IfOk r (λ own. keys ≡ Ok own.keys)
-    → IfOk choices (λ c. AllDecide s was (owns_of c)) → IfOk keys (λ k. AllKeys s was k.items) → IfOk r (OwnDecides s was)
-together (Ok own) choices keys s was e f decide known = record {
+    → IfOk choices (λ c. AllDecide s was (owns_of c)) → IfOk keys (λ k. AllKeys s was k.items) → IsWorld s was → IfOk r (OwnDecides s was)
+together (Ok own) choices keys s was e f decide known world = record {
   choices = subst (λ (c : Result OwnChoices Memory). IfOk c (λ c. AllDecide s was (owns_of c))) e decide;
   keys = subst (λ (k : Result (Vec OwnKey Global) Memory). IfOk k (λ k. AllKeys s was k.items)) f known;
+  world = λ gathered. world;
 }
-together (Err x) choices keys s was e f decide known = tt
+together (Err x) choices keys s was e f decide known world = tt

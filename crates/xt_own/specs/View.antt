@@ -1,5 +1,6 @@
 -- What is known of the questions that were asked for a choice of a template rule, and of all that is kept of a run besides its records.
 --     IsDecided    a choice is as it was in every world of the stylesheet in which these questions have the answers that they had
+--     IsWorld      these are the answers of a source and parameters, for the stylesheet
 --     OwnDecides   all choices are decided by what was asked for them, and keys are known by theirs, where these are the answers
 --     Carries      what is left of that for a later run, in which some questions are spared
 use Rattle.std.specs.Prelude.{◌≡◌, ℕ, Bool, true, false, List, [], ◌∷◌, Option}
@@ -40,9 +41,16 @@ AllDecide s was (own ∷ owns) = IsDecided s was own × AllDecide s was owns
 
 -- ---- What is kept
 
+pub record IsWorld (s : Stylesheet) (was : Ask) : Type 0 where
+  pub parameters : Parameters
+  pub document : Document ℕ
+  pub answers : (question : Question NodeRef) → was question ≡ truth_in s parameters document question
+
 pub record OwnDecides (s : Stylesheet) (was : Ask) (own : OwnReads) : Type 0 where
   pub choices : AllDecide s was (owns_of own.choices)
   pub keys : AllKeys s was own.keys.items
+  -- what was gathered after a run was asked in a world
+  pub world : own.gathered ≡ true → IsWorld s was
 
 -- choices whose questions all stay are still decided by them
 abbrev pub CarriesChoices : Stylesheet → Ask → Spared → Type 0

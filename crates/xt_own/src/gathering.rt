@@ -215,7 +215,8 @@ fn carried(own: &Rc<OwnChoice>) -> Result<Option<Rc<OwnChoice>>, Memory>
     Ok(Some(own.clone()?))
 }
 
-fn made<'b>(
+/// The choice, made once more in this source, with what is asked for it.
+pub(crate) fn made<'b>(
     alloc: Global,
     stylesheet: &Stylesheet,
     question: &Question,

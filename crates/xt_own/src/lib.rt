@@ -6,15 +6,16 @@
 //! each key, of each node. Before the next run this tells which of them need not be asked again.
 //!
 //! ```text
-//! let prepared = own.prepare(alloc, &since, &source, &stylesheet)?;      // before a run
-//! prepared.spared                                                       // for what asks again
-//! let own = prepared.gather(alloc, &source, &stylesheet, &kept)?;        // after it
+//! let prepared = own.prepare(alloc, &since, &source, &stylesheet, &last)?;  // before a run, by the records of the last
+//! prepared.spared                                                          // for what asks again
+//! let own = prepared.gather(alloc, &source, &stylesheet, &kept)?;           // after it
 //! ```
 #![tactic(auto)]
 
 mod asked;
 mod choices;
 mod gathering;
+mod moved;
 mod own_key;
 mod own_node;
 mod own_questions;

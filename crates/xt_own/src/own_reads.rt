@@ -1,5 +1,5 @@
 // What was asked for choices and keys: what of it is spared before a run, and what is kept after it.
-ghost use Rattle.std.specs.Prelude.{◌≡◌, true, [], Ok, IfOk, OnOk};
+ghost use Rattle.std.specs.Prelude.{◌≡◌, true, false, [], Ok, IfOk, OnOk};
 ghost use Rattle.spec_run.specs.Documents.{Parameters};
 ghost use Rattle.xt_touch.specs.View.{keep_sheet, since_of};
 ghost use Rattle.xt_spared.specs.View.{Agrees, Ask, KeysStay, Spares, owns_in, owns_of};
@@ -8,6 +8,7 @@ ghost use Rattle.xt_own.specs.Keys.{AllKeys, names_of};
 ghost use Rattle.xt_own.specs.View.{AllDecide, Carries, CarriesChoices, OwnDecides};
 
 use crate::gathering::gather_choices;
+use crate::moved::choices_made_now;
 use crate::own_key::{OwnKey, own_key};
 use crate::stay::keys_that_stay;
 use std::alloc::Global;
@@ -25,6 +26,8 @@ use xt_world::Stylesheet;
 pub struct OwnReads {
     pub(crate) choices: OwnChoices,
     pub(crate) keys: Vec<OwnKey>,
+    // Whether they are those of a run, whose questions a world answered.
+    pub(crate) gathered: bool,
 }
 
 /// What need not be asked again by the next run, and what is known of the keys that stay.
@@ -46,17 +49,20 @@ impl OwnReads {
         OwnReads {
             choices: OwnChoices::new(alloc),
             keys: Vec::new(alloc),
+            gathered: false,
         }
     }
 
-    /// What need not be asked again after these changes: nothing but what they do not mark, where one of them is no change of
-    /// the source and gives no parameter.
+    /// What need not be asked again after these changes since the run that kept these records: nothing but what they do not
+    /// mark, where one of them is no change of the source and gives no parameter. After a move choices of which nothing is
+    /// known are made once more.
     pub fn prepare<'a>(
         &'a self,
         alloc: Global,
         since: &'a Since,
         document: &Doc,
         stylesheet: &Stylesheet,
+        last: &Pool,
     ) -> Result<Prepared<'a>, Memory>
         ensures { (was : Ask) (parameters : Parameters) → (keep_sheet (since_of since.now) ≡ true → OwnDecides stylesheet.now was self.now)
             → Agrees was (truth_in stylesheet.now parameters document.now) (since_of since.now)
@@ -65,8 +71,12 @@ impl OwnReads {
         if !since.keeps_stylesheet() {
             return Ok(nothing_kept(alloc, since));
         }
-        let keys = keys_after(alloc, self.keys.as_slice(), since, document, stylesheet)?;
-        with_keys(alloc, since, &self.choices, keys)
+        let made_now = made_after(alloc, self.gathered, since, document, stylesheet, last)?;
+        let Ok(keys) = keys_after(alloc, self.keys.as_slice(), since, document, stylesheet) else {
+            drop(made_now);
+            return Err(Memory);
+        };
+        with_keys(alloc, since, &self.choices, keys, made_now)
     }
 }
 
@@ -75,10 +85,11 @@ fn nothing_kept<'a>(alloc: Global, since: &'a Since) -> Prepared<'a>
     ensures since { result.spared.since.now ≡ since.now }
     ensures names { result.spared.keys.items ≡ [] }
     ensures choices { owns_in result.spared.choices ≡ [] }
+    ensures made_now { owns_of result.spared.made_now ≡ [] }
     ensures keys { result.keys.items ≡ [] }
 {
     Prepared {
-        spared: Spared::new(since, Vec::new(alloc), None),
+        spared: Spared::new(since, Vec::new(alloc), None, OwnChoices::new(alloc)),
         keys: Vec::new(alloc),
     }
 }
@@ -100,23 +111,48 @@ fn keys_after(
     keys_that_stay(alloc, keys, since, document, stylesheet)
 }
 
+// The choices that are made once more, as far as these changes mark them: none but where a node was moved. Where nothing was
+// gathered, it is not known that a world answered what these records asked.
+fn made_after(
+    alloc: Global,
+    gathered: bool,
+    since: &Since,
+    document: &Doc,
+    stylesheet: &Stylesheet,
+    last: &Pool,
+) -> Result<OwnChoices, Memory>
+    ensures decided { (parameters : Parameters) → IfOk result (λ choices. AllDecide stylesheet.now (truth_in stylesheet.now parameters document.now) (owns_of choices)) }
+    ensures none { gathered ≡ false → IfOk result (λ choices. owns_of choices ≡ []) }
+{
+    if !gathered {
+        return Ok(OwnChoices::new(alloc));
+    }
+    if !since.moves() {
+        return Ok(OwnChoices::new(alloc));
+    }
+    choices_made_now(alloc, document, stylesheet, since, last.records())
+}
+
 // With these keys that stay, and all choices.
 fn with_keys<'a>(
     alloc: Global,
     since: &'a Since,
     choices: &'a OwnChoices,
     keys: Vec<OwnKey>,
+    made_now: OwnChoices,
 ) -> Result<Prepared<'a>, Memory>
     ensures since { IfOk result (λ p. since_of p.spared.since.now ≡ since_of since.now) }
     ensures names { IfOk result (λ p. p.spared.keys.items ≡ names_of keys.items) }
     ensures choices { IfOk result (λ p. owns_in p.spared.choices ≡ owns_of choices.now) }
+    ensures made_now { IfOk result (λ p. owns_of p.spared.made_now ≡ owns_of made_now) }
     ensures keys { IfOk result (λ p. p.keys.items ≡ keys.items) }
 {
     let Ok(names) = names_of(alloc, keys.as_slice()) else {
         drop(keys);
+        drop(made_now);
         return Err(Memory);
     };
-    let spared = Spared::new(since, names, Some(choices));
+    let spared = Spared::new(since, names, Some(choices), made_now);
     Ok(Prepared { spared, keys })
 }
 
@@ -173,7 +209,11 @@ fn joined(
                 drop(keys);
                 Err(Memory)
             }
-            Ok(choices) => Ok(OwnReads { choices, keys }),
+            Ok(choices) => Ok(OwnReads {
+                choices,
+                keys,
+                gathered: true,
+            }),
         },
     }
 }

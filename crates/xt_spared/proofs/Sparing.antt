@@ -1,5 +1,5 @@
 -- That what has an own choice whose reads stay is spared.
-use Rattle.std.proofs.Common.{◌≡◌, true, List, Option, None, Some}
+use Rattle.std.proofs.Common.{◌≡◌, true, List, ◌++◌, Option, None, Some}
 use Rattle.std.specs.Prelude.{IfSome, is_some}
 use Rattle.std.specs.Borrow.{Bor}
 use Rattle.std.specs.declared.rc.Rc.{Rc}
@@ -9,11 +9,26 @@ use Rattle.spec_meaning.specs.Question.{Question}
 use Rattle.spec_node.specs.declared.node_ref.NodeRef.{NodeRef}
 use Rattle.spec_touch.specs.Marks.{WorldChange}
 use Rattle.xt_questions.specs.View.{question_of}
-use Rattle.xt_spared.specs.View.{IsAmong, IsSpared, by_reads, Own, all_stay, own_of}
+use Rattle.xt_spared.specs.View.{IsAmong, IsSpared, by_itself, by_reads, Own, all_stay, own_of}
 use Rattle.xt_spared.specs.declared.choices.OwnChoice.{OwnChoice}
+use Rattle.xt_spared.proofs.Among.{among_first, among_second}
 
 pub found_spared : (changes : List WorldChange) (names : List Expanded) (owns : List Own) (question : Question NodeRef) (found : Option (Bor (Rc OwnChoice Global)))
     → IfSome found (λ own. question_of own.now.value.question ≡ question) → IfSome found (λ own. IsAmong (own_of own.now.value) owns)
     → IfSome found (λ own. all_stay changes names (own_of own.now.value).reads ≡ true) → is_some found ≡ true → IsSpared changes names owns question
 found_spared changes names owns question None of among stay is = absurd (cc)
 found_spared changes names owns question (Some own) of among stay is = by_reads (own_of own.now.value) among of stay
+
+-- so it is where more choices are known, before these or after them
+spared_of : (changes : List WorldChange) (names : List Expanded) (owns all : List Own) (question : Question NodeRef)
+    → ((own : Own) → IsAmong own owns → IsAmong own all) → IsSpared changes names owns question → IsSpared changes names all question
+spared_of changes names owns all question more (by_itself stays) = by_itself stays
+spared_of changes names owns all question more (by_reads own among of stay) = by_reads own (more own among) of stay
+
+pub spared_first : (changes : List WorldChange) (names : List Expanded) (owns others : List Own) (question : Question NodeRef)
+    → IsSpared changes names owns question → IsSpared changes names (owns ++ others) question
+spared_first changes names owns others question h = spared_of changes names owns (owns ++ others) question (among_first owns others) h
+
+pub spared_second : (changes : List WorldChange) (names : List Expanded) (owns others : List Own) (question : Question NodeRef)
+    → IsSpared changes names others question → IsSpared changes names (owns ++ others) question
+spared_second changes names owns others question h = spared_of changes names others (owns ++ others) question (among_second owns others) h

@@ -4,7 +4,7 @@
 --     Agrees      two worlds answer alike what no change marks
 --     KeysStay    they answer alike what is asked of these keys
 --     Spares      they answer alike what is spared
-use Rattle.std.specs.Prelude.{◌≡◌, ◌⊎◌, Bool, true, false, not, ◌||◌, List, [], ◌∷◌, map, Option, None, Some}
+use Rattle.std.specs.Prelude.{◌≡◌, ◌⊎◌, Bool, true, false, not, ◌||◌, List, [], ◌∷◌, ◌++◌, map, Option, None, Some}
 use Rattle.std.specs.List.{list_all, list_any}
 use Rattle.std.specs.Borrow.{Bor}
 use Rattle.spec_document.specs.Name.{Expanded, same_name}
@@ -73,8 +73,12 @@ pub data IsSpared (changes : List WorldChange) (names : List Expanded) (owns : L
   -- it is a choice, and each question that was asked for it stays
   by_reads : (own : Own) → IsAmong own owns → own.question ≡ question → all_stay changes names own.reads ≡ true → IsSpared changes names owns question
 
+-- by the choices that were found before, and by those that were made only now
+abbrev pub owns_by : Spared → List Own
+owns_by spared = owns_in spared.choices ++ owns_of spared.made_now
+
 abbrev pub IsSparedBy : Spared → Question NodeRef → Type 0
-IsSparedBy spared question = IsSpared (since_of spared.since.now) spared.keys.items (owns_in spared.choices) question
+IsSparedBy spared question = IsSpared (since_of spared.since.now) spared.keys.items (owns_by spared) question
 
 -- ---- Two worlds: `was` answers as in the last finished run, `ask` as now
 

@@ -6,7 +6,7 @@
 //! ```text
 //! let mut own = OwnChoices::new(alloc);
 //! own.add(Rc::new(alloc, OwnChoice { question, reads })?)?;         // a choice, and what was asked for it
-//! let spared = Spared::new(&since, keys, Some(&own));
+//! let spared = Spared::new(&since, keys, Some(&own), OwnChoices::new(alloc));
 //! spared.spares(&question)                                          // a few look-ups, and one for each question that was asked for it
 //! ```
 #![tactic(auto)]

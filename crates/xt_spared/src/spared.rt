@@ -5,7 +5,7 @@ ghost use Rattle.spec_document.specs.Name.{same_name};
 ghost use Rattle.spec_touch.specs.Marks.{any_marks};
 ghost use Rattle.xt_questions.specs.View.{question_of};
 ghost use Rattle.xt_touch.specs.View.{since_of};
-ghost use Rattle.xt_spared.specs.View.{IsAmong, IsSparedBy, all_stay, is_key_among, own_of, owns_in, questions_of, stays};
+ghost use Rattle.xt_spared.specs.View.{IsAmong, IsSparedBy, all_stay, is_key_among, own_of, owns_in, owns_of, questions_of, stays};
 
 use crate::{OwnChoice, OwnChoices};
 use std::rc::Rc;
@@ -21,19 +21,28 @@ pub struct Spared<'a> {
     // The names of keys that stay.
     keys: Vec<Expanded>,
     choices: Option<&'a OwnChoices>,
+    // Choices that were made only now, with what was asked for them.
+    made_now: OwnChoices,
 }
 
 impl<'a> Spared<'a> {
-    /// What these changes, these keys that stay and these choices let one spare.
-    pub fn new(since: &'a Since, keys: Vec<Expanded>, choices: Option<&'a OwnChoices>) -> Spared<'a>
+    /// What these changes, these keys that stay, these choices and those that were made only now let one spare.
+    pub fn new(
+        since: &'a Since,
+        keys: Vec<Expanded>,
+        choices: Option<&'a OwnChoices>,
+        made_now: OwnChoices,
+    ) -> Spared<'a>
         ensures since { result.since.now ≡ since.now }
         ensures keys { result.keys.items ≡ keys.items }
         ensures choices { owns_in result.choices ≡ owns_in choices.entry }
+        ensures made_now { owns_of result.made_now ≡ owns_of made_now }
     {
         Spared {
             since,
             keys,
             choices,
+            made_now,
         }
     }
 
@@ -45,7 +54,10 @@ impl<'a> Spared<'a> {
         if self.stays(question) {
             return true;
         }
-        self.own_choice(question).is_some()
+        if self.own_choice(question).is_some() {
+            return true;
+        }
+        self.found_in(&self.made_now, question).is_some()
     }
 
     /// The choice of this question of which each question that was asked for it need not be asked again. Takes no memory.
@@ -54,7 +66,20 @@ impl<'a> Spared<'a> {
         ensures among { IfSome result (λ own. IsAmong (own_of own.now.value) (owns_in self.now.choices)) }
         ensures stays { IfSome result (λ own. all_stay (since_of self.now.since.now) self.now.keys.items (own_of own.now.value).reads ≡ true) }
     {
-        let own = self.choices?.find(question)?;
+        self.found_in(self.choices?, question)
+    }
+
+    // The same of these choices.
+    fn found_in<'b>(
+        &self,
+        choices: &'b OwnChoices,
+        question: &Question,
+    ) -> Option<&'b Rc<OwnChoice>>
+        ensures question { IfSome result (λ own. question_of own.now.value.question ≡ question_of question.now) }
+        ensures among { IfSome result (λ own. IsAmong (own_of own.now.value) (owns_of choices.now)) }
+        ensures stays { IfSome result (λ own. all_stay (since_of self.now.since.now) self.now.keys.items (own_of own.now.value).reads ≡ true) }
+    {
+        let own = choices.find(question)?;
         if self.all_stay(own.reads.as_slice()) {
             Some(own)
         } else {

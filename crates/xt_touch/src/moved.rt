@@ -8,10 +8,12 @@ ghost use Rattle.xt_touch.specs.View.{moved_by};
 
 use crate::Modes;
 use crate::source::SourceMarks;
+use spec_document::Axis;
 use std::alloc::Global;
 use xt_edit::MoveChange;
 use xt_questions::Question;
 use xt_text::Memory;
+use xt_tree::NodeRef;
 
 /// A move of a node of the source, ready to be asked which questions it marks.
 #[derive(Drop)]
@@ -59,9 +61,58 @@ impl MoveMarks {
         match self {
             MoveMarks::InOrder(source) => asks_order(question) || source.touches(question),
             MoveMarks::Between { left, entered } => {
-                left.touches(question) || entered.touches(question)
+                (left.touches(question) || entered.touches(question))
+                    && !stays_in_move(left, entered, question)
             }
         }
+    }
+}
+
+// Whether it is asked of a node that goes along with a move to another parent, and has the answer that it had.
+fn stays_in_move(left: &SourceMarks, entered: &SourceMarks, question: &Question) -> bool
+    ensures { result ≡ spec.stays_in_move left.now entered.now (question_of question.now) }
+{
+    match question {
+        Question::Step(node, axis, _) => {
+            goes_along(left, entered, *node) && stays_along(*axis, left.is_child(*node))
+        }
+        Question::Text(node) => goes_along(left, entered, *node) && !left.is_child(*node),
+        Question::Name(node) => goes_along(left, entered, *node),
+        Question::Place(_) => false,
+        Question::Order(_) => false,
+        Question::Key(_, _) => false,
+        Question::Choice(_, _, _) => false,
+        Question::Copy(node) => goes_along(left, entered, *node) && !left.is_child(*node),
+        Question::Unit(_) => false,
+        Question::External(_) => false,
+    }
+}
+
+// Whether the node is the moved one or stands below it, and keeps its number.
+fn goes_along(left: &SourceMarks, entered: &SourceMarks, node: NodeRef) -> bool
+    ensures { result ≡ spec.goes_along left.now entered.now node }
+{
+    left.goes_or_comes(node) && entered.goes_or_comes(node)
+}
+
+// Whether such a node finds on this axis what it found.
+fn stays_along(axis: Axis, moved: bool) -> bool
+    ensures { result ≡ spec.stays_along axis moved }
+{
+    match axis {
+        Axis::Itself => true,
+        Axis::Child => true,
+        Axis::Descendant => true,
+        Axis::DescendantOrSelf => true,
+        Axis::Attribute => true,
+        Axis::Namespace => true,
+        Axis::FollowingSibling => !moved,
+        Axis::PrecedingSibling => !moved,
+        Axis::Following => false,
+        Axis::Preceding => false,
+        Axis::Parent => false,
+        Axis::Ancestor => false,
+        Axis::AncestorOrSelf => false,
     }
 }
 

@@ -183,9 +183,9 @@ impl SourceMarks {
         false
     }
 
-    // Whether the node goes or comes, or belongs to one that does. Where attributes of an element change, each of
-    // them may be another.
-    fn goes_or_comes(&self, node: NodeRef) -> bool
+    /// Whether the node goes or comes, or belongs to one that does. Where attributes of an element change, each of
+    /// them may be another.
+    pub(crate) fn goes_or_comes(&self, node: NodeRef) -> bool
         ensures { result ≡ spec.goes_or_comes self.now node }
     {
         self.moving.has(node.node) || self.is_changed_attribute(node)
@@ -211,8 +211,8 @@ impl SourceMarks {
         is_itself(node.part) && self.holding.has(node.node)
     }
 
-    // Whether it is a child of the node of the change, before or after.
-    fn is_child(&self, node: NodeRef) -> bool
+    /// Whether it is a child of the node of the change, before or after.
+    pub(crate) fn is_child(&self, node: NodeRef) -> bool
         ensures { result ≡ spec.is_child self.now node }
     {
         is_itself(node.part) && self.children.has(node.node)
