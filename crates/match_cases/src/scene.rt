@@ -9,7 +9,7 @@ use std::alloc::Global;
 use xp_eval::Eval;
 use xp_parse::parse;
 use xt_document_world::PlainWorld;
-use xt_match::{choose, matches};
+use xt_match::{RuleTable, choose, matches};
 use xt_names::Scope;
 use xt_questions::{Bindings, Candidates, Context, EvalFault, Evaluate, Focus, Supplies};
 use xt_syntax::{Expr, Pattern, Rules};
@@ -154,9 +154,10 @@ impl Scene {
         let node = node(text_at(words, 1)?)?;
         let mode = mode_of(alloc, text_at(words, 2)?)?;
         let world = PlainWorld { alloc, document };
+        let mut table = RuleTable::new(alloc, &self.rules);
         let chosen = choose(
             alloc,
-            &self.rules,
+            &mut table,
             &[],
             node,
             &mode,

@@ -44,7 +44,7 @@ second_of : (a b : Bool) → (a && b) ≡ true → b ≡ true
 second_of true b e = e
 second_of false b e = absurd (cc)
 
-equal_names : (a b : Expanded) → same_name a b ≡ true → a ≡ b
+pub equal_names : (a b : Expanded) → same_name a b ≡ true → a ≡ b
 equal_names a b e =
     let uri = (bytes_eq-Decides a.uri b.uri).0 (first_of (bytes_eq a.uri b.uri) (bytes_eq a.local b.local) e) in
     let local = (bytes_eq-Decides a.local b.local).0 (second_of (bytes_eq a.uri b.uri) (bytes_eq a.local b.local) e) in
@@ -52,7 +52,7 @@ equal_names a b e =
 
 -- ---- All that a call enters has the same globals past
 
-in_append : {A : Type 0} (x : A) (xs ys : List A) → IsIn x (xs ++ ys) → IsIn x xs ⊎ IsIn x ys
+pub in_append : {A : Type 0} (x : A) (xs ys : List A) → IsIn x (xs ++ ys) → IsIn x xs ⊎ IsIn x ys
 in_append x [] ys h = inr h
 in_append x (y ∷ xs) ys (inl e) = inl (inl e)
 in_append x (y ∷ xs) ys (inr h) = on (in_append x xs ys h)
@@ -62,7 +62,7 @@ in_append x (y ∷ xs) ys (inr h) = on (in_append x xs ys h)
     on (inr k) = inr k
 
 -- what holds of what is entered for each call and for each reference holds of all
-along_all : {N : Type 0} (P : Instantiation N → Type 0) (for_call : ℕ → Call N → List (Instantiation N))
+pub along_all : {N : Type 0} (P : Instantiation N → Type 0) (for_call : ℕ → Call N → List (Instantiation N))
     (for_global : Expanded → ℕ → Place → List (Instantiation N))
     → ((d : ℕ) (c : Call N) (i : Instantiation N) → IsIn i (for_call d c) → P i)
     → ((n : Expanded) (d : ℕ) (l : Place) (i : Instantiation N) → IsIn i (for_global n d l) → P i)
@@ -78,7 +78,7 @@ along_all P f g p q (Held first contents ∷ es) i h = along_all P f g p q es i 
 along_all P f g p q (Entered c d ∷ es) i h =
     elim (in_append i (f d c) (entered_along f g es) h) [ inl k ↦ p d c i k | inr k ↦ along_all P f g p q es i k ]
 
-in_unless : {N : Type 0} (name : Expanded) (bs : List (Bound N)) (is_under : Bool) (is : List (Instantiation N)) (i : Instantiation N)
+pub in_unless : {N : Type 0} (name : Expanded) (bs : List (Bound N)) (is_under : Bool) (is : List (Instantiation N)) (i : Instantiation N)
     → IsIn i (unless_past name bs is_under is) → IsIn i is
 in_unless name [] true is i h = absurd h
 in_unless name [] false is i h = h
@@ -88,13 +88,13 @@ in_unless {N = N} name (b ∷ bs) is_under is i h = go (same_name b.name name) (
     go true f k = absurd k
     go false f k = f k
 
-in_element : {N : Type 0} (P : Instantiation N → Type 0) (f : N → List (Instantiation N)) (o : Option N)
+pub in_element : {N : Type 0} (P : Instantiation N → Type 0) (f : N → List (Instantiation N)) (o : Option N)
     → ((n : N) (i : Instantiation N) → IsIn i (f n) → P i)
     → (i : Instantiation N) → IsIn i (for_element f o) → P i
 in_element P f None p i h = absurd h
 in_element P f (Some n) p i h = p n i h
 
-entered_values : {N : Type 0} (s : Setting N) (room : ℕ) (past : Past N) (depth : ℕ) (c : Call N) (i : Instantiation N)
+pub entered_values : {N : Type 0} (s : Setting N) (room : ℕ) (past : Past N) (depth : ℕ) (c : Call N) (i : Instantiation N)
     → IsIn i (entered s room past depth c) → i.past.values ≡ past.values
 entered_values s zero past depth c i h = absurd h
 entered_values {N = N} s (suc room) past zero c i h =
@@ -120,7 +120,7 @@ entered_values s (suc room) past (suc depth) c i h = entered_values s room past 
 -- ---- The turns of a run
 
 -- what is not past yet is found among those to come
-abbrev IsToCome : {N : Type 0} → Setting N → List (NamedGlobal N) → List (Bound N) → Type 0
+abbrev pub IsToCome : {N : Type 0} → Setting N → List (NamedGlobal N) → List (Bound N) → Type 0
 IsToCome s gs ws = (name : Expanded) → binding_of name ws ≡ None → element_named name s.globals ≡ element_named name gs
 
 abbrev or_else : {N : Type 0} → Option (Value N) → Option (Value N) → Option (Value N)
@@ -152,7 +152,7 @@ to_come_later {N = N} s g gs ws v w name e = go (binding_of name ws) (w name) (s
     go (Some z) f k = absurd (cc)
     go None f k = at_name (same_name g.name name) (f refl) k
 
-agrees_self : {N : Type 0} (s : Setting N) (vs : List (Bound N)) → Agrees s vs vs
+pub agrees_self : {N : Type 0} (s : Setting N) (vs : List (Bound N)) → Agrees s vs vs
 agrees_self s vs = record { known = λ name v e. e; new = λ name v e k levels under depth place x h. absurd (cc) }
 
 -- what a global comes to is a value
@@ -252,10 +252,10 @@ abbrev behind_turn : {N : Type 0} → Setting N → ℕ → NamedGlobal N → Li
 behind_turn s levels g gs ws c x = after_turn (λ x. entered_by_run s levels gs (ws ++ record { name = g.name; value = value_of x } ∷ []) c) x
 
 -- of any two in a run the one is no later than the other
-abbrev AgreeEither : {N : Type 0} → Setting N → (i j : Instantiation N) → Type 0
+abbrev pub AgreeEither : {N : Type 0} → Setting N → (i j : Instantiation N) → Type 0
 AgreeEither s i j = Agrees s i.past.values j.past.values ⊎ Agrees s j.past.values i.past.values
 
-agree_in_run : {N : Type 0} (s : Setting N) (levels : ℕ) (gs : List (NamedGlobal N)) (ws : List (Bound N)) (c : Call N) → IsToCome s gs ws
+pub agree_in_run : {N : Type 0} (s : Setting N) (levels : ℕ) (gs : List (NamedGlobal N)) (ws : List (Bound N)) (c : Call N) → IsToCome s gs ws
     → (i j : Instantiation N) → IsIn i (entered_by_run s levels gs ws c) → IsIn j (entered_by_run s levels gs ws c) → AgreeEither s i j
 agree_in_run {N = N} s levels [] ws c to_come i j h k =
     let A : List (Bound N) → Type 0 = λ l. Agrees s l j.past.values in
@@ -303,11 +303,11 @@ agree_in_run {N = N} s levels (g ∷ gs) ws c to_come i j h k =
 -- ---- Two of one call
 
 -- the call of the one in place of that of the other
-abbrev in_place_of : {N : Type 0} → Instantiation N → Instantiation N → Instantiation N
+abbrev pub in_place_of : {N : Type 0} → Instantiation N → Instantiation N → Instantiation N
 in_place_of i j = record { call = i.call; below = j.below; past = j.past }
 
 -- at any place of a run
-own_again : {N : Type 0} (s : Setting N) (i j : Instantiation N) → AgreeEither s i j → Repeats s i j → own_of s j ≡ own_of s i
+pub own_again : {N : Type 0} (s : Setting N) (i j : Instantiation N) → AgreeEither s i j → Repeats s i j → own_of s j ≡ own_of s i
 own_again {N = N} s i j agree r = moved ∙ go agree
   where
     is_call : j.call ≡ entered_by j.call.by i.call
@@ -335,7 +335,7 @@ own_again {N = N} s i j agree r = moved ∙ go agree
         sym (own_later s j.past.values i.past.values j.below i.below j.past.under i.past.under i.call w
         (λ p q d e c a b. meaning_later s j.past.values i.past.values j.below i.below p q d e c w a b) other_ends r.one_ends)
 
-reads_hold : {N : Type 0} (ask : Question N → Answer N) (supply : Wanted → ℕ → Place → Supplied N)
+pub reads_hold : {N : Type 0} (ask : Question N → Answer N) (supply : Wanted → ℕ → Place → Supplied N)
     (nested : ℕ → Call N → Outcome N) (streams : List Stream) (es : List (Event N))
     → Hold ask supply nested streams es → ReadsHold ask supply nested streams es
 reads_hold ask supply nested streams [] h = tt
@@ -344,23 +344,23 @@ reads_hold ask supply nested streams (Saw wanted depth place x ∷ es) h = (h.0,
 reads_hold ask supply nested streams (Entered call depth ∷ es) h = λ on. reads_hold ask supply nested (streams ++ (nested depth call).content ∷ []) es h.1
 reads_hold ask supply nested streams (Held first contents ∷ es) h = (h.0, reads_hold ask supply nested streams es h.1)
 
-went : {N : Type 0} (s : Setting N) (i : Instantiation N) → GoesOn (own_of s i).ending
+pub went : {N : Type 0} (s : Setting N) (i : Instantiation N) → GoesOn (own_of s i).ending
     → Went s.ask (given_to s i) (meant_below s i) i.below (plan_of s.same i.call) at_start (own_of s i)
 went s i h = own_went s.ask (given_to s i) (meant_below s i) i.below (plan_of s.same i.call) at_start h (omega arith)
 
-pass_alike : {N : Type 0} (names : List Expanded) {one other : List (Bound N)} → one ≡ other → PassAlike names one other
+pub pass_alike : {N : Type 0} (names : List Expanded) {one other : List (Bound N)} → one ≡ other → PassAlike names one other
 pass_alike [] e = tt
 pass_alike (name ∷ names) e = (ap (binding_of name) e, pass_alike names e)
 
 -- what is kept goes along its plan
-kept_lasts : {N : Type 0} (s : Setting N) (i : Instantiation N) → GoesOn (own_of s i).ending → IsTrue s.same (kept_of s i)
+pub kept_lasts : {N : Type 0} (s : Setting N) (i : Instantiation N) → GoesOn (own_of s i).ending → IsTrue s.same (kept_of s i)
 kept_lasts {N = N} s i h =
     let m = went s i h in
     let o = own_of s i in
     let P : List (Event N) → Type 0 = λ es. Trail (plan_of s.same i.call) at_start es o.going o.ending in
     record { last = o.going; trail = subst P (sym (trail_trace m.trail)) m.trail; is = refl }
 
-serves : {N : Type 0} (s : Setting N) (i j : Instantiation N) → AgreeEither s i j → Repeats s i j → Serves s j (kept_of s i)
+pub serves : {N : Type 0} (s : Setting N) (i j : Instantiation N) → AgreeEither s i j → Repeats s i j → Serves s j (kept_of s i)
 serves {N = N} s i j agree r =
     let same : own_of s j ≡ own_of s i = own_again s i j agree r in
     let m = went s j r.other_ends in
@@ -377,7 +377,7 @@ serves {N = N} s i j agree r =
       reads = subst R trace (reads_hold s.ask (given_to s j) (meant_below s j) [] m.events m.hold);
     }
 
-in_one_run : {N : Type 0} (s : Setting N) (i j : Instantiation N) → IsIn i (instantiations s) → IsIn j (instantiations s) → AgreeEither s i j
+pub in_one_run : {N : Type 0} (s : Setting N) (i j : Instantiation N) → IsIn i (instantiations s) → IsIn j (instantiations s) → AgreeEither s i j
 in_one_run s i j h k = agree_in_run s levels_of_a_run s.globals [] (root_call s) (λ name e. refl) i j h k
 
 pub serves_again : {N : Type 0} (s : Setting N) (i j : Instantiation N) → IsIn i (instantiations s) → IsIn j (instantiations s) → Repeats s i j

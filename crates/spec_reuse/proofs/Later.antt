@@ -57,11 +57,11 @@ own_by s below past c place =
 
 -- ---- A reference, by whether the turn of its global is past
 
-abbrev by_turn : {N : Type 0} → Place → Option (Value N) → Bool → Supplied N → Supplied N
+abbrev pub by_turn : {N : Type 0} → Place → Option (Value N) → Bool → Supplied N → Supplied N
 by_turn place None is_under now = cond is_under (needs_itself place) now
 by_turn place (Some v) is_under now = Known (Valued v)
 
-refer_by_turn : {N : Type 0} (name : Expanded) (place : Place) (bs : List (Bound N)) (is_under : Bool) (now : Supplied N)
+pub refer_by_turn : {N : Type 0} (name : Expanded) (place : Place) (bs : List (Bound N)) (is_under : Bool) (now : Supplied N)
     → refer name place bs is_under now ≡ by_turn place (binding_of name bs) is_under now
 refer_by_turn name place [] is_under now = refl
 refer_by_turn {N = N} name place (b ∷ bs) is_under now = go (same_name b.name name) (refer_by_turn name place bs is_under now)
@@ -99,11 +99,11 @@ both_known place None None false false x y u v f g h a b = h a b
 -- ---- One instantiation
 
 -- what calls mean at both places
-abbrev MeanAlike : {N : Type 0} → Setting N → (vs ws : List (Bound N)) → (room left : ℕ) → Type 0
+abbrev pub MeanAlike : {N : Type 0} → Setting N → (vs ws : List (Bound N)) → (room left : ℕ) → Type 0
 MeanAlike {N = N} s vs ws room left = (p q : List Expanded) (d e : ℕ) (c : Call N) → GoesOn (meaning s room (past_with vs p) d c).ending
     → GoesOn (meaning s left (past_with ws q) e c).ending → meaning s left (past_with ws q) e c ≡ meaning s room (past_with vs p) d c
 
-evaluated_alike : {N : Type 0} (s : Setting N) (vs ws : List (Bound N)) (room left : ℕ) (under unders : List Expanded) → MeanAlike s vs ws room left
+pub evaluated_alike : {N : Type 0} (s : Setting N) (vs ws : List (Bound N)) (room left : ℕ) (under unders : List Expanded) → MeanAlike s vs ws room left
     → (name : Expanded) (d : ℕ) (l : Place) (element : Option N) (u v : Given N)
     → evaluated s (meaning s room) (past_with vs under) name d l element ≡ Known u
     → evaluated s (meaning s left) (past_with ws unders) name d l element ≡ Known v → u ≡ v

@@ -8,3 +8,9 @@ pub mod Again
 pub mod Alike
 pub mod Told
 pub mod Served
+pub mod Ends
+pub mod Within
+pub mod Fronts
+pub mod Counting
+pub mod Further
+pub mod Steps

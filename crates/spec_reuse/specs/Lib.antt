@@ -4,3 +4,4 @@ pub mod Serving
 pub mod Record
 pub mod Cost
 pub mod Alike
+pub mod Ledger

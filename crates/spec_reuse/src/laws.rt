@@ -1,14 +1,19 @@
 // Laws of what is kept of a run.
-ghost use Rattle.std.specs.Prelude.{◌≡◌, ◌≤◌, ℕ, zero, suc, Bool, true, false, List};
+ghost use Rattle.std.specs.Prelude.{◌≡◌, ◌≤◌, ℕ, zero, suc, Bool, true, false, List, [], ◌∷◌, ◌++◌};
+ghost use Rattle.spec_stylesheet.specs.Place.{Place};
+ghost use Rattle.spec_meaning.specs.Program.{Wanted};
 ghost use Rattle.spec_meaning.specs.Related.{Each};
-ghost use Rattle.spec_run.specs.Plan.{Target, Call};
-ghost use Rattle.spec_run.specs.Hold.{GoesOn};
+ghost use Rattle.spec_run.specs.Plan.{Refused, Target, Call};
+ghost use Rattle.spec_run.specs.Direct.{Failed};
+ghost use Rattle.spec_run.specs.Going.{Event, Saw};
+ghost use Rattle.spec_run.specs.Hold.{GoesOn, Hold, came};
 ghost use Rattle.spec_run.specs.Trail.{Kept, IsTrue};
 ghost use Rattle.spec_run.specs.Meaning.{Setting};
 ghost use Rattle.spec_reuse.specs.Among.{IsIn};
-ghost use Rattle.spec_reuse.specs.Instantiation.{Instantiation, own_of, meaning_of, kept_of, entered, instantiations};
-ghost use Rattle.spec_reuse.specs.Serving.{IsOf, taken_for, Serves, comes_to};
+ghost use Rattle.spec_reuse.specs.Instantiation.{Instantiation, given_to, meant_below, own_of, meaning_of, kept_of, entered, instantiations};
+ghost use Rattle.spec_reuse.specs.Serving.{IsOf, taken_for, Fits, ReadsHold, Serves, comes_to};
 ghost use Rattle.spec_reuse.specs.Cost.{Repeats, AreEntered};
+ghost use Rattle.spec_reuse.specs.Ledger.{nested_along, nested_in, AllEnd, GoesTo};
 ghost use Rattle.spec_reuse.specs.Alike.{SettingsAlike, EnterAlike, NamesOnly, IsOneOfTarget};
 ghost use Rattle.spec_reuse.specs.Record.{Runs, none, ran, records_in, outcome_of, IsRunOf, IsRecordOf, StayAlong};
 
@@ -29,6 +34,32 @@ pub fn a_record_that_serves_says_what_is_meant()
 pub fn a_record_that_serves_is_what_is_kept()
     ensures { (s : Setting ℕ) (i : Instantiation ℕ) (kept : Kept ℕ) → Serves s i kept → GoesOn (own_of s i).ending →
         IsRecordOf s i kept }
+{}
+
+/// Where a record fits and a front of what was done holds, each nested call in it going on, the same is done so far: the
+/// record is gone along from the front on, and all of it is done where all holds. All that is entered along the front
+/// comes to its end. So the record does not serve if what was read behind the front does not hold.
+pub fn a_front_that_holds_is_done()
+    ensures front { (s : Setting ℕ) (i : Instantiation ℕ) (kept : Kept ℕ) (front rest : List (Event ℕ)) → Fits s i kept →
+        kept.trace ≡ front ++ rest → Hold s.ask (given_to s i) (meant_below s i) [] front →
+        (more : List (Event ℕ)) × ((own_of s i).going.trace ≡ front ++ more) }
+    ensures next { (s : Setting ℕ) (i : Instantiation ℕ) (kept : Kept ℕ) (front : List (Event ℕ)) (event : Event ℕ)
+        (rest : List (Event ℕ)) → Fits s i kept → kept.trace ≡ front ++ event ∷ rest →
+        Hold s.ask (given_to s i) (meant_below s i) [] front → GoesTo s i front event }
+    ensures whole { (s : Setting ℕ) (i : Instantiation ℕ) (kept : Kept ℕ) → Fits s i kept →
+        Hold s.ask (given_to s i) (meant_below s i) [] kept.trace → (own_of s i).going.trace ≡ kept.trace }
+    ensures ended { (s : Setting ℕ) (i : Instantiation ℕ) (kept : Kept ℕ) (front rest : List (Event ℕ)) → Fits s i kept →
+        kept.trace ≡ front ++ rest → Hold s.ask (given_to s i) (meant_below s i) [] front → AllEnd s (nested_along s i front) }
+    ensures reads { (s : Setting ℕ) (i : Instantiation ℕ) (kept : Kept ℕ) (front rest : List (Event ℕ)) → Serves s i kept →
+        kept.trace ≡ front ++ rest → Hold s.ask (given_to s i) (meant_below s i) [] front →
+        ReadsHold s.ask (given_to s i) (meant_below s i) (came (meant_below s i) front) rest }
+{}
+
+/// No record serves a call that saw a refusal: what is seen in a record is given.
+pub fn what_saw_a_refusal_is_not_served()
+    ensures { (s : Setting ℕ) (i : Instantiation ℕ) (kept : Kept ℕ) (front more : List (Event ℕ)) (wanted : Wanted) (depth : ℕ)
+        (place : Place) (why : Refused) → (own_of s i).going.trace ≡ front ++ Saw wanted depth place (Failed why) ∷ more →
+        ¬ (Serves s i kept) }
 {}
 
 /// A record with those below it, where all of it holds, comes to what its instantiation means.
@@ -67,6 +98,17 @@ pub fn a_call_comes_to_one_end()
 pub fn what_came_to_its_end_serves_again()
     ensures { (s : Setting ℕ) (i j : Instantiation ℕ) → IsIn i (instantiations s) → IsIn j (instantiations s) →
         Repeats s i j → Serves s j (kept_of s i) }
+{}
+
+/// What serves a call that comes to its end serves it wherever else in a run it comes to its end.
+pub fn a_record_serves_again()
+    ensures { (s : Setting ℕ) (i j : Instantiation ℕ) (kept : Kept ℕ) → IsIn i (instantiations s) →
+        IsIn j (instantiations s) → Repeats s i j → Serves s i kept → Serves s j kept }
+{}
+
+/// No call repeats within itself: what it enters again would enter it again too, and so on without an end.
+pub fn a_call_does_not_repeat_within_itself()
+    ensures { (s : Setting ℕ) (i j : Instantiation ℕ) → IsIn i (nested_in s j) → ¬ (Repeats s i j) }
 {}
 
 /// What a run enters does not depend on the names of nodes: where two worlds answer related questions alike, the runs in

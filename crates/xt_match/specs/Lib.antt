@@ -1,1 +1,4 @@
+pub mod CalledIn
 pub mod Context
+pub mod Fitting
+pub mod Tabled

@@ -4,17 +4,22 @@
 //!
 //! ```text
 //! let is_counted = matches(alloc, &count, node, &context, &supplies, world)?;
-//! let rule = choose(alloc, &rules, units, node, &mode, Candidates::AllRules, &supplies, world)?;   // None: a built-in rule
+//! let mut table = RuleTable::new(alloc, &rules);
+//! let rule = choose(alloc, &mut table, units, node, &mode, Candidates::AllRules, &supplies, world)?;   // None: a built-in rule
 //! ```
 #![tactic(auto)]
 
+mod called;
 mod choice;
+mod fitting;
 mod pattern;
 mod position;
 mod predicate;
 mod same;
 mod step;
+mod table;
 mod test;
 
 pub use choice::choose;
 pub use pattern::matches;
+pub use table::RuleTable;

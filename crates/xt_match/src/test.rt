@@ -23,8 +23,8 @@ fn is_child(kind: Kind) -> bool
     )
 }
 
-// Whether the axis leads to nodes of this kind, where it is one that a pattern has.
-fn is_led_to(axis: Axis, kind: Kind) -> bool
+/// Whether the axis leads to nodes of this kind, where it is one that a pattern has.
+pub(crate) fn is_led_to(axis: Axis, kind: Kind) -> bool
     ensures { result ≡ definition.is_led_to axis kind }
 {
     match axis {
@@ -82,8 +82,8 @@ fn is_named(wanted: &Expanded, name: &Option<Expanded>) -> bool
     }
 }
 
-// Whether a node of this kind and name passes the node test.
-fn passes_test(axis: Axis, test: &Test, kind: Kind, name: &Option<Expanded>) -> bool
+/// Whether a node of this kind and name passes the node test.
+pub(crate) fn passes_test(axis: Axis, test: &Test, kind: Kind, name: &Option<Expanded>) -> bool
     ensures { result ≡ definition.passes_test axis (test_of test.now) kind name.now }
 {
     match test {

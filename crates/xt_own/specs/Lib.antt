@@ -1,3 +1,4 @@
+pub mod Asking
 pub mod Keys
 pub mod Logs
 pub mod Made

@@ -12,16 +12,12 @@ use Rattle.spec_node.specs.declared.node_ref.NodeRef.{NodeRef}
 use Rattle.spec_node.specs.Naming.{same_ref}
 use Rattle.spec_run.specs.Documents.{Parameters}
 use Rattle.spec_transform.specs.Choice.{chosen, context_for}
-use Rattle.xp_eval.specs.declared.evaluator.Eval.{Eval}
-use Rattle.xt_questions.specs.declared.logged.Logged.{Logged}
 use Rattle.xt_syntax.specs.SheetView.{rules_of}
 use Rattle.xt_match.specs.Context.{units_in}
 use Rattle.xt_touch.specs.View.{since_of}
 use Rattle.xt_spared.specs.View.{Ask, Own, IsAmong, all_stay, owns_in, owns_of}
 use Rattle.xt_spared.specs.declared.spared.Spared.{Spared}
-use Rattle.xt_world.specs.SourceView.{source_of}
 use Rattle.xt_world.specs.View.{truth_in}
-use Rattle.xt_world.specs.declared.source.Source.{Source}
 use Rattle.xt_world.specs.declared.stylesheet.Stylesheet.{Stylesheet}
 use Rattle.xt_own.specs.Keys.{AgreeOn, AllKeys}
 use Rattle.xt_own.specs.declared.own_reads.OwnReads.{OwnReads}
@@ -62,10 +58,6 @@ pub record Carries (s : Stylesheet) (ask : Ask) (p : Prepared) : Type 0 where
   pub keys : AllKeys s ask p.keys.items
 
 -- ---- How a choice is made once more
-
--- the answers of the source in which it is made
-abbrev pub source_asked : Eval (Logged Source) → Ask
-source_asked world = source_of world.world.world
 
 abbrev pub choice_made : Stylesheet → NodeRef → Option Expanded → Candidates → Program NodeRef (Option ℕ)
 choice_made s node mode candidates = chosen same_ref (context_for (units_in s.units.items) node) node mode candidates (rules_of s.rules).rules

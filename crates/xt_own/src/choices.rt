@@ -7,12 +7,13 @@ ghost use Rattle.spec_run.specs.Documents.{Parameters};
 ghost use Rattle.spec_transform.specs.Key.{no_globals};
 ghost use Rattle.xt_questions.specs.View.{candidates_of, read_of};
 ghost use Rattle.xt_spared.specs.View.{own_of, questions_of};
-ghost use Rattle.xt_world.specs.SourceView.{source_in};
 ghost use Rattle.xt_world.specs.View.{truth_in};
 ghost use Rattle.xt_own.specs.Made.{IsMade};
-ghost use Rattle.xt_own.specs.View.{IsDecided, choice_made, source_asked};
+ghost use Rattle.xt_own.specs.Asking.{asked_in, asked_of, choice_among};
+ghost use Rattle.xt_own.specs.View.{IsDecided};
 
 use crate::asked::questions_asked;
+use crate::choosing::Choosing;
 use std::alloc::Global;
 use std::mem;
 use xp_eval::Eval;
@@ -32,13 +33,13 @@ pub(crate) fn own_choice<'a>(
     node: NodeRef,
     mode: &Option<Expanded>,
     candidates: Candidates,
-    world: &mut Eval<Logged<Source<'a>>>,
+    choosing: &mut Choosing<'a>,
 ) -> Result<Option<OwnChoice>, Memory>
-    ensures decided { (parameters : Parameters) (document : Document ℕ) → source_asked world.old ≡ source_in stylesheet.now document []
+    ensures decided { (parameters : Parameters) (document : Document ℕ) → asked_of choosing.old ≡ asked_in stylesheet.now document
         → IfOk result (λ o. IfSome o (λ own. IsDecided stylesheet.now (truth_in stylesheet.now parameters document) (own_of own))) }
-    ensures same { source_asked world.new ≡ source_asked world.old }
+    ensures same { asked_of choosing.new ≡ asked_of choosing.old }
 {
-    let reads = reads_of_choice(alloc, stylesheet, node, mode, candidates, world)?;
+    let reads = reads_of_choice(alloc, stylesheet, node, mode, candidates, choosing)?;
     let asked = questions_asked(alloc, reads.as_slice());
     drop(reads);
     match asked? {
@@ -74,25 +75,31 @@ fn reads_of_choice<'a>(
     node: NodeRef,
     mode: &Option<Expanded>,
     candidates: Candidates,
-    world: &mut Eval<Logged<Source<'a>>>,
+    choosing: &mut Choosing<'a>,
 ) -> Result<Vec<Read>, Memory>
-    ensures reads { IfOk result (λ reads. map read_of reads.items ≡ reads_of (source_asked world.old) no_globals 0 (choice_made stylesheet.now node mode.now (candidates_of candidates))) }
-    ensures same { source_asked world.new ≡ source_asked world.old }
+    ensures reads { IfOk result (λ reads. map read_of reads.items ≡ reads_of (asked_of choosing.old).source no_globals 0 (choice_among (asked_of choosing.old).rules stylesheet.now node mode.now (candidates_of candidates))) }
+    ensures same { asked_of choosing.new ≡ asked_of choosing.old }
 {
-    drop(take_reads(alloc, world));
+    drop(take_reads(alloc, &mut choosing.world));
     let supplies = Supplies {
         position: 1,
         size: 1,
         rule: None,
         globals: Vec::new(alloc),
     };
-    let rules = &stylesheet.rules;
     let units = stylesheet.units.as_slice();
     let chosen = choose(
-        alloc, rules, units, node, mode, candidates, &supplies, world,
+        alloc,
+        &mut choosing.table,
+        units,
+        node,
+        mode,
+        candidates,
+        &supplies,
+        &mut choosing.world,
     );
     drop(supplies);
-    let reads = take_reads(alloc, world);
+    let reads = take_reads(alloc, &mut choosing.world);
     kept_if_made(chosen, reads)
 }
 

@@ -4,23 +4,23 @@ ghost use Rattle.std.specs.Option.{option_map};
 ghost use Rattle.spec_document.specs.Forest.{Document};
 ghost use Rattle.spec_run.specs.Documents.{Parameters};
 ghost use Rattle.xt_spared.specs.View.{own_of, owns_of};
-ghost use Rattle.xt_world.specs.SourceView.{source_in};
 ghost use Rattle.xt_world.specs.View.{truth_in};
-ghost use Rattle.xt_own.specs.View.{AllDecide, CarriesChoices, IsDecided, source_asked};
+ghost use Rattle.xt_own.specs.Asking.{asked_in, asked_of};
+ghost use Rattle.xt_own.specs.View.{AllDecide, CarriesChoices, IsDecided};
 
 use crate::choices::own_choice;
+use crate::choosing::Choosing;
 use std::alloc::Global;
 use std::rc::Rc;
-use xp_eval::Eval;
 use xt_engine::Event;
 use xt_names::{Expanded, copy_name};
-use xt_questions::{Logged, Question};
+use xt_questions::Question;
 use xt_record::Record;
 use xt_spared::{OwnChoice, OwnChoices, Spared};
 use xt_text::Memory;
 use xt_touch::Modes;
 use xt_tree::Doc;
-use xt_world::{Source, Stylesheet};
+use xt_world::Stylesheet;
 
 /// Adds what was asked for each choice in these modes that the records asked, and notes the names of the keys that they
 /// asked. Keys of the source are found once for all of them.
@@ -38,14 +38,18 @@ pub(crate) fn gather_choices<'a>(
         → AllDecide stylesheet.now (truth_in stylesheet.now parameters document.now) (owns_of choices.old)
         → OnOk result (AllDecide stylesheet.now (truth_in stylesheet.now parameters document.now) (owns_of choices.new)) }
 {
-    let source = Source::new(alloc, document, stylesheet);
-    let mut world = Eval {
-        world: Logged::new(alloc, source),
-    };
+    let mut choosing = Choosing::new(alloc, document, stylesheet);
     let gathered = gather_from(
-        alloc, stylesheet, modes, spared, records, &mut world, choices, names,
+        alloc,
+        stylesheet,
+        modes,
+        spared,
+        records,
+        &mut choosing,
+        choices,
+        names,
     );
-    drop(world);
+    drop(choosing);
     gathered
 }
 
@@ -55,11 +59,11 @@ fn gather_from<'a, 'b>(
     modes: &Modes,
     spared: &Spared<'a>,
     records: &[Rc<Record>],
-    world: &mut Eval<Logged<Source<'b>>>,
+    choosing: &mut Choosing<'b>,
     choices: &mut OwnChoices,
     names: &mut Vec<Expanded>,
 ) -> Result<(), Memory>
-    ensures { (parameters : Parameters) (document : Document ℕ) → source_asked world.old ≡ source_in stylesheet.now document []
+    ensures { (parameters : Parameters) (document : Document ℕ) → asked_of choosing.old ≡ asked_in stylesheet.now document
         → CarriesChoices stylesheet.now (truth_in stylesheet.now parameters document) spared.now
         → AllDecide stylesheet.now (truth_in stylesheet.now parameters document) (owns_of choices.old)
         → OnOk result (AllDecide stylesheet.now (truth_in stylesheet.now parameters document) (owns_of choices.new)) }
@@ -67,7 +71,7 @@ fn gather_from<'a, 'b>(
     for record in records {
         let events = record.ran.events.as_slice();
         gather_events(
-            alloc, stylesheet, modes, spared, events, world, choices, names,
+            alloc, stylesheet, modes, spared, events, choosing, choices, names,
         )?;
     }
     Ok(())
@@ -79,19 +83,19 @@ fn gather_events<'a, 'b>(
     modes: &Modes,
     spared: &Spared<'a>,
     events: &[Event],
-    world: &mut Eval<Logged<Source<'b>>>,
+    choosing: &mut Choosing<'b>,
     choices: &mut OwnChoices,
     names: &mut Vec<Expanded>,
 ) -> Result<(), Memory>
-    ensures decided { (parameters : Parameters) (document : Document ℕ) → source_asked world.old ≡ source_in stylesheet.now document []
+    ensures decided { (parameters : Parameters) (document : Document ℕ) → asked_of choosing.old ≡ asked_in stylesheet.now document
         → CarriesChoices stylesheet.now (truth_in stylesheet.now parameters document) spared.now
         → AllDecide stylesheet.now (truth_in stylesheet.now parameters document) (owns_of choices.old)
         → OnOk result (AllDecide stylesheet.now (truth_in stylesheet.now parameters document) (owns_of choices.new)) }
-    ensures same { source_asked world.new ≡ source_asked world.old }
+    ensures same { asked_of choosing.new ≡ asked_of choosing.old }
 {
     for event in events {
         gather_event(
-            alloc, stylesheet, modes, spared, event, world, choices, names,
+            alloc, stylesheet, modes, spared, event, choosing, choices, names,
         )?;
     }
     Ok(())
@@ -103,19 +107,19 @@ fn gather_event<'a, 'b>(
     modes: &Modes,
     spared: &Spared<'a>,
     event: &Event,
-    world: &mut Eval<Logged<Source<'b>>>,
+    choosing: &mut Choosing<'b>,
     choices: &mut OwnChoices,
     names: &mut Vec<Expanded>,
 ) -> Result<(), Memory>
-    ensures decided { (parameters : Parameters) (document : Document ℕ) → source_asked world.old ≡ source_in stylesheet.now document []
+    ensures decided { (parameters : Parameters) (document : Document ℕ) → asked_of choosing.old ≡ asked_in stylesheet.now document
         → CarriesChoices stylesheet.now (truth_in stylesheet.now parameters document) spared.now
         → AllDecide stylesheet.now (truth_in stylesheet.now parameters document) (owns_of choices.old)
         → OnOk result (AllDecide stylesheet.now (truth_in stylesheet.now parameters document) (owns_of choices.new)) }
-    ensures same { source_asked world.new ≡ source_asked world.old }
+    ensures same { asked_of choosing.new ≡ asked_of choosing.old }
 {
     match event {
         Event::Asked(question, _) => gather_question(
-            alloc, stylesheet, modes, spared, question, world, choices, names,
+            alloc, stylesheet, modes, spared, question, choosing, choices, names,
         ),
         _ => Ok(()),
     }
@@ -127,21 +131,23 @@ fn gather_question<'a, 'b>(
     modes: &Modes,
     spared: &Spared<'a>,
     question: &Question,
-    world: &mut Eval<Logged<Source<'b>>>,
+    choosing: &mut Choosing<'b>,
     choices: &mut OwnChoices,
     names: &mut Vec<Expanded>,
 ) -> Result<(), Memory>
-    ensures decided { (parameters : Parameters) (document : Document ℕ) → source_asked world.old ≡ source_in stylesheet.now document []
+    ensures decided { (parameters : Parameters) (document : Document ℕ) → asked_of choosing.old ≡ asked_in stylesheet.now document
         → CarriesChoices stylesheet.now (truth_in stylesheet.now parameters document) spared.now
         → AllDecide stylesheet.now (truth_in stylesheet.now parameters document) (owns_of choices.old)
         → OnOk result (AllDecide stylesheet.now (truth_in stylesheet.now parameters document) (owns_of choices.new)) }
-    ensures same { source_asked world.new ≡ source_asked world.old }
+    ensures same { asked_of choosing.new ≡ asked_of choosing.old }
 {
     note_key(alloc, names, question)?;
     if !is_choice_in(modes, question) {
         return Ok(());
     }
-    gather_choice(alloc, stylesheet, spared, question, world, choices, names)
+    gather_choice(
+        alloc, stylesheet, spared, question, choosing, choices, names,
+    )
 }
 
 // Whether it is the choice of a rule in one of these modes.
@@ -158,20 +164,20 @@ fn gather_choice<'a, 'b>(
     stylesheet: &Stylesheet,
     spared: &Spared<'a>,
     question: &Question,
-    world: &mut Eval<Logged<Source<'b>>>,
+    choosing: &mut Choosing<'b>,
     choices: &mut OwnChoices,
     names: &mut Vec<Expanded>,
 ) -> Result<(), Memory>
-    ensures decided { (parameters : Parameters) (document : Document ℕ) → source_asked world.old ≡ source_in stylesheet.now document []
+    ensures decided { (parameters : Parameters) (document : Document ℕ) → asked_of choosing.old ≡ asked_in stylesheet.now document
         → CarriesChoices stylesheet.now (truth_in stylesheet.now parameters document) spared.now
         → AllDecide stylesheet.now (truth_in stylesheet.now parameters document) (owns_of choices.old)
         → OnOk result (AllDecide stylesheet.now (truth_in stylesheet.now parameters document) (owns_of choices.new)) }
-    ensures same { source_asked world.new ≡ source_asked world.old }
+    ensures same { asked_of choosing.new ≡ asked_of choosing.old }
 {
     if choices.find(question).is_some() {
         return Ok(());
     }
-    match carried_or_made(alloc, stylesheet, spared, question, world)? {
+    match carried_or_made(alloc, stylesheet, spared, question, choosing)? {
         None => Ok(()),
         Some(own) => add_choice(alloc, own, choices, names),
     }
@@ -196,16 +202,16 @@ fn carried_or_made<'a, 'b>(
     stylesheet: &Stylesheet,
     spared: &Spared<'a>,
     question: &Question,
-    world: &mut Eval<Logged<Source<'b>>>,
+    choosing: &mut Choosing<'b>,
 ) -> Result<Option<Rc<OwnChoice>>, Memory>
-    ensures decided { (parameters : Parameters) (document : Document ℕ) → source_asked world.old ≡ source_in stylesheet.now document []
+    ensures decided { (parameters : Parameters) (document : Document ℕ) → asked_of choosing.old ≡ asked_in stylesheet.now document
         → CarriesChoices stylesheet.now (truth_in stylesheet.now parameters document) spared.now
         → IfOk result (λ o. IfSome o (λ own. IsDecided stylesheet.now (truth_in stylesheet.now parameters document) (own_of own.value))) }
-    ensures same { source_asked world.new ≡ source_asked world.old }
+    ensures same { asked_of choosing.new ≡ asked_of choosing.old }
 {
     match spared.own_choice(question) {
         Some(own) => carried(own),
-        None => made(alloc, stylesheet, question, world),
+        None => made(alloc, stylesheet, question, choosing),
     }
 }
 
@@ -220,17 +226,17 @@ pub(crate) fn made<'b>(
     alloc: Global,
     stylesheet: &Stylesheet,
     question: &Question,
-    world: &mut Eval<Logged<Source<'b>>>,
+    choosing: &mut Choosing<'b>,
 ) -> Result<Option<Rc<OwnChoice>>, Memory>
-    ensures decided { (parameters : Parameters) (document : Document ℕ) → source_asked world.old ≡ source_in stylesheet.now document []
+    ensures decided { (parameters : Parameters) (document : Document ℕ) → asked_of choosing.old ≡ asked_in stylesheet.now document
         → IfOk result (λ o. IfSome o (λ own. IsDecided stylesheet.now (truth_in stylesheet.now parameters document) (own_of own.value))) }
-    ensures same { source_asked world.new ≡ source_asked world.old }
+    ensures same { asked_of choosing.new ≡ asked_of choosing.old }
 {
     match question {
         Question::Choice(node, mode, candidates) => {
             shared(
                 alloc,
-                own_choice(alloc, stylesheet, *node, mode, *candidates, world)?,
+                own_choice(alloc, stylesheet, *node, mode, *candidates, choosing)?,
             )
         }
         _ => Ok(None),

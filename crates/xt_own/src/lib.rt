@@ -14,6 +14,7 @@
 
 mod asked;
 mod choices;
+mod choosing;
 mod gathering;
 mod moved;
 mod own_key;

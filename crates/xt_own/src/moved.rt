@@ -3,22 +3,22 @@ ghost use Rattle.std.specs.Prelude.{◌≡◌, ◌++◌, ◌∷◌, [], ℕ, IfO
 ghost use Rattle.spec_document.specs.Forest.{Document};
 ghost use Rattle.spec_run.specs.Documents.{Parameters};
 ghost use Rattle.xt_spared.specs.View.{own_of, owns_of};
-ghost use Rattle.xt_world.specs.SourceView.{source_in};
 ghost use Rattle.xt_world.specs.View.{truth_in};
-ghost use Rattle.xt_own.specs.View.{AllDecide, source_asked};
+ghost use Rattle.xt_own.specs.Asking.{asked_in, asked_of};
+ghost use Rattle.xt_own.specs.View.{AllDecide};
 
+use crate::choosing::Choosing;
 use crate::gathering::made;
 use std::alloc::Global;
 use std::rc::Rc;
-use xp_eval::Eval;
 use xt_engine::Event;
-use xt_questions::{Logged, Question};
+use xt_questions::Question;
 use xt_record::Record;
 use xt_spared::OwnChoices;
 use xt_text::Memory;
 use xt_touch::{Modes, Since};
 use xt_tree::Doc;
-use xt_world::{Source, Stylesheet};
+use xt_world::Stylesheet;
 
 /// The choices of which nothing was gathered after the run that kept these records and which these changes mark, as they
 /// are made in this source, each with what is asked for it. In modes of which all patterns go by names alone nothing is
@@ -67,14 +67,17 @@ fn add_choices(
     ensures { (parameters : Parameters) → AllDecide stylesheet.now (truth_in stylesheet.now parameters document.now) (owns_of choices.old)
         → OnOk result (AllDecide stylesheet.now (truth_in stylesheet.now parameters document.now) (owns_of choices.new)) }
 {
-    let source = Source::new(alloc, document, stylesheet);
-    let mut world = Eval {
-        world: Logged::new(alloc, source),
-    };
+    let mut choosing = Choosing::new(alloc, document, stylesheet);
     let added = add_from(
-        alloc, stylesheet, modes, since, records, &mut world, choices,
+        alloc,
+        stylesheet,
+        modes,
+        since,
+        records,
+        &mut choosing,
+        choices,
     );
-    drop(world);
+    drop(choosing);
     added
 }
 
@@ -84,16 +87,16 @@ fn add_from<'a>(
     modes: &Modes,
     since: &Since,
     records: &[Rc<Record>],
-    world: &mut Eval<Logged<Source<'a>>>,
+    choosing: &mut Choosing<'a>,
     choices: &mut OwnChoices,
 ) -> Result<(), Memory>
-    ensures { (parameters : Parameters) (document : Document ℕ) → source_asked world.old ≡ source_in stylesheet.now document []
+    ensures { (parameters : Parameters) (document : Document ℕ) → asked_of choosing.old ≡ asked_in stylesheet.now document
         → AllDecide stylesheet.now (truth_in stylesheet.now parameters document) (owns_of choices.old)
         → OnOk result (AllDecide stylesheet.now (truth_in stylesheet.now parameters document) (owns_of choices.new)) }
 {
     for record in records {
         let events = record.ran.events.as_slice();
-        add_of_events(alloc, stylesheet, modes, since, events, world, choices)?;
+        add_of_events(alloc, stylesheet, modes, since, events, choosing, choices)?;
     }
     Ok(())
 }
@@ -104,16 +107,16 @@ fn add_of_events<'a>(
     modes: &Modes,
     since: &Since,
     events: &[Event],
-    world: &mut Eval<Logged<Source<'a>>>,
+    choosing: &mut Choosing<'a>,
     choices: &mut OwnChoices,
 ) -> Result<(), Memory>
-    ensures decided { (parameters : Parameters) (document : Document ℕ) → source_asked world.old ≡ source_in stylesheet.now document []
+    ensures decided { (parameters : Parameters) (document : Document ℕ) → asked_of choosing.old ≡ asked_in stylesheet.now document
         → AllDecide stylesheet.now (truth_in stylesheet.now parameters document) (owns_of choices.old)
         → OnOk result (AllDecide stylesheet.now (truth_in stylesheet.now parameters document) (owns_of choices.new)) }
-    ensures same { source_asked world.new ≡ source_asked world.old }
+    ensures same { asked_of choosing.new ≡ asked_of choosing.old }
 {
     for event in events {
-        add_of_event(alloc, stylesheet, modes, since, event, world, choices)?;
+        add_of_event(alloc, stylesheet, modes, since, event, choosing, choices)?;
     }
     Ok(())
 }
@@ -124,17 +127,17 @@ fn add_of_event<'a>(
     modes: &Modes,
     since: &Since,
     event: &Event,
-    world: &mut Eval<Logged<Source<'a>>>,
+    choosing: &mut Choosing<'a>,
     choices: &mut OwnChoices,
 ) -> Result<(), Memory>
-    ensures decided { (parameters : Parameters) (document : Document ℕ) → source_asked world.old ≡ source_in stylesheet.now document []
+    ensures decided { (parameters : Parameters) (document : Document ℕ) → asked_of choosing.old ≡ asked_in stylesheet.now document
         → AllDecide stylesheet.now (truth_in stylesheet.now parameters document) (owns_of choices.old)
         → OnOk result (AllDecide stylesheet.now (truth_in stylesheet.now parameters document) (owns_of choices.new)) }
-    ensures same { source_asked world.new ≡ source_asked world.old }
+    ensures same { asked_of choosing.new ≡ asked_of choosing.old }
 {
     match event {
         Event::Asked(question, _) => {
-            add_if_wanted(alloc, stylesheet, modes, since, question, world, choices)
+            add_if_wanted(alloc, stylesheet, modes, since, question, choosing, choices)
         }
         _ => Ok(()),
     }
@@ -146,18 +149,18 @@ fn add_if_wanted<'a>(
     modes: &Modes,
     since: &Since,
     question: &Question,
-    world: &mut Eval<Logged<Source<'a>>>,
+    choosing: &mut Choosing<'a>,
     choices: &mut OwnChoices,
 ) -> Result<(), Memory>
-    ensures decided { (parameters : Parameters) (document : Document ℕ) → source_asked world.old ≡ source_in stylesheet.now document []
+    ensures decided { (parameters : Parameters) (document : Document ℕ) → asked_of choosing.old ≡ asked_in stylesheet.now document
         → AllDecide stylesheet.now (truth_in stylesheet.now parameters document) (owns_of choices.old)
         → OnOk result (AllDecide stylesheet.now (truth_in stylesheet.now parameters document) (owns_of choices.new)) }
-    ensures same { source_asked world.new ≡ source_asked world.old }
+    ensures same { asked_of choosing.new ≡ asked_of choosing.old }
 {
     if !is_wanted(modes, since, question) {
         return Ok(());
     }
-    add_once(alloc, stylesheet, question, world, choices)
+    add_once(alloc, stylesheet, question, choosing, choices)
 }
 
 // Whether it is a choice that a change marks, in none of these modes.
@@ -173,18 +176,18 @@ fn add_once<'a>(
     alloc: Global,
     stylesheet: &Stylesheet,
     question: &Question,
-    world: &mut Eval<Logged<Source<'a>>>,
+    choosing: &mut Choosing<'a>,
     choices: &mut OwnChoices,
 ) -> Result<(), Memory>
-    ensures decided { (parameters : Parameters) (document : Document ℕ) → source_asked world.old ≡ source_in stylesheet.now document []
+    ensures decided { (parameters : Parameters) (document : Document ℕ) → asked_of choosing.old ≡ asked_in stylesheet.now document
         → AllDecide stylesheet.now (truth_in stylesheet.now parameters document) (owns_of choices.old)
         → OnOk result (AllDecide stylesheet.now (truth_in stylesheet.now parameters document) (owns_of choices.new)) }
-    ensures same { source_asked world.new ≡ source_asked world.old }
+    ensures same { asked_of choosing.new ≡ asked_of choosing.old }
 {
     if choices.find(question).is_some() {
         return Ok(());
     }
-    match made(alloc, stylesheet, question, world)? {
+    match made(alloc, stylesheet, question, choosing)? {
         None => Ok(()),
         Some(own) => choices.add(own),
     }

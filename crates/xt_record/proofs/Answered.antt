@@ -38,6 +38,13 @@ module _ (ask : Question NodeRef → Answer NodeRef) where
       both_answered (event_of x) (map event_of (take (suc i) es)) (first_answered (event_of x) before h)
       (answered_more es i e (omega arith) at k (others_answered (event_of x) before h))
 
+  pub answered_at : (es : List CodeEvent) (i : ℕ) (e : CodeEvent) → i < length es → e ≡ get_or es i e → AsksHold ask (map event_of es)
+      → AsksHold ask (event_of e ∷ [])
+  answered_at [] i e lt at h = absurd (omega arith)
+  answered_at (x ∷ es) zero e lt at h =
+      let P : CodeEvent → Type 0 = λ y. AsksHold ask (event_of y ∷ []) in subst P (sym at) (first_answered (event_of x) (map event_of es) h)
+  answered_at (x ∷ es) (suc i) e lt at h = answered_at es i e (omega arith) at (others_answered (event_of x) (map event_of es) h)
+
 -- what is spared among all, at each place
 module _ (ask : Question NodeRef → Answer NodeRef) (spared : Spared) where
   first_spared : (e : Event NodeRef) (es : List (Event NodeRef)) → AsksSpared ask spared (e ∷ es) → AsksSpared ask spared (e ∷ [])

@@ -6,3 +6,6 @@ pub mod Answered
 pub mod Judging
 pub mod Counting
 pub mod Sparing
+pub mod Chaining
+pub mod Passing
+pub mod Standing

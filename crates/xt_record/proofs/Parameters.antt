@@ -1,5 +1,5 @@
 -- Parameters of units.
-use Rattle.std.proofs.Common.{◌≡◌, ℕ, zero, suc, ◌<◌, List, [], ◌∷◌, map, take, length, get_or, refl, ap, subst, rules, arith}
+use Rattle.std.proofs.Common.{◌≡◌, ℕ, zero, suc, ◌<◌, List, [], ◌∷◌, map, take, length, get_or, refl, sym, ap, subst, rules, arith}
 use Rattle.spec_stylesheet.specs.Instruction.{bindings}
 use Rattle.spec_meaning.specs.Context.{Bound}
 use Rattle.spec_meaning.specs.Context as context
@@ -24,3 +24,10 @@ pass_more one other [] i b lt at s h = absurd (omega arith)
 pass_more one other (c ∷ cs) zero b lt at s h =
     let P : Binding → Type 0 = λ x. context.binding_of (binding_of x).name one ≡ context.binding_of (binding_of x).name other in (subst P at s, tt)
 pass_more one other (c ∷ cs) (suc i) b lt at s h = (h.0, pass_more one other cs i b (omega arith) at s h.1)
+
+pub pass_at : (one other : List (Bound NodeRef)) (bs : List Binding) (i : ℕ) (b : Binding) → i < length bs → b ≡ get_or bs i b
+    → PassAlike (names_of bs) one other → context.binding_of (binding_of b).name one ≡ context.binding_of (binding_of b).name other
+pass_at one other [] i b lt at h = absurd (omega arith)
+pass_at one other (c ∷ cs) zero b lt at h =
+    let P : Binding → Type 0 = λ x. context.binding_of (binding_of x).name one ≡ context.binding_of (binding_of x).name other in subst P (sym at) h.0
+pass_at one other (c ∷ cs) (suc i) b lt at h = pass_at one other cs i b (omega arith) at h.1

@@ -26,13 +26,18 @@ abbrev pub verdict_of : Bool → Verdict
 verdict_of true = Holds
 verdict_of false = Fails
 
--- the questions of each record whose verdict is that they have their answers do
+-- this verdict is true of a record
+abbrev pub IsTrueOf : (Question NodeRef → Answer NodeRef) → Verdict → Record → Type 0
+IsTrueOf ask Unasked r = Unit {0}
+IsTrueOf ask Holds r = AsksHold ask (kept_in r).trace
+IsTrueOf ask Fails r = AsksHold ask (kept_in r).trace → ⊥
+
+-- each record has a verdict, which is true of it
 abbrev pub AllJudged : (Question NodeRef → Answer NodeRef) → List Verdict → List (Rc Record Global) → Type 0
-AllJudged ask [] rs = Unit {0}
-AllJudged ask (v ∷ vs) [] = Unit {0}
-AllJudged ask (Holds ∷ vs) (r ∷ rs) = AsksHold ask (kept_in r.value).trace × AllJudged ask vs rs
-AllJudged ask (Unasked ∷ vs) (r ∷ rs) = AllJudged ask vs rs
-AllJudged ask (Fails ∷ vs) (r ∷ rs) = AllJudged ask vs rs
+AllJudged ask [] [] = Unit {0}
+AllJudged ask [] (r ∷ rs) = ⊥
+AllJudged ask (v ∷ vs) [] = ⊥
+AllJudged ask (v ∷ vs) (r ∷ rs) = IsTrueOf ask v r.value × AllJudged ask vs rs
 
 -- the questions of all that a run kept have their answers
 abbrev pub AreAnswered : (Question NodeRef → Answer NodeRef) → Pool → Type 0
@@ -55,8 +60,8 @@ AllSpared ask spared (r ∷ rs) = AsksSpared ask spared (kept_in r.value).trace 
 
 -- ---- What a run may reuse
 
--- the questions of what this run kept have these answers, and those of each record of the last run that was found to hold, and each question of the
--- last run that is spared. No more questions were asked than these changes mark of the records of the last run that were judged
+-- the questions of what this run kept have these answers, and those of the last run are as they were found to be, and each question of the last run
+-- that is spared has its answer. No more questions were asked than these changes mark of the records of the last run that were judged
 pub record IsSure (ask : Question NodeRef → Answer NodeRef) (reuse : Reuse) : Type 0 where
   pub kept : AllHold ask reuse.kept.records.items
   pub judged : AllJudged ask reuse.verdicts.items reuse.last.now.records.items

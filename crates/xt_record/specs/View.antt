@@ -1,5 +1,7 @@
 -- What records stand for, and when one may serve a call.
-use Rattle.std.specs.Prelude.{◌≡◌, ℕ, ◌≤◌, List, [], ◌∷◌}
+use Rattle.std.specs.Prelude.{◌≡◌, ℕ, ◌≤◌, List, [], ◌∷◌, slice_get, Some}
+use Rattle.std.specs.declared.rc.Rc.{Rc}
+use Rattle.std.specs.declared.alloc.Global.{Global}
 use Rattle.spec_meaning.specs.Question.{Question, Answer}
 use Rattle.spec_run.specs.Plan.{Call}
 use Rattle.spec_run.specs.Going.{Event, Asked, Saw, Entered, Held}
@@ -28,3 +30,19 @@ pub record MayServe (ask : Question NodeRef → Answer NodeRef) (call : Call Nod
   pub of_call : IsOf call kept
   pub levels : kept.height ≤ below
   pub asks : AsksHold ask kept.trace
+
+-- ---- Of a list of records
+
+pub record IsAt (rs : List (Rc Record Global)) (turn : ℕ) (r : Record) : Type 0 where
+  pub handle : Rc Record Global
+  pub here : slice_get rs turn ≡ Some handle
+  pub is : handle.value ≡ r
+
+-- the one at this turn, if there is one, is not of this call or there are not the levels for it
+abbrev pub DoesNotSuit : Call NodeRef → ℕ → List (Rc Record Global) → ℕ → Type 0
+DoesNotSuit call below rs turn =
+    (r : Rc Record Global) → slice_get rs turn ≡ Some r → IsOf call (kept_in r.value) → r.value.ran.height ≤ below → ⊥
+
+-- it may not serve this call
+abbrev pub DoesNotServe : (Question NodeRef → Answer NodeRef) → Call NodeRef → ℕ → List (Rc Record Global) → ℕ → Type 0
+DoesNotServe ask call below rs turn = (r : Rc Record Global) → slice_get rs turn ≡ Some r → MayServe ask call below (kept_in r.value) → ⊥

@@ -1,5 +1,6 @@
 // Whether what was asked has its answers.
-ghost use Rattle.std.specs.Prelude.{◌≡◌, ◌∷◌, [], true, IfOk, map};
+ghost use Rattle.std.specs.Prelude.{◌≡◌, ◌∷◌, [], IfOk, map};
+ghost use Rattle.std.specs.Bool.{Decides};
 ghost use Rattle.xt_questions.specs.View.{answer_of, question_of};
 ghost use Rattle.xt_engine.specs.View.{event_of};
 ghost use Rattle.xt_record.specs.View.{AsksHold};
@@ -14,8 +15,8 @@ use xt_questions::{Answer, Question, World};
 use xt_spared::Spared;
 use xt_text::Memory;
 
-/// Where it says so, each question has its answer: those that are not spared are asked up to the first that has another, and
-/// counted. The others have theirs.
+/// Whether each question has its answer: those that are not spared are asked up to the first that has another, and counted. The
+/// others have theirs.
 pub(crate) fn asks_hold<W: World>(
     alloc: Global,
     events: &[Event],
@@ -24,7 +25,7 @@ pub(crate) fn asks_hold<W: World>(
     steps: &mut Steps,
 ) -> Result<bool, Memory>
     requires spared { AsksSpared (W.state world.now).truth spared.now (map event_of events.now) }
-    ensures holds { IfOk result (λ b. b ≡ true → AsksHold (W.state world.old).truth (map event_of events.now)) }
+    ensures holds { IfOk result (λ b. Decides b (AsksHold (W.state world.old).truth (map event_of events.now))) }
     ensures steps { Asks (since_of spared.now.since.now) (map event_of events.now) steps.old steps.new }
     ensures truth { (W.state world.new).truth ≡ (W.state world.old).truth }
     ensures name { W.name world.new ≡ W.name world.old }
@@ -37,7 +38,7 @@ pub(crate) fn asks_hold<W: World>(
     Ok(true)
 }
 
-// Where it says so, the question has its answer, if it is one. It is asked where it is not spared.
+// Whether the question has its answer, if it is one. It is asked where it is not spared.
 fn asks_so<W: World>(
     alloc: Global,
     event: &Event,
@@ -46,7 +47,7 @@ fn asks_so<W: World>(
     steps: &mut Steps,
 ) -> Result<bool, Memory>
     requires spared { AsksSpared (W.state world.now).truth spared.now (event_of event.now ∷ []) }
-    ensures holds { IfOk result (λ b. b ≡ true → AsksHold (W.state world.old).truth (event_of event.now ∷ [])) }
+    ensures holds { IfOk result (λ b. Decides b (AsksHold (W.state world.old).truth (event_of event.now ∷ []))) }
     ensures steps { Asks (since_of spared.now.since.now) (event_of event.now ∷ []) steps.old steps.new }
     ensures truth { (W.state world.new).truth ≡ (W.state world.old).truth }
     ensures name { W.name world.new ≡ W.name world.old }
@@ -65,14 +66,14 @@ fn asks_so<W: World>(
     }
 }
 
-// Where it says so, the question has this answer.
+// Whether the question has this answer.
 fn is_answer<W: World>(
     alloc: Global,
     question: &Question,
     answer: &Answer,
     world: &mut W,
 ) -> Result<bool, Memory>
-    ensures holds { IfOk result (λ b. b ≡ true → (W.state world.old).truth (question_of question.now) ≡ answer_of answer.now) }
+    ensures holds { IfOk result (λ b. Decides b ((W.state world.old).truth (question_of question.now) ≡ answer_of answer.now)) }
     ensures truth { (W.state world.new).truth ≡ (W.state world.old).truth }
     ensures name { W.name world.new ≡ W.name world.old }
 {

@@ -16,6 +16,7 @@ mod asking;
 mod calls;
 mod keeping;
 mod matching;
+mod places;
 mod pool;
 mod record;
 mod reuse;
@@ -23,6 +24,7 @@ mod same;
 
 pub use calls::same_call;
 pub use keeping::a_record_lasts;
+pub use places::a_record_stands;
 pub use pool::Pool;
 pub use record::Record;
 pub use reuse::{Found, Reuse, Steps};

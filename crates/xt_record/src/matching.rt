@@ -1,5 +1,5 @@
 // Which records are of a call.
-ghost use Rattle.std.specs.Prelude.{◌≡◌, ◌∷◌, [], true, IfOk, map};
+ghost use Rattle.std.specs.Prelude.{◌≡◌, ◌∷◌, [], IfOk, map};
 ghost use Rattle.std.specs.Bool.{Decides};
 ghost use Rattle.std.specs.Option.{option_map};
 ghost use Rattle.xt_tree.specs.ValueView.{value_of};
@@ -22,9 +22,9 @@ use xt_syntax::{Binding, Declared};
 use xt_text::Memory;
 use xt_tree::Value;
 
-/// Where it says so, the record is of the unit, the node and the declared parameters of this call.
+/// Whether the record is of the unit, the node and the declared parameters of this call.
 pub(crate) fn is_of(alloc: Global, kept: &Record, call: &Call) -> Result<bool, Memory>
-    ensures { IfOk result (λ b. b ≡ true → IsOf (call_of call.now) (kept_in kept.now)) }
+    ensures { IfOk result (λ b. Decides b (IsOf (call_of call.now) (kept_in kept.now))) }
 {
     if !same_target(&kept.call.target, &call.target) {
         return Ok(false);
@@ -73,14 +73,14 @@ fn parameters_of(declared: &Declared) -> &[Binding]
     }
 }
 
-// Where it says so, the same is passed for each of these parameters.
+// Whether the same is passed for each of these parameters.
 fn pass_alike(
     alloc: Global,
     declared: &[Binding],
     parameters: &Bindings,
     others: &Bindings,
 ) -> Result<bool, Memory>
-    ensures { IfOk result (λ b. b ≡ true → PassAlike (names_of declared.now) (bindings_of parameters.now) (bindings_of others.now)) }
+    ensures { IfOk result (λ b. Decides b (PassAlike (names_of declared.now) (bindings_of parameters.now) (bindings_of others.now))) }
 {
     for binding in declared {
         if !passes_alike(alloc, &binding.name, parameters, others)? {

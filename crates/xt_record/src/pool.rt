@@ -1,8 +1,10 @@
 // Records, by their calls.
-ghost use Rattle.std.specs.Prelude.{◌≡◌, ◌<◌, ◌≤◌, ◌++◌, ◌∷◌, [], length, get_or, IfOk, IfSome, OnOk};
+ghost use Rattle.std.specs.Prelude.{◌≡◌, ◌<◌, ◌≤◌, ◌++◌, ◌∷◌, [], true, length, get_or, map, slice_get, slice_index_or, IfOk, IfSome, IfNone, OnOk, Some};
 ghost use Rattle.spec_reuse.specs.Serving.{IsOf};
-ghost use Rattle.xt_engine.specs.View.{call_of};
-ghost use Rattle.xt_record.specs.View.{kept_in};
+ghost use Rattle.indexmap.specs.IndexMap.{get};
+ghost use Rattle.xt_engine.specs.View.{call_of, target_of};
+ghost use Rattle.xt_record.specs.View.{kept_in, DoesNotSuit};
+ghost use Rattle.xt_record.specs.Chain.{earlier, key_of, keys_in, part_number, same_key, unit_number, IsChained, IsLatest};
 
 use crate::Record;
 use crate::matching::is_of;
@@ -19,10 +21,11 @@ pub struct Pool {
     // In the order in which they were kept.
     records: Vec<Rc<Record>>,
     // The turn of the latest of each key, and of each record that of the one before it with the same key; its own where it
-    // is the first. Both are hints: what is found there is looked at. A key has no list of its own, which would be memory
-    // taken and given back for nearly each record.
+    // is the first. A key has no list of its own, which would be memory taken and given back for nearly each record.
     latest: IndexMap<Key, usize>,
     before: Vec<usize>,
+    ghost paired: { length before.items ≡ length records.items },
+    ghost chained: { ∥ IsChained (keys_in records.items) (get same_key latest) before.items ∥₁ },
 }
 
 // The numbers of a unit and of a node. Built-in rules have one number, whatever their mode.
@@ -63,29 +66,69 @@ impl Pool {
     pub(crate) fn add(&mut self, kept: Rc<Record>) -> Result<(), Memory>
         ensures { OnOk result (self.new.records.items ≡ self.old.records.items ++ kept ∷ []) }
     {
+        // What can fail comes first, so that all three go in step.
+        self.records.reserve(1)?;
+        self.before.reserve(1)?;
         let key = key_of(&kept.call);
         let turn = self.records.len();
-        self.records.push(kept)?;
         let before = self.latest.insert(key, turn)?;
-        self.before.push(before.unwrap_or(turn))?;
+        self.before.push(before.unwrap_or(turn)).unwrap();
+        self.records.push(kept).unwrap();
         Ok(())
     }
 
-    /// The turn of the latest record before this turn that may be of the unit and the node of this call. Where there is a
-    /// record at this turn, it is one of them.
+    /// The turn of the latest record before this turn that has the key of this call.
     pub(crate) fn latest_before(&self, call: &Call, turn: usize) -> Option<usize>
-        ensures { IfSome result (λ t. t < turn) }
+        ensures below { IfSome result (λ t. t < turn) }
+        ensures latest { ∥ IsLatest (keys_in self.now.records.items) (key_of (call_of call.now)) turn result ∥₁ }
     {
-        let latest = if turn < self.before.len() {
-            self.before[turn]
-        } else {
-            self.latest_of(call)?
-        };
-        if latest < turn { Some(latest) } else { None }
+        if turn == 0 {
+            return None;
+        }
+        let key = key_of(call);
+        if self.has_key(turn, key) {
+            return self.earlier(turn);
+        }
+        self.latest_below(key, turn)
     }
 
-    fn latest_of(&self, call: &Call) -> Option<usize> {
-        self.latest.get(&key_of(call)).copied()
+    // Where it says so, the record at this turn has this key.
+    fn has_key(&self, turn: usize, key: Key) -> bool
+        ensures { result ≡ true → slice_get (keys_in self.now.records.items) turn ≡ Some key }
+    {
+        if turn >= self.records.len() {
+            return false;
+        }
+        let record = &self.records[turn];
+        key_of(&record.call) == key
+    }
+
+    // The turn of the latest record before that at this turn which has the same key.
+    fn earlier(&self, turn: usize) -> Option<usize>
+        requires { turn < length self.now.records.items }
+        ensures below { IfSome result (λ t. t < turn) }
+        ensures turn { result ≡ earlier turn (slice_index_or self.now.before.items turn turn) }
+    {
+        let before = self.before[turn];
+        if before < turn { Some(before) } else { None }
+    }
+
+    // The turn of the latest record before this turn that has this key, where the one at this turn has another or there is
+    // none. The latest of all is mostly before it.
+    fn latest_below(&self, key: Key, turn: usize) -> Option<usize>
+        ensures below { IfSome result (λ t. t < turn) }
+        ensures latest { ∥ IsLatest (keys_in self.now.records.items) key turn result ∥₁ }
+    {
+        let Some(mut latest) = self.latest.get(&key).copied() else {
+            return None;
+        };
+        while latest >= turn {
+            match self.earlier(latest) {
+                None => return None,
+                Some(before) => latest = before,
+            }
+        }
+        Some(latest)
     }
 
     /// The record at this turn, where it is of the call and there are the levels for it.
@@ -100,6 +143,7 @@ impl Pool {
         ensures levels { IfOk result (λ o. IfSome o (λ r. r.value.ran.height ≤ below)) }
         ensures within { IfOk result (λ o. IfSome o (λ r. turn < length self.now.records.items)) }
         ensures at { IfOk result (λ o. IfSome o (λ r. r.value ≡ (get_or self.now.records.items turn r).value)) }
+        ensures passes { IfOk result (λ o. IfNone o (DoesNotSuit (call_of call.now) below self.now.records.items turn)) }
     {
         if turn >= self.records.len() {
             return Ok(None);
@@ -115,7 +159,9 @@ impl Pool {
     }
 }
 
-fn key_of(call: &Call) -> Key {
+fn key_of(call: &Call) -> Key
+    ensures { result ≡ key_of (call_of call.now) }
+{
     Key {
         unit: unit_number(&call.target),
         node: call.node.node.number,
@@ -123,7 +169,9 @@ fn key_of(call: &Call) -> Key {
     }
 }
 
-fn unit_number(target: &Target) -> u64 {
+fn unit_number(target: &Target) -> u64
+    ensures { result ≡ unit_number (target_of target.now) }
+{
     match target {
         Target::Unit(element) => element.node.number,
         Target::BuiltIn(_) => u64::MAX,
@@ -131,7 +179,9 @@ fn unit_number(target: &Target) -> u64 {
 }
 
 // Apart for the parts of one node, as long as they are few.
-fn part_number(part: Part) -> u64 {
+fn part_number(part: Part) -> u64
+    ensures { result ≡ part_number part }
+{
     match part {
         Part::Itself => 0,
         Part::Attribute(number) => number,

@@ -1,11 +1,13 @@
 // What a run may reuse.
-ghost use Rattle.std.specs.Prelude.{◌≡◌, ◌<◌, ◌≤◌, ◌+◌, ◌++◌, ◌∷◌, [], true, length, get_or, min, IfOk, IfSome, OnOk};
+ghost use Rattle.std.specs.Prelude.{◌≡◌, ◌<◌, ◌≤◌, ◌+◌, ◌++◌, ◌∷◌, [], length, get_or, min, IfOk, IfSome, IfNone, OnOk};
+ghost use Rattle.std.specs.Bool.{Decides};
 ghost use Rattle.spec_meaning.specs.Question.{Question, Answer};
 ghost use Rattle.spec_node.specs.declared.node_ref.NodeRef.{NodeRef};
 ghost use Rattle.xt_engine.specs.View.{call_of};
-ghost use Rattle.xt_record.specs.View.{AsksHold, MayServe, kept_in};
+ghost use Rattle.xt_record.specs.View.{AsksHold, DoesNotServe, DoesNotSuit, IsAt, MayServe, kept_in};
 ghost use Rattle.xt_record.specs.Asked.{Judges, marked_of};
 ghost use Rattle.xt_record.specs.Sure.{AreAnswered, IsSure, verdict_of};
+ghost use Rattle.xt_record.specs.Search.{PassedAmong, PassedOver, Stands, StandsAmong, kept_place, last_place, most};
 ghost use Rattle.xt_record.specs.declared.reuse.Verdict.TheVariants as Verdict;
 ghost use Rattle.xt_spared.specs.View.{Spares};
 ghost use Rattle.xt_touch.specs.View.{since_of};
@@ -28,9 +30,9 @@ pub struct Steps {
     pub asked: u64,
 }
 
-// Where one that was found says to go on: as far below this as its turn says, where this run kept it, and as far below twice
-// this where the last did. So those that this run kept come first, and in both the latest.
-const LAST: u64 = 1 << 62;
+// Where one that was found says to go on: as far below this as its turn says, where this run kept it, and as far below
+// twice this where the last did. So those that this run kept come first, and in both the latest. No list is longer.
+const LAST: u64 = (1 << 63) - 1;
 
 /// What is known of the questions of a record.
 #[derive(Clone, Copy, Debug, PartialEq, Eq)]
@@ -88,8 +90,8 @@ impl<'a> Reuse<'a> {
 
     /// A record that may serve the call, with so many levels below the call's own: among those that this run kept, and then
     /// among those of the last, in both the latest first. From 0 on, or from where one that was found says; from there on
-    /// nothing is found twice. Where the questions of a record were not asked in this run, those that are not spared are asked
-    /// up to the first that has another answer, and counted.
+    /// nothing is found twice, and none that is passed over may serve. Where the questions of a record were not asked in this
+    /// run, those that are not spared are asked up to the first that has another answer, and counted.
     pub fn find<W: World>(
         &mut self,
         alloc: Global,
@@ -102,6 +104,8 @@ impl<'a> Reuse<'a> {
         ensures sure { OnOk result (IsSure (W.state world.old).truth self.new) }
         ensures serves { IfOk result (λ o. IfSome o (λ f. MayServe (W.state world.old).truth (call_of call.now) below (kept_in f.record.value))) }
         ensures next { IfOk result (λ o. IfSome o (λ f. from < f.next)) }
+        ensures stands { IfOk result (λ o. IfSome o (λ f. Stands self.old f.next f.record.value)) }
+        ensures complete { IfOk result (PassedOver (W.state world.old).truth (call_of call.now) below self.old from) }
         ensures judges { Judges self.old self.new }
         ensures truth { (W.state world.new).truth ≡ (W.state world.old).truth }
         ensures name { W.name world.new ≡ W.name world.old }
@@ -122,6 +126,9 @@ impl<'a> Reuse<'a> {
     ) -> Result<Option<Found>, Memory>
         ensures serves { (ask : Question NodeRef → Answer NodeRef) → IsSure ask self.now → IfOk result (λ o. IfSome o (λ f. MayServe ask (call_of call.now) below (kept_in f.record.value))) }
         ensures next { IfOk result (λ o. IfSome o (λ f. from < f.next)) }
+        ensures within { IfOk result (λ o. IfSome o (λ f. f.next ≤ most)) }
+        ensures stands { IfOk result (λ o. IfSome o (λ f. StandsAmong kept_place self.now.kept.records.items f.next f.record.value)) }
+        ensures passes { (ask : Question NodeRef → Answer NodeRef) → IfOk result (PassedAmong ask (call_of call.now) below kept_place self.now.kept.records.items from) }
     {
         let mut end = LAST.saturating_sub(from) as usize;
         while let Some(turn) = self.kept.latest_before(call, end) {
@@ -145,6 +152,8 @@ impl<'a> Reuse<'a> {
     ) -> Result<Option<Found>, Memory>
         ensures serves { (ask : Question NodeRef → Answer NodeRef) → IsSure ask self.now → IfOk result (λ o. IfSome o (λ f. MayServe ask (call_of call.now) below (kept_in f.record.value))) }
         ensures next { IfOk result (λ o. IfSome o (λ f. f.next ≡ next)) }
+        ensures at { IfOk result (λ o. IfSome o (λ f. IsAt self.now.kept.records.items turn f.record.value)) }
+        ensures passes { IfOk result (λ o. IfNone o (DoesNotSuit (call_of call.now) below self.now.kept.records.items turn)) }
     {
         let suiting = self.kept.suiting(alloc, turn, call, below)?;
         match suiting {
@@ -170,6 +179,8 @@ impl<'a> Reuse<'a> {
         ensures sure { OnOk result (IsSure (W.state world.old).truth self.new) }
         ensures serves { IfOk result (λ o. IfSome o (λ f. MayServe (W.state world.old).truth (call_of call.now) below (kept_in f.record.value))) }
         ensures next { IfOk result (λ o. IfSome o (λ f. from < f.next)) }
+        ensures stands { IfOk result (λ o. IfSome o (λ f. StandsAmong last_place self.old.last.now.records.items f.next f.record.value)) }
+        ensures passes { IfOk result (PassedAmong (W.state world.old).truth (call_of call.now) below last_place self.old.last.now.records.items from) }
         ensures judges { Judges self.old self.new }
         ensures truth { (W.state world.new).truth ≡ (W.state world.old).truth }
         ensures name { W.name world.new ≡ W.name world.old }
@@ -200,6 +211,8 @@ impl<'a> Reuse<'a> {
         requires sure { IsSure (W.state world.now).truth self.now }
         ensures sure { OnOk result (IsSure (W.state world.old).truth self.new) }
         ensures serves { IfOk result (λ o. IfSome o (λ r. MayServe (W.state world.old).truth (call_of call.now) below (kept_in r.value))) }
+        ensures at { IfOk result (λ o. IfSome o (λ r. IsAt self.old.last.now.records.items turn r.value)) }
+        ensures passes { IfOk result (λ o. IfNone o (DoesNotServe (W.state world.old).truth (call_of call.now) below self.old.last.now.records.items turn)) }
         ensures judges { Judges self.old self.new }
         ensures truth { (W.state world.new).truth ≡ (W.state world.old).truth }
         ensures name { W.name world.new ≡ W.name world.old }
@@ -213,8 +226,7 @@ impl<'a> Reuse<'a> {
         Ok(Some(record))
     }
 
-    // Where it says so, the questions of this record of the last run have their answers. They are asked where they were
-    // not yet.
+    // Whether the questions of this record of the last run have their answers. They are asked where they were not yet.
     fn holds<W: World>(
         &mut self,
         alloc: Global,
@@ -226,14 +238,11 @@ impl<'a> Reuse<'a> {
         requires within { turn < length self.now.last.now.records.items }
         requires at { kept.now.value ≡ (get_or self.now.last.now.records.items turn kept.now).value }
         ensures sure { OnOk result (IsSure (W.state world.old).truth self.new) }
-        ensures holds { IfOk result (λ b. b ≡ true → AsksHold (W.state world.old).truth (kept_in kept.now.value).trace) }
+        ensures holds { IfOk result (λ b. Decides b (AsksHold (W.state world.old).truth (kept_in kept.now.value).trace)) }
         ensures judges { Judges self.old self.new }
         ensures truth { (W.state world.new).truth ≡ (W.state world.old).truth }
         ensures name { W.name world.new ≡ W.name world.old }
     {
-        if turn >= self.verdicts.len() {
-            return Ok(false);
-        }
         let verdict = self.verdicts[turn];
         match verdict {
             Verdict::Holds => Ok(true),

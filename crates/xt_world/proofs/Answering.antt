@@ -34,7 +34,7 @@ use Rattle.xt_world.specs.Turned.{at_number, turn_of_number}
 use Rattle.xt_world.specs.Units.{called_among, resolved_among}
 use Rattle.xt_world.specs.KeyView.{keyed_in}
 use Rattle.xt_world.specs.SourceView.{source_in}
-use Rattle.xt_world.specs.View.{chosen_by, chosen_in, rule_held, said_of, truth_in, truth_over}
+use Rattle.xt_world.specs.View.{chosen_by, chosen_in, rule_held, said_of, truth_in, truth_with}
 use Rattle.xt_world.specs.Answering.{AnswersAs}
 use Rattle.xt_world.specs.PartsView.{AreParts}
 use Rattle.xt_world.specs.declared.stylesheet.Parts.{Parts}
@@ -147,17 +147,17 @@ answers_as sheet parts aliases us one other made =
     }
 
 -- what the source answers, among the questions of the program
-pub others_so : (source : Question NodeRef → Answer NodeRef) (s : Stylesheet) (parameters : Parameters) (document : Document ℕ) (q : code.Question)
+pub others_so : (source : Question NodeRef → Answer NodeRef) (rules : List Rule) (s : Stylesheet) (parameters : Parameters) (document : Document ℕ) (q : code.Question)
     → ((node : _) (mode : _) (candidates : _) → q ≡ questions.Choice node mode candidates → ⊥) → ((node : _) → q ≡ questions.Copy node → ⊥)
     → ((element : _) → q ≡ questions.Unit element → ⊥) → ((name : _) → q ≡ questions.External name → ⊥)
-    → source (question_of q) ≡ truth_over source s parameters document (question_of q)
-others_so source s parameters document (questions.Step node axis test) a b c d = refl
-others_so source s parameters document (questions.Text node) a b c d = refl
-others_so source s parameters document (questions.Name node) a b c d = refl
-others_so source s parameters document (questions.Place node) a b c d = refl
-others_so source s parameters document (questions.Order nodes) a b c d = refl
-others_so source s parameters document (questions.Key name value) a b c d = refl
-others_so source s parameters document (questions.Choice node mode candidates) a b c d = absurd (a node mode candidates refl)
-others_so source s parameters document (questions.Copy node) a b c d = absurd (b node refl)
-others_so source s parameters document (questions.Unit element) a b c d = absurd (c element refl)
-others_so source s parameters document (questions.External name) a b c d = absurd (d name refl)
+    → source (question_of q) ≡ truth_with source rules s parameters document (question_of q)
+others_so source rules s parameters document (questions.Step node axis test) a b c d = refl
+others_so source rules s parameters document (questions.Text node) a b c d = refl
+others_so source rules s parameters document (questions.Name node) a b c d = refl
+others_so source rules s parameters document (questions.Place node) a b c d = refl
+others_so source rules s parameters document (questions.Order nodes) a b c d = refl
+others_so source rules s parameters document (questions.Key name value) a b c d = refl
+others_so source rules s parameters document (questions.Choice node mode candidates) a b c d = absurd (a node mode candidates refl)
+others_so source rules s parameters document (questions.Copy node) a b c d = absurd (b node refl)
+others_so source rules s parameters document (questions.Unit element) a b c d = absurd (c element refl)
+others_so source rules s parameters document (questions.External name) a b c d = absurd (d name refl)

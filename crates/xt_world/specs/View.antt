@@ -1,5 +1,5 @@
 -- What a world of a stylesheet and a source answers, by what it holds.
-use Rattle.std.specs.Prelude.{◌≡◌, ℕ, [], Option, None, Some, Result, Ok, Err, slice_get, if◌then◌else◌}
+use Rattle.std.specs.Prelude.{◌≡◌, ℕ, List, [], Option, None, Some, Result, Ok, Err, slice_get, if◌then◌else◌}
 use Rattle.std.specs.declared.rc.Rc.{Rc}
 use Rattle.std.specs.Global.{Global}
 use Rattle.spec_document.specs.Name.{Expanded}
@@ -67,27 +67,38 @@ GivesNumber (Err (faults.Refused why)) number = number ≡ None
 GivesNumber (Err (faults.Wants name)) number = number ≡ None
 GivesNumber (Err faults.Memory) number = ⊥
 
--- which rule is chosen for a node, where these are the answers of the source
+-- which of these rules is chosen for a node, where these are the answers of the source
+abbrev pub said_by : (Question NodeRef → Answer NodeRef) → List Rule → Stylesheet → NodeRef → Option Expanded → Candidates → Said (Option ℕ)
+said_by source rules s node mode candidates =
+    outcome_of source no_globals (chosen same_ref (context_for (units_in s.units.items) node) node mode candidates rules)
+
+-- and which of those of the stylesheet
 abbrev pub said_of : (Question NodeRef → Answer NodeRef) → Stylesheet → NodeRef → Option Expanded → Candidates → Said (Option ℕ)
-said_of source s node mode candidates =
-    outcome_of source no_globals (chosen same_ref (context_for (units_in s.units.items) node) node mode candidates (rules_of s.rules).rules)
+said_of source s node mode candidates = said_by source (rules_of s.rules).rules s node mode candidates
 
 -- a copy of a node of the source
 abbrev pub copy_in : Document ℕ → NodeRef → Answer NodeRef
 copy_in document node = told_of (λ e. Copied (copy_of e.item)) (entry_named ref_of same_ref (entries_of document) node)
 
--- the rule of a node of the source
-abbrev pub choice_by : (Question NodeRef → Answer NodeRef) → Stylesheet → Document ℕ → NodeRef → Option Expanded → Candidates → Answer NodeRef
-choice_by source s document node mode candidates =
-    told_of (λ e. rule_held s (said_of source s node mode candidates)) (entry_named ref_of same_ref (entries_of document) node)
+-- the rule of a node of the source, among these
+abbrev pub choice_with : (Question NodeRef → Answer NodeRef) → List Rule → Stylesheet → Document ℕ → NodeRef → Option Expanded → Candidates → Answer NodeRef
+choice_with source rules s document node mode candidates =
+    told_of (λ e. rule_held s (said_by source rules s node mode candidates)) (entry_named ref_of same_ref (entries_of document) node)
 
--- all, where these are the answers of the source with its keys
+abbrev pub choice_by : (Question NodeRef → Answer NodeRef) → Stylesheet → Document ℕ → NodeRef → Option Expanded → Candidates → Answer NodeRef
+choice_by source s document node mode candidates = choice_with source (rules_of s.rules).rules s document node mode candidates
+
+-- all, where these are the answers of the source with its keys, and these the rules
+abbrev pub truth_with : (Question NodeRef → Answer NodeRef) → List Rule → Stylesheet → Parameters → Document ℕ → Question NodeRef → Answer NodeRef
+truth_with source rules s parameters document (question.Copy node) = copy_in document node
+truth_with source rules s parameters document (question.Choice node mode candidates) = choice_with source rules s document node mode candidates
+truth_with source rules s parameters document (question.Unit element) = unit_held s element
+truth_with source rules s parameters document (question.External name) = Passed (parameters name)
+truth_with source rules s parameters document q = source q
+
+-- and with the rules of the stylesheet
 abbrev pub truth_over : (Question NodeRef → Answer NodeRef) → Stylesheet → Parameters → Document ℕ → Question NodeRef → Answer NodeRef
-truth_over source s parameters document (question.Copy node) = copy_in document node
-truth_over source s parameters document (question.Choice node mode candidates) = choice_by source s document node mode candidates
-truth_over source s parameters document (question.Unit element) = unit_held s element
-truth_over source s parameters document (question.External name) = Passed (parameters name)
-truth_over source s parameters document q = source q
+truth_over source s parameters document q = truth_with source (rules_of s.rules).rules s parameters document q
 
 -- before any keys are found
 abbrev pub truth_in : Stylesheet → Parameters → Document ℕ → Question NodeRef → Answer NodeRef

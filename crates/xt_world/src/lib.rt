@@ -1,7 +1,8 @@
 //! The world of a stylesheet and a source: it answers truly what is asked of the source's tree and of its keys, for
 //! copies of its nodes, for their template rules, for the units of the stylesheet and for the values that
-//! parameters are given from outside. Of what it was asked it keeps the keys alone: all keys of a name are found
-//! for all nodes when a first value is asked for. `Source` is the part of it that knows the tree and the keys alone.
+//! parameters are given from outside. Of what it was asked it keeps the keys: all keys of a name are found for all
+//! nodes when a first value is asked for. It keeps too which rules may match the nodes that it met, by what these are
+//! called. `Source` is the part of it that knows the tree and the keys alone.
 //!
 //! ```text
 //! let stylesheet = Stylesheet::new(alloc, sheet, numbers)?;   // of the elements of its units, if they serve

@@ -3,16 +3,17 @@ ghost use Rattle.std.specs.Prelude.{◌≡◌, IfOk};
 ghost use Rattle.std.specs.Option.{option_map};
 ghost use Rattle.spec_meaning.specs.Program.{Gives};
 ghost use Rattle.spec_meaning.specs.Question as question;
+ghost use Rattle.xt_syntax.specs.SheetView.{rules_of};
 ghost use Rattle.xt_questions.specs.View.{answer_of, candidates_of, chosen_of, question_of};
 ghost use Rattle.xt_world.specs.ParameterView.{parameters_of};
 ghost use Rattle.xt_world.specs.SourceView.{source_of};
-ghost use Rattle.xt_world.specs.View.{GivesNumber, choice_by, copy_in, rule_held, rule_numbered, said_of, truth_over, unit_held};
+ghost use Rattle.xt_world.specs.View.{GivesNumber, choice_with, copy_in, rule_held, rule_numbered, said_by, truth_with, unit_held};
 
 use crate::source::Source;
 use crate::{Parameters, Stylesheet};
 use std::alloc::Global;
 use xt_copy::copy_of;
-use xt_match::choose;
+use xt_match::{RuleTable, choose};
 use xt_names::Expanded;
 use xt_questions::{
     Answer, Candidates, ChosenRule, EvalFault, Given, Question, Supplies, Wanted, World,
@@ -20,7 +21,8 @@ use xt_questions::{
 use xt_text::{Memory, Text};
 use xt_tree::{Doc, NodeRef};
 
-/// A stylesheet, a source, and the values that parameters are given. Of what it is asked it keeps the keys alone.
+/// A stylesheet, a source, and the values that parameters are given. Of what it is asked it keeps the keys, and of the
+/// rules of the stylesheet which may match a node that is called so.
 #[derive(Drop)]
 pub struct SheetWorld<'a> {
     alloc: Global,
@@ -28,6 +30,7 @@ pub struct SheetWorld<'a> {
     stylesheet: &'a Stylesheet,
     parameters: &'a Parameters,
     source: Source<'a>,
+    table: RuleTable<'a>,
 }
 
 impl<'a> SheetWorld<'a> {
@@ -51,12 +54,14 @@ impl<'a> SheetWorld<'a> {
             stylesheet,
             keys: Vec::new(alloc),
         };
+        let table = RuleTable::new(alloc, &stylesheet.rules);
         SheetWorld {
             alloc,
             document,
             stylesheet,
             parameters,
             source,
+            table,
         }
     }
 }
@@ -76,6 +81,7 @@ impl<'a> World for SheetWorld<'a> {
             self.stylesheet,
             self.parameters,
             &mut self.source,
+            &mut self.table,
             question,
         )
     }
@@ -92,10 +98,12 @@ fn answer<'a>(
     stylesheet: &Stylesheet,
     parameters: &Parameters,
     source: &mut Source<'a>,
+    table: &mut RuleTable<'a>,
     question: &Question,
 ) -> Result<Answer, Memory>
-    ensures answer { IfOk result (λ a. answer_of a ≡ truth_over (source_of source.old) stylesheet.now (parameters_of parameters.now) document.now (question_of question.now)) }
+    ensures answer { IfOk result (λ a. answer_of a ≡ truth_with (source_of source.old) (rules_of table.old.rules.now).rules stylesheet.now (parameters_of parameters.now) document.now (question_of question.now)) }
     ensures same { source_of source.new ≡ source_of source.old }
+    ensures rules { table.new.rules.now ≡ table.old.rules.now }
 {
     match question {
         Question::Copy(node) => copied(alloc, document, node),
@@ -104,6 +112,7 @@ fn answer<'a>(
             document,
             stylesheet,
             source,
+            table,
             *node,
             mode,
             *candidates,
@@ -157,18 +166,20 @@ fn chosen<'a>(
     document: &Doc,
     stylesheet: &Stylesheet,
     source: &mut Source<'a>,
+    table: &mut RuleTable<'a>,
     node: NodeRef,
     mode: &Option<Expanded>,
     candidates: Candidates,
 ) -> Result<Answer, Memory>
-    ensures answer { IfOk result (λ a. answer_of a ≡ choice_by (source_of source.old) stylesheet.now document.now node mode.now (candidates_of candidates)) }
+    ensures answer { IfOk result (λ a. answer_of a ≡ choice_with (source_of source.old) (rules_of table.old.rules.now).rules stylesheet.now document.now node mode.now (candidates_of candidates)) }
     ensures same { source_of source.new ≡ source_of source.old }
+    ensures rules { table.new.rules.now ≡ table.old.rules.now }
 {
     document.distinct_numbers();
     if !document.has(alloc, &node)? {
         return Ok(Answer::Gone);
     }
-    let number = rule(alloc, stylesheet, source, node, mode, candidates)?;
+    let number = rule(alloc, stylesheet, source, table, node, mode, candidates)?;
     Ok(Answer::Chosen(rule_numbered(stylesheet, number)))
 }
 
@@ -177,12 +188,14 @@ fn rule<'a>(
     alloc: Global,
     stylesheet: &Stylesheet,
     source: &mut Source<'a>,
+    table: &mut RuleTable<'a>,
     node: NodeRef,
     mode: &Option<Expanded>,
     candidates: Candidates,
 ) -> Result<Option<u64>, Memory>
-    ensures number { IfOk result (λ number. rule_held stylesheet.now (said_of (source_of source.old) stylesheet.now node mode.now (candidates_of candidates)) ≡ rule_held stylesheet.now (Gives number)) }
+    ensures number { IfOk result (λ number. rule_held stylesheet.now (said_by (source_of source.old) (rules_of table.old.rules.now).rules stylesheet.now node mode.now (candidates_of candidates)) ≡ rule_held stylesheet.now (Gives number)) }
     ensures same { source_of source.new ≡ source_of source.old }
+    ensures rules { table.new.rules.now ≡ table.old.rules.now }
 {
     let supplies = Supplies {
         position: 1,
@@ -190,10 +203,9 @@ fn rule<'a>(
         rule: None,
         globals: Vec::new(alloc),
     };
-    let rules = &stylesheet.rules;
     let units = stylesheet.units.as_slice();
     let chosen = choose(
-        alloc, rules, units, node, mode, candidates, &supplies, source,
+        alloc, table, units, node, mode, candidates, &supplies, source,
     );
     number_of(chosen)
 }

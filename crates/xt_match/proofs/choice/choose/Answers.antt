@@ -11,10 +11,10 @@ use Rattle.xt_match.proofs.choice.choose.Goals as goal
 
 pub returns-in_err-called-clause-runs : goal.returns-in_err-called-clause-runs
 returns-in_err-called-clause-runs g c =
-    let program = ask_then (Name c.args.node) (λ a. a) (first_that_matches same_ref (context_for (units_in c.args.units.now) c.args.node) c.args.mode.now (candidates_of c.args.candidates) 0 (map rule_of c.args.rules.now.rules.items) c.args.node) in
+    let program = ask_then (Name c.args.node) (λ a. a) (first_that_matches same_ref (context_for (units_in c.args.units.now) c.args.node) c.args.mode.now (candidates_of c.args.candidates) 0 (map rule_of c.args.table.now.rules.now.rules.items) c.args.node) in
     exits _ c.from_residual.ensures.1 (runs_as program (runs_stop _ (c.in_err-called.ensures.runs _ _)))
 
 pub returns-clause-runs : goal.returns-clause-runs
 returns-clause-runs g c =
-    let program = ask_then (Name c.args.node) (λ a. a) (first_that_matches same_ref (context_for (units_in c.args.units.now) c.args.node) c.args.mode.now (candidates_of c.args.candidates) 0 (map rule_of c.args.rules.now.rules.items) c.args.node) in
-    runs_as program (runs_then _ (c.in_ok-called.ensures.runs _ _) (rw c.as_slice-list.ensures.value at (c.first_that_matches-chosen.ensures.runs)))
+    let program = ask_then (Name c.args.node) (λ a. a) (first_that_matches same_ref (context_for (units_in c.args.units.now) c.args.node) c.args.mode.now (candidates_of c.args.candidates) 0 (map rule_of c.args.table.now.rules.now.rules.items) c.args.node) in
+    runs_as program (runs_then _ (c.in_ok-called.ensures.runs _ _) (c.first_for-chosen.ensures.runs))

@@ -1,16 +1,16 @@
-use Rattle.std.proofs.Common.{◌≡◌, ℕ, []}
+use Rattle.std.proofs.Common.{◌≡◌, ℕ}
 use Rattle.spec_document.specs.Forest.{Document}
 use Rattle.spec_run.specs.Documents.{Parameters}
 use Rattle.xt_spared.specs.View.{owns_of}
-use Rattle.xt_world.specs.SourceView.{source_in}
 use Rattle.xt_world.specs.View.{truth_in}
-use Rattle.xt_own.specs.View.{AllDecide, CarriesChoices, source_asked}
+use Rattle.xt_own.specs.Asking.{asked_in, asked_of}
+use Rattle.xt_own.specs.View.{AllDecide, CarriesChoices}
 use Rattle.xt_own.proofs.gathering.gather_from.Given as goal
 
 abbrev pub invariant-loop-record : goal.invariant-loop-record
 invariant-loop-record l = record {
-  same : source_asked l.world ≡ source_asked l.fn.world;
-  decided : (parameters : Parameters) (document : Document ℕ) → source_asked l.fn.world ≡ source_in l.stylesheet document []
+  same : asked_of l.choosing ≡ asked_of l.fn.choosing;
+  decided : (parameters : Parameters) (document : Document ℕ) → asked_of l.fn.choosing ≡ asked_in l.stylesheet document
       → CarriesChoices l.stylesheet (truth_in l.stylesheet parameters document) l.spared
       → AllDecide l.stylesheet (truth_in l.stylesheet parameters document) (owns_of l.fn.choices)
       → AllDecide l.stylesheet (truth_in l.stylesheet parameters document) (owns_of l.choices);

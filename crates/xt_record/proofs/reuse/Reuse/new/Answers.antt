@@ -17,7 +17,7 @@ returns-clause-sure c = λ was ask answered spares.
     let changes = since_of c.args.spared.now.since.now in
     record {
       kept = subst (λ (kept : List (Rc Record Global)). AllHold ask kept) (sym c.new.ensures) tt;
-      judged = subst (λ (vs : List Verdict). AllJudged ask vs rs) (sym (c.in_ok-vec.ensures.items_if_clones_equal (λ y e. e))) (unasked ask c.count.result rs);
+      judged = subst (λ (vs : List Verdict). AllJudged ask vs rs) (sym (c.in_ok-vec.ensures.items_if_clones_equal (λ y e. e))) (unasked ask c.count.result rs c.count.ensures);
       spared = all_spared was ask c.args.spared.now spares rs answered;
       counted = subst (λ (vs : List Verdict). 0 + marked_left changes vs rs ≤ marked_among changes rs) (sym (c.in_ok-vec.ensures.items_if_clones_equal (λ y e. e)))
           (unasked_left changes c.count.result rs);
