@@ -10,4 +10,5 @@ pub mod Placing
 pub mod Kept
 pub mod Named
 pub mod Inside
+pub mod Owned
 pub mod Tested

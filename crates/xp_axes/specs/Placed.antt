@@ -1,12 +1,14 @@
 -- Nodes with their paths, and document order by these.
-use Rattle.std.specs.Prelude.{ℕ, List, [], ◌∷◌, ◌++◌, Option}
+use Rattle.std.specs.Prelude.{ℕ, ◌≡◌, List, [], ◌∷◌, ◌++◌, length, Option}
 use Rattle.std.specs.List.{find}
-use Rattle.std.specs.Option.{option_map, option_to_list}
+use Rattle.std.specs.Option.{ForSome, option_map, option_to_list}
 use Rattle.std.specs.Ordering.{nat_cmp, ordering_then}
 use Rattle.std.specs.declared.cmp.Ordering.{Ordering}
 use Rattle.std.specs.Cmp.Lexicographic.{slice_cmp}
 use Rattle.spec_document.specs.Forest.{Document}
+use Rattle.spec_document.specs.Place.{namespaces_of}
 use Rattle.spec_document.specs.Order.{Entry, entries_of}
+use Rattle.xt_tree.specs.View.{numbered_node}
 use Rattle.spec_node.specs.declared.node_ref.NodeRef.{NodeRef}
 use Rattle.spec_node.specs.declared.node_ref.Part.{Part}
 use Rattle.spec_node.specs.declared.node_ref.Part.TheVariants as part
@@ -37,3 +39,7 @@ place_of document node = option_map placed_of (find (λ entry. same_ref node (re
 abbrev pub places_of : Document ℕ → List NodeRef → List Placed
 places_of document [] = []
 places_of document (node ∷ nodes) = option_to_list (place_of document node) ++ places_of document nodes
+
+-- the node of this number, where there is one, has so many namespace nodes
+abbrev pub HasNamespaces : Document ℕ → ℕ → ℕ → Type 0
+HasNamespaces document number count = ForSome (numbered_node document number) (λ node. count ≡ length (namespaces_of node))

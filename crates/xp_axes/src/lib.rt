@@ -16,6 +16,7 @@ mod inner;
 mod laws;
 mod ordered;
 mod own;
+mod owner;
 mod passing;
 
 pub use answer::step;

@@ -1,8 +1,8 @@
 -- The turns along a record.
-use Rattle.std.proofs.Common.{◌≡◌, ℕ, suc, ◌+◌, ◌-◌, ◌<◌, ◌≤◌, List, [], ◌∷◌, ◌++◌, length, map, drop, get_or, Result, Ok, Err, refl, sym, ap, subst, ◌∙◌, arith}
-use Rattle.std.specs.Prelude.{false, IfOk, OnOk, Box}
+use Rattle.std.proofs.Common.{◌≡◌, ℕ, suc, ◌+◌, ◌-◌, ◌<◌, ◌≤◌, List, [], ◌∷◌, ◌++◌, length, map, drop, take, get_or, Result, Ok, Err, refl, sym, ap, subst, ◌∙◌, arith}
+use Rattle.std.specs.Prelude.{true, false, IfOk, OnOk, Box}
 use Rattle.std.specs.declared.alloc.Global.{Global as Allocator}
-use Rattle.std.proofs.lemmas.List.{at_drop_more, at_drop_all}
+use Rattle.std.proofs.lemmas.List.{at_drop_more, at_drop_all, take_more, map-append}
 use Rattle.spec_document.specs.Name.{Expanded}
 use Rattle.spec_meaning.specs.Stream.{Stream, holes}
 use Rattle.spec_meaning.specs.Question.{Question, Answer}
@@ -41,7 +41,7 @@ use Rattle.xt_driver.specs.declared.outcome.Outcome.{Outcome as Came}
 use Rattle.xt_driver.specs.View.{outcome_of, Gives}
 use Rattle.xt_driver.specs.Remembered.{Entry, Keeps, Lasts, GivesAlways}
 use Rattle.xt_driver.specs.Referring.{HoldsAs, Settles}
-use Rattle.xt_driver.specs.Along.{halts, inner_of, IsNext, IsTaken, TakesSo, Takes, IsSeenAs, IsTakenAs, IsLostAs, TakesReferenceSo, TakesReference}
+use Rattle.xt_driver.specs.Along.{halts, inner_of, refuses, IsNext, IsTaken, TakesSo, Takes, IsSeenAs, IsTakenAs, IsLostAs, TakesReferenceSo, TakesReference}
 use Rattle.xt_driver.specs.Lost.{IsLost, IsServed}
 use Rattle.xt_driver.proofs.Remembering.{keeps_on}
 use Rattle.xt_driver.specs.Followed.{IsFollowed, cut_with, EndsWith, IsGone}
@@ -54,7 +54,17 @@ Ask = Question NodeRef → Answer NodeRef
 abbrev pub rest_from : List CodeEvent → ℕ → List (Event NodeRef)
 rest_from events n = map event_of (drop n events)
 
-next_event : (events : List CodeEvent) (n : ℕ) (e : CodeEvent) → n < length events → e ≡ get_or events n e
+-- what was done before
+abbrev pub done_to : List CodeEvent → ℕ → List (Event NodeRef)
+done_to events n = map event_of (take n events)
+
+pub done_next : (events : List CodeEvent) (n : ℕ) (e : CodeEvent) → n < length events → e ≡ get_or events n e
+    → done_to events (n + 1) ≡ done_to events n ++ event_of e ∷ []
+done_next events n e l is =
+    ap (map event_of) (take_more events n e l) ∙ map-append event_of (take n events) (get_or events n e ∷ [])
+    ∙ ap (λ x. done_to events n ++ event_of x ∷ []) (sym is)
+
+pub next_event : (events : List CodeEvent) (n : ℕ) (e : CodeEvent) → n < length events → e ≡ get_or events n e
     → rest_from events n ≡ event_of e ∷ rest_from events (n + 1)
 next_event events n e l is = at_drop_more (map event_of) events n e l ∙ ap (λ x. event_of x ∷ rest_from events (n + 1)) (sym is)
 
@@ -199,7 +209,7 @@ lost_referred : (s : Setting NodeRef) (past : Past NodeRef) (all : List (Entry N
 lost_referred s past all old way e needed left (Err m) l settles takes = absurd takes
 lost_referred s past all old way e needed left (Ok r) l settles takes = by_lost l takes settles.gives
   where
-    by_lost : (y : Lost) → IsLostAs y r.value needed.value left
+    by_lost : (y : Lost) → IsLostAs y r.value e needed.value left
         → Gives r.value.entered (place_of needed.value.place) (referred s (meaning s left) past needed.value.name 0 (place_of needed.value.place))
         → IsLost s past y
     by_lost lost.Nothing h gives = tt
@@ -207,7 +217,8 @@ lost_referred s past all old way e needed left (Ok r) l settles takes = by_lost 
         let N : Needed → Type 0 = λ m. Gives r.value.entered (place_of m.place) (referred s (meaning s left) past m.name 0 (place_of m.place)) in
         let L : ℕ → Type 0 = λ n. Gives r.value.entered (place_of y.value.needed.value.place) (referred s (meaning s n) past y.value.needed.value.name 0 (place_of y.value.needed.value.place)) in
         let R : Referred → Type 0 = λ q. Gives q.entered (place_of y.value.needed.value.place) (referred s (meaning s y.value.levels) past y.value.needed.value.name 0 (place_of y.value.needed.value.place)) in
-        subst R (sym h.2) (subst L (sym h.1) (subst N (sym h.0) gives))
+        let F : Referred → Type 0 = λ q. refuses q.entered ≡ true in
+        (subst R (sym h.2) (subst L (sym h.1) (subst N (sym h.0) gives)), subst F (sym h.2) h.3)
 
 -- ---- One event further
 

@@ -18,3 +18,9 @@ pub mod Regaining
 pub mod Keeping
 pub mod Coming
 pub mod Streams
+pub mod Tallying
+pub mod Trying
+pub mod Telling
+pub mod Finding
+pub mod Running
+pub mod Wholes

@@ -1,5 +1,5 @@
 -- What was lost on the way along a record, where it is met again.
-use Rattle.std.proofs.Common.{◌≡◌, ℕ, ◌-◌, List, Option, Some, sym, ap, subst, ◌∙◌}
+use Rattle.std.proofs.Common.{◌≡◌, ℕ, ◌-◌, List, Option, Some, None, sym, ap, subst, ◌∙◌}
 use Rattle.std.specs.Prelude.{IfSome}
 use Rattle.spec_document.specs.Name.{Expanded}
 use Rattle.spec_stylesheet.specs.Place.{Place}
@@ -16,7 +16,7 @@ use Rattle.xt_driver.specs.declared.memo.Referred.{Referred}
 use Rattle.xt_driver.specs.View.{GivesSo}
 use Rattle.xt_driver.specs.Remembered.{Entry}
 use Rattle.xt_driver.specs.Referring.{HoldsAs, Settles}
-use Rattle.xt_driver.specs.Lost.{IsLost, IsGivenAgain, IsOfReference}
+use Rattle.xt_driver.specs.Lost.{IsLost, IsRefusal, IsGivenAgain, IsOfReference}
 
 given_again : (before again : Entered) (place : Place) (x : Supplied NodeRef) → GivesSo before place x → IsGivenAgain before again → GivesSo again place x
 given_again (entered.Refused why t) (entered.Refused because u) place x h is = h ∙ ap (λ w. Failed w) (sym is)
@@ -49,9 +49,20 @@ regained_settles s past (lost.Reference l) needed levels all r h is =
     let P : Supplied NodeRef → Type 0 = λ x. GivesSo r.entered (place_of old.place) x in
     let Q : Place → Type 0 = λ p. GivesSo r.entered p (referred s (meaning s levels) past needed.name 0 (place_of needed.place)) in
     record {
-      gives = record { so = subst Q is.place (subst P same (given_again l.value.referred.value.entered r.entered (place_of old.place) _ h.so is.again)) };
+      gives = record { so = subst Q is.place (subst P same (given_again l.value.referred.value.entered r.entered (place_of old.place) _ h.0.so is.again)) };
       holds = holds_again s past all l.value.referred.value.entered r.entered needed.name (levels - r.spare) is.again;
     }
 
 pub some_of : {T : Type 0} (P : T → Type 0) (r : Option T) (x : T) → r ≡ Some x → IfSome r P → P x
 some_of {T = T} P r x e h = let Q : Option T → Type 0 = λ o. IfSome o P in subst Q e h
+
+pub same_of : {T : Type 0} (P : Option T → Type 0) (r : Option T) (x : T) → r ≡ Some x → P r → P (Some x)
+same_of P r x e h = subst P e h
+
+pub none_of : {T : Type 0} (P : Option T → Type 0) (r : Option T) → r ≡ None → P r → P None
+none_of P r e h = subst P e h
+
+-- what is lost was refused
+pub lost_refusal : (s : Setting NodeRef) (past : Past NodeRef) (l : Lost) → IsLost s past l → IsRefusal l
+lost_refusal s past lost.Nothing h = tt
+lost_refusal s past (lost.Reference l) h = h.1

@@ -218,7 +218,7 @@ stands_done l p q gift ss ran h a = go (received p.waits p.going p.supplies gift
         }
 
 -- at a refusal
-stands_halt : (l : Level) (p q : Progress) (gift : Option (Gift NodeRef)) (ss : List Stream) (why : CodeRefused) (t : Rc Items Allocator)
+pub stands_halt : (l : Level) (p q : Progress) (gift : Option (Gift NodeRef)) (ss : List Stream) (why : CodeRefused) (t : Rc Items Allocator)
     → Stands l p gift ss → Advances l.setting.ask gift p q (Err (Refuses why t)) → whole (all l) ≡ record { content = stream_of t.value; ending = Halted (refused_of why) }
 stands_halt l p q gift ss why t h a = go (received p.waits p.going p.supplies gift) h.so a.so
   where

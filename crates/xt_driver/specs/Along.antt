@@ -14,6 +14,7 @@ use Rattle.xt_syntax.specs.PartView.{place_of}
 use Rattle.xt_tree.specs.ValueView.{value_of}
 use Rattle.xt_tree.specs.StreamView.{streams_of}
 use Rattle.xt_engine.specs.View.{call_of}
+use Rattle.xt_record.specs.View.{AreWhole}
 use Rattle.xt_engine.specs.declared.call.Call.{Call as CodeCall}
 use Rattle.xt_engine.specs.declared.turn.Entered.{Entered as Given}
 use Rattle.xt_engine.specs.declared.turn.Entered.TheVariants as given
@@ -39,12 +40,19 @@ halts (Halted why) = true
 
 -- ---- What was done next
 
--- where it says that this holds, it does
+-- it says whether this holds
 abbrev pub HoldsIf : Next → Type 0 → Type 0
 HoldsIf next.Holds P = P
-HoldsIf next.Differs P = Unit {0}
+HoldsIf next.Differs P = ¬ P
 HoldsIf (next.Enter inner left) P = ⊥
 HoldsIf (next.Refer needed left) P = ⊥
+
+-- it says whether these are the same streams; of those that have holes it may say that they differ
+abbrev pub IsHeld : Next → (now then : List Stream) → Type 0
+IsHeld next.Holds now then = now ≡ then
+IsHeld next.Differs now then = AreWhole now → ¬ (now ≡ then)
+IsHeld (next.Enter inner left) now then = ⊥
+IsHeld (next.Refer needed left) now then = ⊥
 
 -- a reference to a global, from this element and with so many levels left
 abbrev pub IsReferred : Next → ℕ → Expanded → Place → Type 0
@@ -77,7 +85,7 @@ abbrev pub IsNext : Next → Call NodeRef → ℕ → List Stream → Event Node
 IsNext n c below streams (Asked question answer) = HoldsIf n (Unit {0})
 IsNext n c below streams (Saw wanted depth place supplied) = IsSeen n c (below - depth) wanted place supplied
 IsNext n c below streams (Entered call depth) = IsEntered n (below - depth) (settled c call)
-IsNext n c below streams (Held first contents) = HoldsIf n (drop first streams ≡ contents)
+IsNext n c below streams (Held first contents) = IsHeld n (drop first streams) contents
 
 -- ---- What came of it
 
@@ -114,14 +122,23 @@ pub record IsTakenAs (event : Event NodeRef) (r : Referred) (old new : Way) : Ty
   pub spare : new.spare ≤ old.spare
   pub inner : new.spare ≤ r.spare
 
-abbrev pub IsLostAs : Lost → Referred → Needed → ℕ → Type 0
-IsLostAs lost.Nothing r needed levels = Unit {0}
-IsLostAs (lost.Reference l) r needed levels = (l.value.needed.value ≡ needed) × (l.value.levels ≡ levels) × (l.value.referred.value ≡ r)
+-- what is given refuses the call that needs it
+abbrev pub refuses : Given → Bool
+refuses (given.Refused why content) = true
+refuses (given.Value value) = false
+refuses (given.Stream content) = false
+refuses given.UnderWay = false
+
+-- what was refused is lost; else another value was seen
+abbrev pub IsLostAs : Lost → Referred → Event NodeRef → Needed → ℕ → Type 0
+IsLostAs lost.Nothing r event needed levels = (refuses r.entered ≡ false) × (¬ (IsSeenAs event r.entered))
+IsLostAs (lost.Reference l) r event needed levels =
+    (l.value.needed.value ≡ needed) × (l.value.levels ≡ levels) × (l.value.referred.value ≡ r) × (refuses r.entered ≡ true)
 
 -- of the global that was needed; or it is lost, or another value than what was seen
 abbrev pub TakesReferenceSo : Gone → Referred → Event NodeRef → Needed → ℕ → Way → Way → Type 0
 TakesReferenceSo gone.On r event needed levels old new = IsTakenAs event r old new
-TakesReferenceSo (gone.Not l) r event needed levels old new = IsLostAs l r needed levels
+TakesReferenceSo (gone.Not l) r event needed levels old new = IsLostAs l r event needed levels
 TakesReferenceSo (gone.Refused x) r event needed levels old new = ⊥
 
 abbrev pub TakesReference : Gone → Result (Box Referred Allocator) Memory → Event NodeRef → Needed → ℕ → Way → Way → Type 0

@@ -8,3 +8,4 @@ pub mod Along
 pub mod Lost
 pub mod Followed
 pub mod Made
+pub mod Counted

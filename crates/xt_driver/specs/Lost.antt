@@ -1,7 +1,10 @@
 -- What was refused on the way along a record that does not serve, and what is said of a call that was served or not.
-use Rattle.std.specs.Prelude.{◌≡◌, ℕ, ◌-◌, List}
+use Rattle.std.specs.Prelude.{◌≡◌, ℕ, ◌-◌, List, Bool, true, false, ◌&&◌, nat_eq}
+use Rattle.spec_document.specs.Name.{Expanded, same_name}
+use Rattle.spec_stylesheet.specs.Place.{Place}
 use Rattle.spec_run.specs.Plan.{Call}
 use Rattle.spec_run.specs.Meaning.{Setting, Past, referred, meaning}
+use Rattle.spec_run.specs.World.{same_element}
 use Rattle.spec_node.specs.declared.node_ref.NodeRef.{NodeRef}
 use Rattle.xt_syntax.specs.PartView.{place_of}
 use Rattle.xt_engine.specs.View.{refused_of}
@@ -16,14 +19,28 @@ use Rattle.xt_driver.specs.declared.lost.Lost.TheVariants as lost
 use Rattle.xt_driver.specs.declared.memo.Referred.{Referred}
 use Rattle.xt_driver.specs.View.{outcome_of, Gives}
 use Rattle.xt_driver.specs.Remembered.{Entry, Lasts}
+use Rattle.xt_driver.specs.Along.{refuses}
 
 -- ---- What was refused
 
--- it came to what it means
+-- it came to what it means, which is a refusal
 abbrev pub IsLost : Setting NodeRef → Past NodeRef → Lost → Type 0
 IsLost s past lost.Nothing = Unit {0}
 IsLost s past (lost.Reference l) =
     Gives l.value.referred.value.entered (place_of l.value.needed.value.place) (referred s (meaning s l.value.levels) past l.value.needed.value.name 0 (place_of l.value.needed.value.place))
+    × (refuses l.value.referred.value.entered ≡ true)
+
+abbrev pub IsRefusal : Lost → Type 0
+IsRefusal lost.Nothing = Unit {0}
+IsRefusal (lost.Reference l) = refuses l.value.referred.value.entered ≡ true
+
+-- whether a reference is to the global that was lost, from the same element and with as many levels left
+abbrev pub is_to : LostReference → Expanded → ℕ → Place → Bool
+is_to l name levels place = nat_eq l.levels levels && same_name l.needed.value.name name && same_element (place_of l.needed.value.place) place
+
+abbrev pub is_lost : Lost → Expanded → ℕ → Place → Bool
+is_lost lost.Nothing name levels place = false
+is_lost (lost.Reference l) name levels place = is_to l.value name levels place
 
 -- ---- What comes of it again
 

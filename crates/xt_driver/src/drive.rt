@@ -3,7 +3,9 @@
 // levels for it.
 ghost use Rattle.std.specs.Prelude.{◌≡◌, ◌-◌, suc, IfOk, OnOk};
 ghost use Rattle.spec_run.specs.Meaning.{meaning};
+ghost use Rattle.spec_reuse.specs.Instantiation.{entered, for_reference};
 ghost use Rattle.xt_syntax.specs.PartView.{place_of};
+ghost use Rattle.xt_tree.specs.StreamView.{streams_of};
 ghost use Rattle.xt_engine.specs.View.{call_of, event_of};
 ghost use Rattle.xt_record.specs.View.{kept_in, MayServe};
 ghost use Rattle.xt_record.specs.Sure.{IsSure};
@@ -13,6 +15,7 @@ ghost use Rattle.xt_driver.specs.Referring.{entries_of, Settles};
 ghost use Rattle.xt_driver.specs.Lost.{IsLost, IsServed};
 ghost use Rattle.xt_driver.specs.Followed.{instance_of, IsGone};
 ghost use Rattle.xt_driver.specs.Made.{IsMade, MadeHolds};
+ghost use Rattle.xt_driver.specs.Counted.{hand_of, CountedRun, CountsFollowed, CountsFor, CountsOn, CountsOver, CountsServed, IsIdle, IsMadeOf, OfRun};
 
 use crate::follow::{Gone, Next, Way, next_done, set_out, take_entered, take_reference};
 use crate::globals::{Globals, Reference, evaluation_of, look_up};
@@ -53,6 +56,7 @@ pub fn first_means<E: Engine, W: World>(
     ensures keeps { OnOk result (Keeps (setting_of (W.state world.old).truth globals.now) (past_of globals.now) (entries_of memo.old) (entries_of memo.new)) }
     ensures lasts { IfOk result (λ o. Lasts (setting_of (W.state world.old).truth globals.now) (past_of globals.now) (levels - o.value.spare) (entries_of memo.new) (call_of call.now) (outcome_of o.value)) }
     ensures meaning { IfOk result (λ o. outcome_of o.value ≡ meaning (setting_of (W.state world.old).truth globals.now) levels (past_of globals.now) 0 (call_of call.now)) }
+    ensures counts { OnOk result (CountsOver (setting_of (W.state world.old).truth globals.now) (past_of globals.now).values (entered (setting_of (W.state world.old).truth globals.now) levels (past_of globals.now) 0 (call_of call.now)) (hand_of reuse.old memo.old) (hand_of reuse.new memo.new)) }
     ensures sure { OnOk result (IsSure (W.state world.old).truth reuse.new) }
     ensures truth { (W.state world.new).truth ≡ (W.state world.old).truth }
     ensures name { W.name world.new ≡ W.name world.old }
@@ -75,7 +79,8 @@ pub fn first_means<E: Engine, W: World>(
 }
 
 // What the call means where there are so many levels left. What is remembered of globals holds after it as before,
-// and where the call is not refused, it means the same wherever that holds, with the levels to spare left out.
+// and where the call is not refused, it means the same wherever that holds, with the levels to spare left out. Of all that
+// the call enters, with itself, those are counted that are run, each once.
 #[cycle(drive)]
 fn means<E: Engine, W: World>(
     alloc: Global,
@@ -92,6 +97,7 @@ fn means<E: Engine, W: World>(
     ensures keeps { OnOk result (Keeps (setting_of (W.state world.old).truth globals.now) (past_of globals.now) (entries_of memo.old) (entries_of memo.new)) }
     ensures lasts { IfOk result (λ o. Lasts (setting_of (W.state world.old).truth globals.now) (past_of globals.now) (levels - o.value.spare) (entries_of memo.new) (call_of call.now) (outcome_of o.value)) }
     ensures meaning { IfOk result (λ o. outcome_of o.value ≡ meaning (setting_of (W.state world.old).truth globals.now) levels (past_of globals.now) 0 (call_of call.now)) }
+    ensures counts { OnOk result (CountsOver (setting_of (W.state world.old).truth globals.now) (past_of globals.now).values (entered (setting_of (W.state world.old).truth globals.now) levels (past_of globals.now) 0 (call_of call.now)) (hand_of reuse.old memo.old) (hand_of reuse.new memo.new)) }
     ensures sure { OnOk result (IsSure (W.state world.old).truth reuse.new) }
     ensures truth { (W.state world.new).truth ≡ (W.state world.old).truth }
     ensures name { W.name world.new ≡ W.name world.old }
@@ -113,7 +119,8 @@ fn means<E: Engine, W: World>(
     }
 }
 
-// Serves the call by a record, where one does, with so many levels below its own.
+// Serves the call by a record, where one does, with so many levels below its own. Where none does, what was entered along
+// records is counted.
 #[cycle(drive)]
 fn serve<E: Engine, W: World>(
     alloc: Global,
@@ -129,6 +136,7 @@ fn serve<E: Engine, W: World>(
     requires sure { IsSure (W.state world.now).truth reuse.now }
     ensures keeps { OnOk result (Keeps (setting_of (W.state world.old).truth globals.now) (past_of globals.now) (entries_of memo.old) (entries_of memo.new)) }
     ensures served { IfOk result (λ s. IsServed s (setting_of (W.state world.old).truth globals.now) (past_of globals.now) (suc below) (entries_of memo.new) (call_of call.now)) }
+    ensures counts { IfOk result (λ s. OfRun (setting_of (W.state world.old).truth globals.now) (instance_of (call_of call.now) below (past_of globals.now)) (hand_of reuse.old memo.old) (CountsServed s (setting_of (W.state world.old).truth globals.now) (instance_of (call_of call.now) below (past_of globals.now)) (hand_of reuse.old memo.old) (hand_of reuse.new memo.new))) }
     ensures sure { OnOk result (IsSure (W.state world.old).truth reuse.new) }
     ensures truth { (W.state world.new).truth ≡ (W.state world.old).truth }
     ensures name { W.name world.new ≡ W.name world.old }
@@ -180,6 +188,7 @@ fn follow<E: Engine, W: World>(
     requires serves { MayServe (W.state world.now).truth (call_of call.now) below (kept_in kept.now) }
     ensures keeps { OnOk result (Keeps (setting_of (W.state world.old).truth globals.now) (past_of globals.now) (entries_of memo.old) (entries_of memo.new)) }
     ensures served { IfOk result (λ s. IsServed s (setting_of (W.state world.old).truth globals.now) (past_of globals.now) (suc below) (entries_of memo.new) (call_of call.now)) }
+    ensures counts { IfOk result (λ s. OfRun (setting_of (W.state world.old).truth globals.now) (instance_of (call_of call.now) below (past_of globals.now)) (hand_of reuse.old memo.old) (CountsFollowed s (setting_of (W.state world.old).truth globals.now) (instance_of (call_of call.now) below (past_of globals.now)) (kept_in kept.now) (hand_of reuse.old memo.old) (hand_of reuse.new memo.new))) }
     ensures sure { OnOk result (IsSure (W.state world.old).truth reuse.new) }
     ensures truth { (W.state world.new).truth ≡ (W.state world.old).truth }
     ensures name { W.name world.new ≡ W.name world.old }
@@ -223,6 +232,7 @@ fn go_on<E: Engine, W: World>(
     requires sure { IsSure (W.state world.now).truth reuse.now }
     ensures keeps { OnOk result (Keeps (setting_of (W.state world.old).truth globals.now) (past_of globals.now) (entries_of memo.old) (entries_of memo.new)) }
     ensures goes { IfOk result (λ gone. IsGone gone (setting_of (W.state world.old).truth globals.now) (instance_of (call_of call.now) below (past_of globals.now)) (entries_of memo.old) (entries_of memo.new) way.old way.new (event_of event.now)) }
+    ensures counts { IfOk result (λ gone. CountsOn gone (setting_of (W.state world.old).truth globals.now) (instance_of (call_of call.now) below (past_of globals.now)) (event_of event.now) (streams_of way.old.parts.items) (streams_of way.new.parts.items) (hand_of reuse.old memo.old) (hand_of reuse.new memo.new)) }
     ensures sure { OnOk result (IsSure (W.state world.old).truth reuse.new) }
     ensures truth { (W.state world.new).truth ≡ (W.state world.old).truth }
     ensures name { W.name world.new ≡ W.name world.old }
@@ -266,6 +276,8 @@ fn run_call<E: Engine, W: World>(
     ensures meaning { IfOk result (λ e. outcome_of e.outcome.value ≡ meaning (setting_of (W.state world.old).truth globals.now) (suc below) (past_of globals.now) 0 (call_of call.now)) }
     ensures made { IfOk result (λ e. IsMade (call_of call.now) e.ran) }
     ensures asks { IfOk result (λ e. MadeHolds (W.state world.old).truth e.ran) }
+    ensures counts { IfOk result (λ e. OfRun (setting_of (W.state world.old).truth globals.now) (instance_of (call_of call.now) below (past_of globals.now)) (hand_of reuse.old memo.old) (CountedRun (setting_of (W.state world.old).truth globals.now) (instance_of (call_of call.now) below (past_of globals.now)) lost.now (hand_of reuse.old memo.old) (hand_of reuse.new memo.new))) }
+    ensures made_of { IfOk result (λ e. IsMadeOf (setting_of (W.state world.old).truth globals.now) (instance_of (call_of call.now) below (past_of globals.now)) e.ran) }
     ensures sure { OnOk result (IsSure (W.state world.old).truth reuse.new) }
     ensures truth { (W.state world.new).truth ≡ (W.state world.old).truth }
     ensures name { W.name world.new ≡ W.name world.old }
@@ -325,6 +337,7 @@ fn need<E: Engine, W: World>(
     requires lost { IsLost (setting_of (W.state world.now).truth globals.now) (past_of globals.now) lost.now }
     ensures keeps { OnOk result (Keeps (setting_of (W.state world.old).truth globals.now) (past_of globals.now) (entries_of memo.old) (entries_of memo.new)) }
     ensures settles { IfOk result (λ r. Settles (setting_of (W.state world.old).truth globals.now) (past_of globals.now) (entries_of memo.new) needed.now.name levels (place_of needed.now.place) r.value) }
+    ensures counts { OnOk result (CountsFor (setting_of (W.state world.old).truth globals.now) (past_of globals.now) lost.now needed.now.name levels (place_of needed.now.place) (hand_of reuse.old memo.old) (hand_of reuse.new memo.new)) }
     ensures sure { OnOk result (IsSure (W.state world.old).truth reuse.new) }
     ensures truth { (W.state world.new).truth ≡ (W.state world.old).truth }
     ensures name { W.name world.new ≡ W.name world.old }
@@ -353,6 +366,8 @@ fn refer<E: Engine, W: World>(
     requires sure { IsSure (W.state world.now).truth reuse.now }
     ensures keeps { OnOk result (Keeps (setting_of (W.state world.old).truth globals.now) (past_of globals.now) (entries_of memo.old) (entries_of memo.new)) }
     ensures settles { IfOk result (λ r. Settles (setting_of (W.state world.old).truth globals.now) (past_of globals.now) (entries_of memo.new) needed.now.name levels (place_of needed.now.place) r.value) }
+    ensures counts { OnOk result (CountsOver (setting_of (W.state world.old).truth globals.now) (past_of globals.now).values (for_reference (setting_of (W.state world.old).truth globals.now) (entered (setting_of (W.state world.old).truth globals.now) levels) (past_of globals.now) needed.now.name 0 (place_of needed.now.place)) (hand_of reuse.old memo.old) (hand_of reuse.new memo.new)) }
+    ensures idle { IfOk result (λ r. IsIdle r.value.entered (for_reference (setting_of (W.state world.old).truth globals.now) (entered (setting_of (W.state world.old).truth globals.now) levels) (past_of globals.now) needed.now.name 0 (place_of needed.now.place))) }
     ensures sure { OnOk result (IsSure (W.state world.old).truth reuse.new) }
     ensures truth { (W.state world.new).truth ≡ (W.state world.old).truth }
     ensures name { W.name world.new ≡ W.name world.old }

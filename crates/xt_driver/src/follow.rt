@@ -1,5 +1,6 @@
 // One turn along a record: what was done next, and whether that holds for the call.
 ghost use Rattle.std.specs.Prelude.{◌≡◌, [], IfOk, drop, true, unwrap_or};
+ghost use Rattle.std.specs.Bool.{Decides};
 ghost use Rattle.std.specs.Option.{option_map};
 ghost use Rattle.spec_meaning.specs.Program.{Counted, Ruled};
 ghost use Rattle.spec_run.specs.Direct.{Known};
@@ -9,7 +10,8 @@ ghost use Rattle.xt_tree.specs.StreamView.{streams_of};
 ghost use Rattle.xt_questions.specs.View.{current_of, given_of, wanted_of};
 ghost use Rattle.xt_engine.specs.View.{call_of, event_of, ruling_of};
 ghost use Rattle.xt_driver.specs.View.{ending_of};
-ghost use Rattle.xt_driver.specs.Along.{halts, inner_of, HoldsIf, IsEntered, IsNext, IsReferred, IsSeen, IsSeenAs, Takes, TakesReference};
+ghost use Rattle.xt_record.specs.View.{AreWhole};
+ghost use Rattle.xt_driver.specs.Along.{halts, inner_of, refuses, HoldsIf, IsEntered, IsHeld, IsNext, IsReferred, IsSeen, IsSeenAs, Takes, TakesReference};
 
 use crate::calls::{says_all, settle};
 use crate::level::Needed;
@@ -200,7 +202,7 @@ fn ruled(ruling: &Ruling, given: &Given) -> Next<'static>
 
 // Whether this is the current template rule.
 fn is_rule(ruling: &Ruling, rule: &Option<CurrentRule>) -> bool
-    ensures { result ≡ true → current_by (ruling_of ruling.now) ≡ option_map current_of rule.now }
+    ensures { Decides result (current_by (ruling_of ruling.now) ≡ option_map current_of rule.now) }
 {
     match ruling {
         Ruling::Same => rule.is_none(),
@@ -227,7 +229,7 @@ fn held(
     contents: &[Rc<Items>],
     parts: &[Rc<Items>],
 ) -> Result<Next<'static>, Memory>
-    ensures { IfOk result (λ n. HoldsIf n (drop first (streams_of parts.now) ≡ streams_of contents.now)) }
+    ensures { IfOk result (λ n. IsHeld n (drop first (streams_of parts.now)) (streams_of contents.now)) }
 {
     if are_held(alloc, parts, first, contents)? {
         Ok(Next::Holds)
@@ -236,17 +238,18 @@ fn held(
     }
 }
 
-// Where it says so, the streams from this one on are these.
+// Where it says so, the streams from this one on are these. It says so of all that have no holes.
 fn are_held(
     alloc: Global,
     parts: &[Rc<Items>],
     first: u64,
     contents: &[Rc<Items>],
 ) -> Result<bool, Memory>
-    ensures { IfOk result (λ b. b ≡ true → drop first (streams_of parts.now) ≡ streams_of contents.now) }
+    ensures same { IfOk result (λ b. b ≡ true → drop first (streams_of parts.now) ≡ streams_of contents.now) }
+    ensures whole { IfOk result (λ b. AreWhole (drop first (streams_of parts.now)) → drop first (streams_of parts.now) ≡ streams_of contents.now → b ≡ true) }
 {
     if first > parts.len() as u64 {
-        return Ok(false);
+        return Ok(contents.is_empty());
     }
     same_streams(alloc, &parts[first as usize..], contents)
 }
@@ -282,7 +285,9 @@ pub fn take_entered(
 }
 
 // Whether a reference is refused that is given this.
-fn is_refusal(entered: &Entered) -> bool {
+fn is_refusal(entered: &Entered) -> bool
+    ensures { result ≡ refuses entered.now }
+{
     match entered {
         Entered::Refused(_, _) => true,
         Entered::Value(_) => false,
@@ -291,9 +296,9 @@ fn is_refusal(entered: &Entered) -> bool {
     }
 }
 
-// Where it says so, the global had this value.
+// Whether the global had this value.
 fn is_as_seen(alloc: Global, event: &Event, entered: &Entered) -> Result<bool, Memory>
-    ensures { IfOk result (λ b. b ≡ true → IsSeenAs (event_of event.now) entered.now) }
+    ensures { IfOk result (λ b. Decides b (IsSeenAs (event_of event.now) entered.now)) }
 {
     match (event, entered) {
         (Event::Saw(_, _, _, Given::Valued(value)), Entered::Value(now)) => {

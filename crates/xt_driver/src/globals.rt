@@ -10,6 +10,7 @@ ghost use Rattle.xt_engine.specs.View.{call_of, named_of};
 ghost use Rattle.xt_driver.specs.View.{held_of};
 ghost use Rattle.xt_driver.specs.Remembered.{first_named, IsAside};
 ghost use Rattle.xt_driver.specs.Referring.{entry_of, entries_of, no_global, IsGivenAs, IsGivenAt, Refers};
+ghost use Rattle.xt_driver.specs.Counted.{CountsLooked};
 
 use crate::calls::global_call;
 use crate::level::Needed;
@@ -137,7 +138,8 @@ pub fn look_up(
     name: &Expanded,
     levels: u64,
 ) -> Result<Reference, Memory>
-    ensures { IfOk result (λ r. Refers r globals.now name.now levels (entries_of memo.old) (entries_of memo.new)) }
+    ensures refers { IfOk result (λ r. Refers r globals.now name.now levels (entries_of memo.old) (entries_of memo.new)) }
+    ensures counts { IfOk result (λ r. CountsLooked r globals.now name.now levels (entries_of memo.old) (entries_of memo.new)) }
 {
     let known = value_of_past(alloc, globals.held, name)?;
     if let Some(value) = known {

@@ -1,5 +1,5 @@
 // What is kept of calls for later ones.
-ghost use Rattle.std.specs.Prelude.{◌≡◌, ◌<◌, ◌^◌, IfOk, IfSome, IsOk, OnOk};
+ghost use Rattle.std.specs.Prelude.{◌≡◌, ◌<◌, ◌^◌, IfOk, IfNone, IfSome, IsOk, OnOk, Some};
 ghost use Rattle.spec_meaning.specs.Question.{Question, Answer};
 ghost use Rattle.spec_run.specs.Trail.{IsTrue};
 ghost use Rattle.spec_node.specs.Naming.{same_ref};
@@ -10,6 +10,7 @@ ghost use Rattle.xt_record.specs.Kept.{kept_with};
 ghost use Rattle.xt_record.specs.View.{kept_in, AsksHold};
 ghost use Rattle.xt_record.specs.Sure.{IsSure};
 ghost use Rattle.xt_driver.specs.Made.{IsMade, MadeHolds};
+ghost use Rattle.xt_driver.specs.Counted.{IsAnswer, IsKept, IsKeptToo, IsMadeToo, IsUnserved};
 
 use crate::drive::Served;
 use crate::lost::Lost;
@@ -30,8 +31,10 @@ pub fn keep_ended(
     requires { IsMade (call_of call.now) ended.ran }
     ensures outcome { IfOk result (λ o. o ≡ ended.outcome) }
     ensures sure { OnOk result ((ask : Question NodeRef → Answer NodeRef) → IsSure ask reuse.old → MadeHolds ask ended.ran → IsSure ask reuse.new) }
+    ensures kept { OnOk result (IsMadeToo reuse.old.kept.records.items reuse.new.kept.records.items (call_of call.now) ended.ran) }
     ensures last { reuse.new.last ≡ reuse.old.last }
     ensures spared { reuse.new.spared ≡ reuse.old.spared }
+    ensures steps { reuse.new.steps ≡ reuse.old.steps }
 {
     let Ended { outcome, ran } = ended;
     match ran {
@@ -47,8 +50,10 @@ pub fn keep_ended(
 fn keep_run(alloc: Global, reuse: &mut Reuse<'_>, call: &Call, ran: Box<Ran>) -> Result<(), Memory>
     requires { IsTrue same_ref (kept_with (call_of call.now) (ran_of ran.value)) }
     ensures sure { OnOk result ((ask : Question NodeRef → Answer NodeRef) → IsSure ask reuse.old → AsksHold ask (ran_of ran.value).trace → IsSure ask reuse.new) }
+    ensures kept { OnOk result (IsMadeToo reuse.old.kept.records.items reuse.new.kept.records.items (call_of call.now) (Some ran)) }
     ensures last { reuse.new.last ≡ reuse.old.last }
     ensures spared { reuse.new.spared ≡ reuse.old.spared }
+    ensures steps { reuse.new.steps ≡ reuse.old.steps }
 {
     let call = call.copy(alloc)?;
     let ran = Box::into_inner(ran);
@@ -67,8 +72,12 @@ pub fn tried(
     ensures sure { OnOk result ((ask : Question NodeRef → Answer NodeRef) → IsSure ask reuse.old → AsksHold ask (kept_in found.record.value).trace → IsSure ask reuse.new) }
     ensures last { reuse.new.last ≡ reuse.old.last }
     ensures spared { reuse.new.spared ≡ reuse.old.spared }
+    ensures steps { reuse.new.steps ≡ reuse.old.steps }
+    ensures kept { OnOk result (IsKeptToo served reuse.old.kept.records.items reuse.new.kept.records.items found.record) }
     ensures came { OnOk result (IsOk served) }
     ensures served { IfOk result (λ o. IfSome o (λ s. served ≡ Ok s)) }
+    ensures unserved { IfOk result (λ o. IfNone o (IsUnserved served)) }
+    ensures answer { IfOk result (λ o. IfSome o IsAnswer) }
 {
     match served? {
         Served::As(outcome) => {
@@ -91,8 +100,10 @@ pub fn next_turn(found: &Found) -> u64
 // Keeps it, if this run does not yet.
 fn keep_found(alloc: Global, reuse: &mut Reuse<'_>, found: Found) -> Result<(), Memory>
     ensures sure { OnOk result ((ask : Question NodeRef → Answer NodeRef) → IsSure ask reuse.old → AsksHold ask (kept_in found.record.value).trace → IsSure ask reuse.new) }
+    ensures kept { OnOk result (IsKept reuse.old.kept.records.items reuse.new.kept.records.items found.record) }
     ensures last { reuse.new.last ≡ reuse.old.last }
     ensures spared { reuse.new.spared ≡ reuse.old.spared }
+    ensures steps { reuse.new.steps ≡ reuse.old.steps }
 {
     if found.is_kept {
         return Ok(());

@@ -1,7 +1,9 @@
 // A global that was refused on the way along a record, which then does not serve. The engine that runs the call needs it
 // too, and is given what came of it in place of evaluating it again: else each level would double what is evaluated.
-ghost use Rattle.std.specs.Prelude.{IfOk, IfSome};
-ghost use Rattle.xt_driver.specs.Lost.{IsOfReference, IsNeededAgain, IsGivenAgain};
+ghost use Rattle.std.specs.Prelude.{◌≡◌, true, is_some, IfOk, IfSome};
+ghost use Rattle.xt_syntax.specs.PartView.{place_of};
+ghost use Rattle.xt_driver.specs.Along.{refuses};
+ghost use Rattle.xt_driver.specs.Lost.{is_lost, is_to, IsOfReference, IsNeededAgain, IsGivenAgain, IsRefusal};
 
 use crate::level::Needed;
 use crate::memo::Referred;
@@ -32,7 +34,8 @@ pub fn regained_reference(
     needed: &Needed,
     levels: u64,
 ) -> Result<Option<Box<Referred>>, Memory>
-    ensures { IfOk result (λ r. IfSome r (λ x. IsOfReference lost.now needed.now levels x.value)) }
+    ensures again { IfOk result (λ r. IfSome r (λ x. IsOfReference lost.now needed.now levels x.value)) }
+    ensures lost { IfOk result (λ r. IsRefusal lost.now → is_some r ≡ is_lost lost.now needed.now.name levels (place_of needed.now.place)) }
 {
     match lost {
         Lost::Reference(lost) => reference_again(alloc, lost, needed, levels),
@@ -47,7 +50,8 @@ fn reference_again(
     needed: &Needed,
     levels: u64,
 ) -> Result<Option<Box<Referred>>, Memory>
-    ensures { IfOk result (λ r. IfSome r (λ x. IsNeededAgain lost.now needed.now levels x.value)) }
+    ensures again { IfOk result (λ r. IfSome r (λ x. IsNeededAgain lost.now needed.now levels x.value)) }
+    ensures lost { IfOk result (λ r. refuses lost.now.referred.value.entered ≡ true → is_some r ≡ is_to lost.now needed.now.name levels (place_of needed.now.place)) }
 {
     if lost.levels != levels {
         return Ok(None);
@@ -63,7 +67,8 @@ fn reference_again(
 
 // The same refusal, if it is one.
 fn given_again(alloc: Global, entered: &Entered) -> Result<Option<Box<Referred>>, Memory>
-    ensures { IfOk result (λ r. IfSome r (λ x. IsGivenAgain entered.now x.value.entered)) }
+    ensures again { IfOk result (λ r. IfSome r (λ x. IsGivenAgain entered.now x.value.entered)) }
+    ensures refusal { IfOk result (λ r. is_some r ≡ refuses entered.now) }
 {
     match entered {
         Entered::Refused(why, content) => {

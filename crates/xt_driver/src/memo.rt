@@ -1,5 +1,5 @@
 // What globals came to before their turns.
-ghost use Rattle.std.specs.Prelude.{◌≡◌, ◌++◌, ◌&&◌, ◌∷◌, ◌≤◌, [], IfOk, OnOk, Some, map, nat_le, true};
+ghost use Rattle.std.specs.Prelude.{◌≡◌, ◌++◌, ◌&&◌, ◌∷◌, ◌≤◌, [], IfOk, IfSome, OnOk, Some, map, nat_le, true};
 ghost use Rattle.std.specs.List.{list_any};
 ghost use Rattle.spec_document.specs.Name.{same_name};
 ghost use Rattle.xt_tree.specs.StreamView.{stream_of};
@@ -7,6 +7,7 @@ ghost use Rattle.xt_engine.specs.View.{named_of};
 ghost use Rattle.xt_driver.specs.Remembered.{Forgets, IsAside};
 ghost use Rattle.xt_driver.specs.Referring.{entry_of, entries_of, no_global, remembered_as, has_name, IsRecalled, Recalls};
 ghost use Rattle.xt_driver.specs.Turning.{IsTurnedAs, RecallsTurn};
+ghost use Rattle.xt_driver.specs.Counted.{IsFrom, IsOfTurn};
 
 use crate::outcome::Held;
 use std::alloc::Global;
@@ -85,7 +86,8 @@ pub fn recall(
     name: &Expanded,
     levels: u64,
 ) -> Result<Option<Box<Referred>>, Memory>
-    ensures { IfOk result (λ r. Recalls r name.now levels (map entry_of entries.now)) }
+    ensures recalls { IfOk result (λ r. Recalls r name.now levels (map entry_of entries.now)) }
+    ensures found { IfOk result (λ r. IfSome r (λ x. IsFrom x.value name.now (map entry_of entries.now))) }
 {
     for entry in entries {
         if is_known(entry, name, levels) {
@@ -122,7 +124,8 @@ pub fn recall_turn(
     global: &NamedGlobal,
     levels: u64,
 ) -> Result<Option<Turned>, Memory>
-    ensures { IfOk result (λ t. RecallsTurn t (named_of global.now) levels (map entry_of entries.now)) }
+    ensures recalls { IfOk result (λ t. RecallsTurn t (named_of global.now) levels (map entry_of entries.now)) }
+    ensures found { IfOk result (λ t. IfSome t (λ x. IsOfTurn x global.now.element (map entry_of entries.now))) }
 {
     for entry in entries {
         if is_known(entry, &global.name, levels) {

@@ -13,6 +13,9 @@ ghost use Rattle.xt_driver.specs.View.{held_of, ending_of, outcome_of, past_of, 
 ghost use Rattle.xt_driver.specs.Remembered.{Remembers};
 ghost use Rattle.xt_driver.specs.Referring.{entries_of};
 ghost use Rattle.xt_driver.specs.Turning.{IsHeldAs, Turns, TurnsAs};
+ghost use Rattle.xt_driver.specs.Counted.{for_turn, hand_of, CountedWhole, CountsOver};
+ghost use Rattle.spec_reuse.specs.Instantiation.{entered_by_run, instantiations};
+ghost use Rattle.spec_reuse.specs.Ledger.{AreOfRun};
 
 use crate::calls::{global_call, nowhere, root_call};
 use crate::drive::first_means;
@@ -71,6 +74,7 @@ fn evaluated_at_turn<E: Engine, W: World>(
     requires remembers { Remembers (setting_of (W.state world.now).truth globals.now) (going_into global.now.name (past_of globals.now)) (entries_of memo.now) }
     requires sure { IsSure (W.state world.now).truth reuse.now }
     ensures turns { IfOk result (λ t. Turns t (setting_of (W.state world.old).truth globals.now) (past_of globals.now) (named_of global.now) levels (entries_of memo.new)) }
+    ensures counts { OnOk result (CountsOver (setting_of (W.state world.old).truth globals.now) (past_of globals.now).values (for_turn (setting_of (W.state world.old).truth globals.now) (past_of globals.now) (named_of global.now) levels) (hand_of reuse.old memo.old) (hand_of reuse.new memo.new)) }
     ensures sure { OnOk result (IsSure (W.state world.old).truth reuse.new) }
     ensures truth { (W.state world.new).truth ≡ (W.state world.old).truth }
     ensures name { W.name world.new ≡ W.name world.old }
@@ -116,6 +120,7 @@ fn turn<E: Engine, W: World>(
     requires remembers { Remembers (setting_of (W.state world.now).truth globals.now) (past_of globals.now) (entries_of memo.now) }
     requires sure { IsSure (W.state world.now).truth reuse.now }
     ensures turns { IfOk result (λ t. Turns t (setting_of (W.state world.old).truth globals.now) (past_of globals.now) (named_of global.now) levels (entries_of memo.new)) }
+    ensures counts { OnOk result (CountsOver (setting_of (W.state world.old).truth globals.now) (past_of globals.now).values (for_turn (setting_of (W.state world.old).truth globals.now) (past_of globals.now) (named_of global.now) levels) (hand_of reuse.old memo.old) (hand_of reuse.new memo.new)) }
     ensures sure { OnOk result (IsSure (W.state world.old).truth reuse.new) }
     ensures truth { (W.state world.new).truth ≡ (W.state world.old).truth }
     ensures name { W.name world.new ≡ W.name world.old }
@@ -241,6 +246,7 @@ fn run_in<E: Engine, W: World>(
 ) -> Result<Whole, Memory>
     requires { IsSure (W.state world.now).truth reuse.now }
     ensures run { IfOk result (λ w. let s = setting_in (W.state world.old).truth root named.now in whole_of w ≡ meant.run s levels s.globals [] [] (meant.root_call s)) }
+    ensures counts { let s = setting_in (W.state world.old).truth root named.now in AreOfRun s (entered_by_run s levels s.globals [] (meant.root_call s)) → OnOk result (CountedWhole s (entered_by_run s levels s.globals [] (meant.root_call s)) reuse.old reuse.new) }
     ensures sure { OnOk result (IsSure (W.state world.old).truth reuse.new) }
     ensures truth { (W.state world.new).truth ≡ (W.state world.old).truth }
     ensures name { W.name world.new ≡ W.name world.old }
@@ -285,6 +291,9 @@ fn run_in<E: Engine, W: World>(
 /// first reference to it before that, and anew only where a reference has fewer levels left than it takes; its messages
 /// stand at its turn. A refusal is no error: the run then ends there.
 ///
+/// What it counts are instantiations of this run, in its order: none of which a record was found, and of one call that comes
+/// to its end one.
+///
 /// # Errors
 /// Want of memory. What is true in the world stays in any case.
 pub fn run<E: Engine, W: World>(
@@ -297,6 +306,7 @@ pub fn run<E: Engine, W: World>(
 ) -> Result<Whole, Memory>
     requires { IsSure (W.state world.now).truth reuse.now }
     ensures run { IfOk result (λ w. whole_of w ≡ run_of (setting_in (W.state world.old).truth root globals.now)) }
+    ensures counts { let s = setting_in (W.state world.old).truth root globals.now in OnOk result (CountedWhole s (instantiations s) reuse.old reuse.new) }
     ensures sure { OnOk result (IsSure (W.state world.old).truth reuse.new) }
     ensures truth { (W.state world.new).truth ≡ (W.state world.old).truth }
     ensures name { W.name world.new ≡ W.name world.old }

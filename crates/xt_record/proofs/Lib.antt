@@ -9,3 +9,4 @@ pub mod Sparing
 pub mod Chaining
 pub mod Passing
 pub mod Standing
+pub mod Whole

@@ -2,6 +2,7 @@
 use Rattle.std.specs.Prelude.{◌≡◌, ℕ, ◌≤◌, List, [], ◌∷◌, slice_get, Some}
 use Rattle.std.specs.declared.rc.Rc.{Rc}
 use Rattle.std.specs.declared.alloc.Global.{Global}
+use Rattle.spec_meaning.specs.Stream.{Stream, holes}
 use Rattle.spec_meaning.specs.Question.{Question, Answer}
 use Rattle.spec_run.specs.Plan.{Call}
 use Rattle.spec_run.specs.Going.{Event, Asked, Saw, Entered, Held}
@@ -46,3 +47,10 @@ DoesNotSuit call below rs turn =
 -- it may not serve this call
 abbrev pub DoesNotServe : (Question NodeRef → Answer NodeRef) → Call NodeRef → ℕ → List (Rc Record Global) → ℕ → Type 0
 DoesNotServe ask call below rs turn = (r : Rc Record Global) → slice_get rs turn ≡ Some r → MayServe ask call below (kept_in r.value) → ⊥
+
+-- ---- Of streams
+
+-- none of these has holes
+abbrev pub AreWhole : List Stream → Type 0
+AreWhole [] = Unit {0}
+AreWhole (stream ∷ streams) = (holes stream ≡ 0) × AreWhole streams

@@ -5,6 +5,8 @@ ghost use Rattle.std.specs.Option.{option_map};
 ghost use Rattle.xt_tree.specs.StreamView.{stream_of, streams_of};
 ghost use Rattle.xt_tree.specs.ValueView.{value_of};
 ghost use Rattle.xt_questions.specs.View.{current_of};
+ghost use Rattle.spec_meaning.specs.Stream.{holes};
+ghost use Rattle.xt_record.specs.View.{AreWhole};
 
 use std::alloc::Global;
 use std::rc::Rc;
@@ -58,13 +60,15 @@ pub(crate) fn same_name_if(one: &Option<Expanded>, other: &Option<Expanded>) -> 
     }
 }
 
-/// Where it says so, the streams are the same, one by one. It does not say so of streams that have holes.
+/// Where it says so, the streams are the same, one by one. It does not say so of streams that have holes, and of all others
+/// that are the same.
 pub fn same_streams(
     alloc: Global,
     parts: &[Rc<Items>],
     others: &[Rc<Items>],
 ) -> Result<bool, Memory>
-    ensures { IfOk result (λ b. b ≡ true → streams_of parts.now ≡ streams_of others.now) }
+    ensures same { IfOk result (λ b. b ≡ true → streams_of parts.now ≡ streams_of others.now) }
+    ensures whole { IfOk result (λ b. AreWhole (streams_of parts.now) → streams_of parts.now ≡ streams_of others.now → b ≡ true) }
 {
     if parts.len() != others.len() {
         return Ok(false);
@@ -79,7 +83,8 @@ pub fn same_streams(
 
 // Where it says so, both streams are the same.
 fn same_stream(alloc: Global, stream: &Rc<Items>, other: &Rc<Items>) -> Result<bool, Memory>
-    ensures { IfOk result (λ b. b ≡ true → stream_of stream.now.value ≡ stream_of other.now.value) }
+    ensures same { IfOk result (λ b. b ≡ true → stream_of stream.now.value ≡ stream_of other.now.value) }
+    ensures whole { IfOk result (λ b. holes (stream_of stream.now.value) ≡ 0 → stream_of stream.now.value ≡ stream_of other.now.value → b ≡ true) }
 {
     if stream.has_hole() || other.has_hole() {
         return Ok(false);

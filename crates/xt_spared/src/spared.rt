@@ -2,8 +2,11 @@
 ghost use Rattle.std.specs.Prelude.{◌≡◌, true, false, IfSome};
 ghost use Rattle.std.specs.List.{list_any};
 ghost use Rattle.spec_document.specs.Name.{same_name};
+ghost use Rattle.spec_meaning.specs.Question as asked;
+ghost use Rattle.spec_node.specs.declared.node_ref.NodeRef.{NodeRef as Node};
 ghost use Rattle.spec_touch.specs.Marks.{any_marks};
 ghost use Rattle.xt_questions.specs.View.{question_of};
+ghost use Rattle.xt_touch.specs.Named.{Covers};
 ghost use Rattle.xt_touch.specs.View.{since_of};
 ghost use Rattle.xt_spared.specs.View.{IsAmong, IsSparedBy, all_stay, is_key_among, own_of, owns_in, owns_of, questions_of, stays};
 
@@ -11,7 +14,7 @@ use crate::{OwnChoice, OwnChoices};
 use std::rc::Rc;
 use xt_names::Expanded;
 use xt_questions::Question;
-use xt_touch::Since;
+use xt_touch::{Named, Since};
 
 /// Which questions need not be asked again: those that no change since marks, those of keys that stay, and the choices of which
 /// this is so of each question that was asked for them.
@@ -58,6 +61,13 @@ impl<'a> Spared<'a> {
             return true;
         }
         self.found_in(&self.made_now, question).is_some()
+    }
+
+    /// Where it says so, no question of which this is what is named need be asked again. Takes no memory.
+    pub fn spares_all(&self, named: &Named) -> bool
+        ensures { result ≡ true → (question : asked.Question Node) → Covers named.now question → IsSparedBy self.now question }
+    {
+        self.since.spares_all(named)
     }
 
     /// The choice of this question of which each question that was asked for it need not be asked again. Takes no memory.

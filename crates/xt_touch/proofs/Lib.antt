@@ -4,3 +4,5 @@ pub mod Leading
 pub mod Members
 pub mod Missing
 pub mod Siblings
+pub mod Unmarked
+pub mod Within

@@ -1,5 +1,6 @@
 pub mod Asked
 pub mod Missing
+pub mod Named
 pub mod Sameness
 pub mod Sets
 pub mod View

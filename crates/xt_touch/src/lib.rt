@@ -6,6 +6,8 @@
 //! let asking = Modes::asking(alloc, &rules)?;
 //! let since = since.and(alloc, WorldChange::SourceEdited { change, asking })?;
 //! since.marks(&question)                                      // a few look-ups a change, however much it holds
+//! let named = Named::nothing().with(&question).with(&other);
+//! since.spares_all(&named)                                    // whether it surely marks none of them, by a few comparisons
 //! ```
 #![tactic(auto)]
 
@@ -13,6 +15,7 @@ mod elements;
 mod marks;
 mod modes;
 mod moved;
+mod named;
 mod numbers;
 mod sight;
 mod since;
@@ -22,6 +25,7 @@ mod world_change;
 pub use elements::Elements;
 pub use marks::Marks;
 pub use modes::Modes;
+pub use named::{Bounds, Named};
 pub use sight::seen_change;
 pub use since::Since;
 pub use world_change::WorldChange;

@@ -1,12 +1,15 @@
 // Which questions a change of a world marks.
-ghost use Rattle.std.specs.Prelude.{◌≡◌, IfOk};
+ghost use Rattle.std.specs.Prelude.{◌≡◌, ◌==◌, true, false, length, IfOk};
+ghost use Rattle.spec_meaning.specs.Question as asked;
+ghost use Rattle.spec_node.specs.declared.node_ref.NodeRef.{NodeRef as Node};
 ghost use Rattle.spec_touch.specs.Marks as spec;
 ghost use Rattle.xt_questions.specs.View.{question_of};
+ghost use Rattle.xt_touch.specs.Named.{Covers};
 ghost use Rattle.xt_touch.specs.View.{is_move, keeps_sheet, marked_by, world_change_of};
 
 use crate::moved::MoveMarks;
 use crate::source::SourceMarks;
-use crate::{Elements, Modes, WorldChange};
+use crate::{Elements, Modes, Named, WorldChange};
 use std::alloc::Global;
 use xt_names::Expanded;
 use xt_questions::Question;
@@ -80,6 +83,26 @@ impl Marks {
         }
     }
 
+    /// Where it says so, it marks no question of which this is what is named. Takes no memory.
+    pub fn spares_all(&self, named: &Named) -> bool
+        ensures { result ≡ true → (question : asked.Question Node) → Covers named.now question
+            → spec.marks (marked_by self.now) question ≡ false }
+    {
+        match &self.cause {
+            Cause::Edit { source, asking } => edit_spares_all(source, asking, named),
+            Cause::Move {
+                moved: _,
+                asking: _,
+            } => false,
+            Cause::Modules {
+                units: _,
+                asking: _,
+            } => false,
+            Cause::Parameter(_) => !named.external,
+            Cause::Anything => false,
+        }
+    }
+
     /// Whether it leaves the stylesheet as it was. Takes no memory.
     pub(crate) fn keeps_stylesheet(&self) -> bool
         ensures { result ≡ keeps_sheet (marked_by self.now) }
@@ -123,6 +146,27 @@ impl Marks {
             Cause::Anything => false,
         }
     }
+}
+
+// Where it says so, an edit marks none of these questions.
+fn edit_spares_all(source: &SourceMarks, asking: &Modes, named: &Named) -> bool
+    ensures { result ≡ true → (question : asked.Question Node) → Covers named.now question
+        → spec.marks (spec.SourceEdited source.now asking.now) question ≡ false }
+{
+    if named.anywhere {
+        return false;
+    }
+    if !spares_choices(asking, named) {
+        return false;
+    }
+    !source.meets(named)
+}
+
+// Whether no rule is chosen, or choices in every mode are spared.
+fn spares_choices(asking: &Modes, named: &Named) -> bool
+    ensures { result ≡ true → named.now.chooses ≡ true → (length asking.now == 0) ≡ true }
+{
+    !named.chooses || asking.is_empty()
 }
 
 // Whether the answer tells of the stylesheet, or rests on what stands in it, and not on these units alone, nor on rules

@@ -1,10 +1,13 @@
 // What changed since a run.
-ghost use Rattle.std.specs.Prelude.{◌≡◌, ◌∷◌, ◌++◌, [], length, nat_lt, IfOk};
+ghost use Rattle.std.specs.Prelude.{◌≡◌, ◌∷◌, ◌++◌, [], true, false, length, nat_lt, IfOk};
+ghost use Rattle.spec_meaning.specs.Question as asked;
+ghost use Rattle.spec_node.specs.declared.node_ref.NodeRef.{NodeRef as Node};
 ghost use Rattle.spec_touch.specs.Marks as spec;
 ghost use Rattle.xt_questions.specs.View.{question_of};
+ghost use Rattle.xt_touch.specs.Named.{Covers};
 ghost use Rattle.xt_touch.specs.View.{keep_sheet, marked_by, most_remembered, remembered, since_of, some_move, world_change_of};
 
-use crate::{Marks, WorldChange};
+use crate::{Marks, Named, WorldChange};
 use std::alloc::Global;
 use std::rc::Rc;
 use xt_questions::Question;
@@ -92,6 +95,20 @@ impl Since {
         }
         false
     }
+
+    /// Where it says so, none of them marks any question of which this is what is named. Takes no memory.
+    pub fn spares_all(&self, named: &Named) -> bool
+        ensures { result ≡ true → (question : asked.Question Node) → Covers named.now question
+            → spec.any_marks (since_of self.now) question ≡ false }
+    {
+        for marks in &self.changes {
+            if !marks.spares_all(named) {
+                return false;
+            }
+        }
+        true
+    }
+
     /// Whether each of them leaves the stylesheet as it was: an edit or a move of the source, or a parameter. Takes no memory.
     pub fn keeps_stylesheet(&self) -> bool
         ensures { result ≡ keep_sheet (since_of self.now) }

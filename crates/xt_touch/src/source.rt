@@ -1,14 +1,15 @@
 // Which questions an edit of the source marks.
-ghost use Rattle.std.specs.Prelude.{◌≡◌, ◌++◌, IfOk};
+ghost use Rattle.std.specs.Prelude.{◌≡◌, ◌∷◌, ◌++◌, ℕ, true, false, IfOk};
 ghost use Rattle.std.specs.List.{list_any};
 ghost use Rattle.spec_touch.specs.Plain as plain;
 ghost use Rattle.spec_touch.specs.Touched as spec;
 ghost use Rattle.xt_edit.specs.Telling.{change_in, numbers_in};
 ghost use Rattle.xt_questions.specs.View.{question_of};
+ghost use Rattle.xt_touch.specs.Named.{IsApart, LieWithin, is_within};
 ghost use Rattle.xt_touch.specs.Sets.{AreSame, is_changed_attribute};
 
-use crate::Modes;
 use crate::numbers::Numbers;
+use crate::{Bounds, Modes, Named};
 use spec_document::Axis;
 use std::alloc::Global;
 use std::marker::Model;
@@ -27,6 +28,9 @@ pub(crate) struct SourceMarks {
     holding: Numbers,
     // The children of the node, before and after.
     children: Numbers,
+    // Bounds of those that go and come, and of the children.
+    goes: Bounds,
+    beside: Bounds,
 }
 
 impl Model for SourceMarks {
@@ -38,7 +42,7 @@ impl Model for SourceMarks {
 
     ghost view = { λ m. change_in m.change };
 
-    ghost invariant = { λ m. AreSetsOf (change_in m.change) m.moving m.holding m.children };
+    ghost invariant = { λ m. AreSetsOf (change_in m.change) m.moving m.holding m.children m.goes m.beside };
 }
 
 impl SourceMarks {
@@ -49,11 +53,15 @@ impl SourceMarks {
         let moving = both(alloc, change.gone.as_slice(), change.brought.as_slice())?;
         let holding = both(alloc, &[change.node], change.above.as_slice())?;
         let children = both(alloc, change.before.as_slice(), change.after.as_slice())?;
+        let goes = bounds(change.gone.as_slice(), change.brought.as_slice());
+        let beside = bounds(change.before.as_slice(), change.after.as_slice());
         Ok(SourceMarks {
             change,
             moving,
             holding,
             children,
+            goes,
+            beside,
         })
     }
 
@@ -66,6 +74,33 @@ impl SourceMarks {
         } else {
             self.touches_by_children(question)
         }
+    }
+
+    /// Whether it may mark a question of which this is what is named, other than a choice, and none of those that are marked
+    /// whatever they name. Takes no memory.
+    pub(crate) fn meets(&self, named: &Named) -> bool
+        ensures { result ≡ false → IsApart self.now named.now }
+    {
+        if self.goes.meets(named.all) {
+            return true;
+        }
+        if named.near.has(self.change.node.number) {
+            return true;
+        }
+        if self.beside.meets(named.near) {
+            return true;
+        }
+        if self.beside.meets(named.inside) {
+            return true;
+        }
+        self.is_held_within(named.inside)
+    }
+
+    // Whether the node of the change or one above it lies within the bounds.
+    fn is_held_within(&self, bounds: Bounds) -> bool
+        ensures { result ≡ list_any (is_within bounds) (self.now.node ∷ self.now.above) }
+    {
+        bounds.has(self.change.node.number) || has_one_of(bounds, self.change.above.as_slice())
     }
 
     /// Whether it spares this question, a choice of a rule in none of these modes. Takes no memory.
@@ -219,6 +254,36 @@ impl SourceMarks {
     }
 }
 
+// Bounds of the numbers of these nodes and of those.
+fn bounds(nodes: &[NodeId], others: &[NodeId]) -> Bounds
+    ensures { LieWithin (numbers_in nodes.now ++ numbers_in others.now) result }
+{
+    with_all(with_all(Bounds::nothing(), nodes), others)
+}
+
+fn with_all(bounds: Bounds, nodes: &[NodeId]) -> Bounds
+    ensures nodes { LieWithin (numbers_in nodes.now) result }
+    ensures before { (number : ℕ) → is_within bounds number ≡ true → is_within result number ≡ true }
+{
+    let mut more = bounds;
+    for node in nodes {
+        more = more.with(node.number);
+    }
+    more
+}
+
+// Whether the number of one of these nodes lies within the bounds.
+fn has_one_of(bounds: Bounds, nodes: &[NodeId]) -> bool
+    ensures { result ≡ list_any (is_within bounds) (numbers_in nodes.now) }
+{
+    for node in nodes {
+        if bounds.has(node.number) {
+            return true;
+        }
+    }
+    false
+}
+
 // The set of some nodes and of others.
 fn both(alloc: Global, some: &[NodeId], others: &[NodeId]) -> Result<Numbers, Memory>
     ensures { IfOk result (λ set. AreSame set (numbers_in some.now ++ numbers_in others.now)) }
@@ -230,7 +295,7 @@ fn both(alloc: Global, some: &[NodeId], others: &[NodeId]) -> Result<Numbers, Me
 }
 
 // Whether it is a node of the tree, and no attribute or namespace node of it.
-fn is_itself(part: Part) -> bool
+pub(crate) fn is_itself(part: Part) -> bool
     ensures { result ≡ spec.is_itself part }
 {
     match part {

@@ -1,7 +1,9 @@
 pub mod Alike
 pub mod Bools
 pub mod Changed
+pub mod Declared
 pub mod Joined
+pub mod Locals
 pub mod Lost
 pub mod Paths
 pub mod Renumbered

@@ -1,7 +1,9 @@
 pub mod Code
 pub mod Edit
+pub mod Indexed
 pub mod Kept
 pub mod Keys
+pub mod Local
 pub mod Lookup
 pub mod Numbers
 pub mod Remade

@@ -11,6 +11,7 @@ ghost use Rattle.xt_tree.specs.Numbers.{IsNumbered};
 ghost use Rattle.spec_document.specs.Forest as spec;
 
 use crate::find::{find, sibling_at};
+use crate::indexed::Indexed;
 use crate::keys::new_keys;
 use crate::names::Names;
 use crate::table::Table;
@@ -91,7 +92,8 @@ impl Nodes {
         ensures ok { OnOk result (self.new ≡ followed self.old (spec.Node id.number (content_of content) children spec.Empty)) }
         ensures err { OnErr result (self.new ≡ self.old) }
     {
-        let content = Rc::new(alloc, content)?;
+        let indexed = Indexed::new(alloc, content)?;
+        let content = Rc::new(alloc, indexed)?;
         self.push_sharing(alloc, id, content, children)
     }
 
@@ -100,7 +102,7 @@ impl Nodes {
         &mut self,
         alloc: Global,
         id: NodeId,
-        content: Rc<Content>,
+        content: Rc<Indexed>,
         children: Nodes,
     ) -> Result<(), Memory>
         ensures ok { OnOk result (self.new ≡ followed self.old (spec.Node id.number (content_of content.value) children spec.Empty)) }
@@ -127,7 +129,7 @@ impl Nodes {
 }
 
 // The node of these parts.
-pub(crate) fn node(id: NodeId, content: Rc<Content>, children: Vec<Rc<Node>>) -> Node
+pub(crate) fn node(id: NodeId, content: Rc<Indexed>, children: Vec<Rc<Node>>) -> Node
     ensures { tree_of result ≡ record { number = id.number; content = content_of content.value; children = forest_of children.items } }
 {
     Node {

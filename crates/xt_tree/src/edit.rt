@@ -10,6 +10,7 @@ ghost use Rattle.xt_tree.specs.Edit.{IsNodeAt, KeepsNames, content_below};
 ghost use Rattle.xt_tree.specs.View.{content_of, forest_of};
 
 use crate::find::sibling_at;
+use crate::indexed::Indexed;
 use crate::part::enter;
 use crate::remade::{meeting, numbered, with_content};
 use crate::{Content, Doc, Node, NodeId, Nodes};
@@ -118,7 +119,8 @@ impl Doc {
         requires { ForSome (content_below self.now parent.now position) (λ old. KeepsNames old (content_of content)) }
         ensures { IfOk result (λ doc. doc ≡ record { root = self.now.root; nodes = children_changed (content_replaced position (content_of content)) parent.now self.now.nodes }) }
     {
-        let content = Rc::new(alloc, content)?;
+        let indexed = Indexed::new(alloc, content)?;
+        let content = Rc::new(alloc, indexed)?;
         let children = with_content(alloc, self.children.as_slice(), parent, position, &content)?;
         let keys = self.keys.copy()?;
         let names = self.names.clone()?;

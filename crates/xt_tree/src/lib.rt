@@ -8,10 +8,12 @@
 //! ```
 #![tactic(auto)]
 
+mod declarations;
 mod doc;
 mod edit;
 mod filling;
 mod find;
+mod indexed;
 mod items;
 mod keys;
 mod names;

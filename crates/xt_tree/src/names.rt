@@ -3,9 +3,10 @@ ghost use Rattle.std.specs.Prelude.{ℕ, ◌≡◌, ◌++◌, [], None, Some, If
 ghost use Rattle.std.specs.List.{slice_get};
 ghost use Rattle.std.specs.Option.{option_map};
 ghost use Rattle.std.specs.Str.{chars};
-ghost use Rattle.spec_document.specs.Name.{same_expanded, same_name};
+ghost use Rattle.spec_document.specs.Name.{qname_of, same_expanded, same_name};
 ghost use Rattle.spec_document.specs.Scope.{root_scope};
 ghost use Rattle.xt_tree.specs.Kept.{kept_at, names_in};
+ghost use Rattle.xt_tree.specs.Local.{has_local, is_local};
 ghost use Rattle.xt_tree.specs.Room.{all_suit, suits};
 ghost use Rattle.xt_tree.specs.View.{content_of, forest_of};
 
@@ -13,8 +14,8 @@ use crate::part::{content_name, enter};
 use crate::{Content, Node, NodeId};
 use std::alloc::Global;
 use std::rc::Rc;
-use xt_names::{Expanded, Scope};
-use xt_text::Memory;
+use xt_names::{Expanded, QName, Scope};
+use xt_text::{Memory, Text};
 
 /// Expanded names of nodes whose numbers follow one another.
 #[derive(Drop)]
@@ -131,4 +132,25 @@ pub fn is_plain_name(local: &str, wanted: &Expanded) -> bool
     ensures { result ≡ same_name wanted.now (record { uri = []; local = chars local.now }) }
 {
     wanted.uri().is_empty() && wanted.local().is(local)
+}
+
+/// Whether the name of a node of this content has this local part, wherever it stands.
+pub fn has_local(content: &Content, local: &Text) -> bool
+    ensures { result ≡ has_local local.now (content_of content.now) }
+{
+    match content {
+        Content::Element { name, .. } => is_local(name.as_str(), local),
+        Content::Instruction { target, .. } => local.same(target),
+        Content::Text { .. } | Content::Comment { .. } => false,
+    }
+}
+
+/// Whether what is written so is a name that has this local part.
+pub fn is_local(written: &str, local: &Text) -> bool
+    ensures { result ≡ is_local local.now (qname_of (chars written.now)) }
+{
+    match QName::read(written) {
+        None => false,
+        Some(name) => local.is(name.local()),
+    }
 }

@@ -1,10 +1,12 @@
 // Nodes of the tree.
 ghost use Rattle.std.specs.Prelude.{◌≡◌, Some};
-ghost use Rattle.spec_document.specs.Place.{kind_by};
-ghost use Rattle.xt_tree.specs.View.{content_of, forest_of, tree_of};
+ghost use Rattle.std.specs.Option.{option_map};
+ghost use Rattle.spec_document.specs.Place.{at_number, attributes_in, kind_by};
+ghost use Rattle.xt_tree.specs.View.{content_of, forest_of, tree_of, written_of};
 ghost use Rattle.xt_tree.specs.declared.node.Node.{out-Node};
 
 use crate::NodeId;
+use crate::indexed::Indexed;
 use spec_document::Kind;
 use std::rc::Rc;
 use xt_text::Text;
@@ -57,7 +59,7 @@ impl Content {
 #[derive(Drop)]
 pub struct Node {
     pub(crate) id: NodeId,
-    pub(crate) content: Rc<Content>,
+    pub(crate) content: Rc<Indexed>,
     pub(crate) children: Vec<Rc<Node>>,
 }
 
@@ -73,7 +75,14 @@ impl Node {
     pub fn content(&self) -> &Content
         ensures { content_of result.now ≡ (tree_of self.now).content }
     {
-        &self.content
+        self.content.content()
+    }
+
+    // The attribute of this number, where there is one.
+    pub(crate) fn attribute(&self, number: u64) -> Option<&Written>
+        ensures { option_map (λ a. written_of a.now) result ≡ at_number number (attributes_in (Some (tree_of self.now).content)) }
+    {
+        self.content.attribute(number)
     }
 
     /// The nodes directly below it, in their order.

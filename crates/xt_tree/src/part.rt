@@ -41,32 +41,6 @@ fn own_attributes<'a>(alloc: Global, attributes: &'a [Written]) -> Result<Vec<&'
     Ok(list)
 }
 
-/// The attribute of this number, from 1.
-pub fn attribute_at(content: &Content, number: u64) -> Option<&Written>
-    ensures { option_map (λ a. written_of a.now) result ≡ at_number number (attributes_in (Some (content_of content.now))) }
-{
-    match content {
-        Content::Element { attributes, .. } => nth_attribute(attributes.as_slice(), number),
-        Content::Text { .. } | Content::Comment { .. } | Content::Instruction { .. } => None,
-    }
-}
-
-// The attribute of this number among those that are no declarations.
-fn nth_attribute(attributes: &[Written], number: u64) -> Option<&Written>
-    ensures { option_map (λ a. written_of a.now) result ≡ at_number number (filter (λ a. not (is_declaration a)) (map written_of attributes.now)) }
-{
-    let mut left = number;
-    for attribute in attributes {
-        if !is_declaration(attribute.name.as_str()) {
-            if left == 1 {
-                return Some(attribute);
-            }
-            left = left.saturating_sub(1);
-        }
-    }
-    None
-}
-
 /// Adds to the scope what an element declares.
 pub fn enter(alloc: Global, scope: &mut Scope, content: &Content) -> Result<(), Memory>
     ensures { OnOk result (scope.new ≡ within (content_of content.now) scope.old) }

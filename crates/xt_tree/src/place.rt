@@ -5,7 +5,7 @@ ghost use Rattle.spec_document.specs.Place.{node_at, scope_at, attributes_of, na
 ghost use Rattle.xt_tree.specs.View.{IsPlaceOf, IsWayTo, item_of, numbered_node};
 
 use crate::find::lead;
-use crate::part::{attribute_at, namespace_at};
+use crate::part::namespace_at;
 use crate::{Doc, NodeId, NodeRef, Part};
 use spec_document::Kind;
 use std::alloc::Global;
@@ -86,7 +86,7 @@ impl Doc {
         }
         match self.node(id) {
             None => false,
-            Some(node) => attribute_at(node.content(), number).is_some(),
+            Some(node) => node.attribute(number).is_some(),
         }
     }
 

@@ -6,14 +6,12 @@ ghost use Rattle.spec_document.specs.Name.{qname_of, same_expanded};
 ghost use Rattle.spec_document.specs.Declaration.{namespaces_in, attribute_name};
 ghost use Rattle.spec_document.specs.Place.{expanded_name, name_by, scope_at, kind_of, kind_by, string_value, string_value_by, written_by, written_name, attributes_of, namespaces_of, at_number};
 ghost use Rattle.xt_names.specs.View.{entries_of};
-ghost use Rattle.xt_tree.specs.View.{item_of, numbered_node, written_of};
+ghost use Rattle.xt_tree.specs.View.{content_of, item_of, numbered_node, written_of};
 
 use crate::find::{push_texts, push_value};
-use crate::names::{is_name, is_plain_name};
-use crate::part::{
-    attribute_at, attribute_name, attributes_in, content_name, content_written, namespace_at,
-};
-use crate::{Doc, NodeId, NodeRef, Part, Written};
+use crate::names::{has_local, is_local, is_name, is_plain_name};
+use crate::part::{attribute_name, attributes_in, content_name, content_written, namespace_at};
+use crate::{Content, Doc, NodeId, NodeRef, Part, Written};
 use spec_document::Kind;
 use std::alloc::Global;
 use std::rc::Rc;
@@ -108,9 +106,12 @@ impl Doc {
     pub(crate) fn attribute(&self, id: NodeId, number: u64) -> Option<&Written>
         ensures { ForSome (numbered_node self.now id.number) (λ node. option_map (λ a. written_of a.now) result ≡ at_number number (attributes_of node)) }
     {
-        match self.content(id) {
+        if self.root == id {
+            return None;
+        }
+        match self.node(id) {
             None => None,
-            Some(content) => attribute_at(content, number),
+            Some(node) => node.attribute(number),
         }
     }
 
@@ -196,10 +197,26 @@ impl Doc {
     {
         match self.content(node.node) {
             None => Ok(None),
-            Some(content) => {
+            Some(content) => self.name_there(alloc, node, content),
+        }
+    }
+
+    // The name of a node of this content in the place of this one. A text and a comment have none, whatever the scope.
+    fn name_there(
+        &self,
+        alloc: Global,
+        node: &NodeRef,
+        content: &Content,
+    ) -> Result<Option<Expanded>, Memory>
+        ensures { IfOk result (λ name. ForSome (numbered_node self.now node.now.node.number)
+            (λ found. name ≡ name_by (Some (content_of content.now)) (scope_at found))) }
+    {
+        match content {
+            Content::Element { .. } | Content::Instruction { .. } => {
                 let scope = self.scope_of(alloc, node)?;
                 content_name(alloc, content, &scope)
             }
+            Content::Text { .. } | Content::Comment { .. } => Ok(None),
         }
     }
 
@@ -274,11 +291,38 @@ impl Doc {
     {
         match self.names.get(node.node) {
             Some(name) => Ok(is_name(name, wanted)),
-            None => {
-                let name = self.resolved_name(alloc, node)?;
-                Ok(is_name(&name, wanted))
-            }
+            None => self.resolves_to(alloc, node, wanted),
         }
+    }
+
+    // The same where no name is kept. Where the local part is another, no scope is made.
+    fn resolves_to(&self, alloc: Global, node: &NodeRef, wanted: &Expanded) -> Result<bool, Memory>
+        ensures { IfOk result (λ is. ForSome (numbered_node self.now node.now.node.number)
+            (λ found. is ≡ same_expanded (Some wanted.now) (name_by found.content (scope_at found)))) }
+    {
+        match self.content(node.node) {
+            None => Ok(false),
+            Some(content) => self.is_there_named(alloc, node, content, wanted),
+        }
+    }
+
+    // Whether a node of this content has this name in the place of this one.
+    fn is_there_named(
+        &self,
+        alloc: Global,
+        node: &NodeRef,
+        content: &Content,
+        wanted: &Expanded,
+    ) -> Result<bool, Memory>
+        ensures { IfOk result (λ is. ForSome (numbered_node self.now node.now.node.number)
+            (λ found. is ≡ same_expanded (Some wanted.now) (name_by (Some (content_of content.now)) (scope_at found)))) }
+    {
+        if !has_local(content, wanted.local()) {
+            return Ok(false);
+        }
+        let scope = self.scope_of(alloc, node)?;
+        let name = content_name(alloc, content, &scope)?;
+        Ok(is_name(&name, wanted))
     }
 
     fn attribute_is_named(
@@ -312,6 +356,9 @@ impl Doc {
     {
         if is_ncname(written) {
             return Ok(is_plain_name(written, wanted));
+        }
+        if !is_local(written, wanted.local()) {
+            return Ok(false);
         }
         let scope = self.scope_of(alloc, node)?;
         let name = attribute_name(alloc, written, &scope)?;

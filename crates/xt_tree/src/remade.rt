@@ -10,6 +10,7 @@ ghost use Rattle.xt_tree.specs.View.{content_of, forest_of, tree_of};
 
 use crate::doc::node;
 use crate::find::sibling_at;
+use crate::indexed::Indexed;
 use crate::{Content, Node, NodeId, Nodes};
 use std::alloc::Global;
 use std::rc::Rc;
@@ -39,7 +40,8 @@ fn joined(alloc: Global, first: &Node, second: &Node) -> Result<Option<Rc<Node>>
     match joined_text(alloc, first.content(), second.content())? {
         None => Ok(None),
         Some(content) => {
-            let content = Rc::new(alloc, content)?;
+            let indexed = Indexed::new(alloc, content)?;
+            let content = Rc::new(alloc, indexed)?;
             let children = shared(alloc, first.children())?;
             Ok(Some(Rc::new(alloc, node(first.id, content, children))?))
         }
@@ -82,7 +84,7 @@ pub fn with_content(
     siblings: &[Rc<Node>],
     parent: &[u64],
     position: u64,
-    content: &Rc<Content>,
+    content: &Rc<Indexed>,
 ) -> Result<Vec<Rc<Node>>, Memory>
     ensures { IfOk result (λ list. forest_of list.items
         ≡ children_changed (content_replaced position (content_of content.now.value)) parent.now (forest_of siblings.now)) }
@@ -105,7 +107,7 @@ fn with_own_content(
     alloc: Global,
     siblings: &[Rc<Node>],
     position: u64,
-    content: &Rc<Content>,
+    content: &Rc<Indexed>,
 ) -> Result<Vec<Rc<Node>>, Memory>
     ensures { IfOk result (λ list. forest_of list.items ≡ content_replaced position (content_of content.now.value) (forest_of siblings.now)) }
 {

@@ -1,5 +1,5 @@
-use Rattle.std.proofs.Common.{◌≡◌, ◌≤◌, ◌∙◌, ◌-◌, ◌+◌, ◌<◌, ◌∷◌, [], ℕ, List, Option, suc, map, refl, sym, ap, subst, Ok, Err, length, arith}
-use Rattle.std.specs.Prelude.{Box}
+use Rattle.std.proofs.Common.{◌≡◌, ◌≤◌, ◌∙◌, ◌-◌, ◌+◌, ◌<◌, ◌∷◌, ◌++◌, [], ℕ, List, Option, Some, None, Result, suc, map, refl, sym, ap, subst, Ok, Err, length, arith}
+use Rattle.std.specs.Prelude.{Box, IfOk, IfNone, is_some}
 use Rattle.std.specs.declared.alloc.Global.{Global as Allocator}
 use Rattle.std.proofs.lemmas.List.{length-map}
 use Rattle.spec_meaning.specs.Stream.{Stream, filled, holes}
@@ -13,10 +13,10 @@ use Rattle.xt_tree.specs.StreamView.{streams_of}
 use Rattle.xt_engine.specs.declared.event.Ran.{Ran}
 use Rattle.xt_engine.specs.View.{call_of, event_of}
 use Rattle.xt_engine.specs.declared.turn.Turn.TheVariants.{Done}
-use Rattle.xt_engine.specs.Progress.{Gift}
+use Rattle.xt_engine.specs.Progress.{Gift, received}
 use Rattle.xt_engine.specs.Advances.{Advances, gift_of, ran_of}
 use Rattle.xt_record.specs.declared.record.Record.{Record}
-use Rattle.xt_record.specs.View.{kept_in, MayServe}
+use Rattle.xt_record.specs.View.{kept_in, AsksHold, MayServe}
 use Rattle.xt_driver.specs.declared.globals.Evaluation.{Evaluation}
 use Rattle.xt_driver.specs.declared.drive.Served.{Served}
 use Rattle.xt_driver.specs.declared.outcome.Outcome.{Outcome as Came}
@@ -27,6 +27,12 @@ use Rattle.xt_driver.specs.Stands.{level_of, Stands}
 use Rattle.xt_driver.specs.Steps.{Enters, Needs}
 use Rattle.xt_driver.specs.Along.{IsNext}
 use Rattle.xt_driver.specs.Lost.{IsServed, IsOfReference}
+use Rattle.xt_driver.specs.Counted.{hand_of, CountedAlong, CountsFollowed, CountsServed, IsAnswer, IsKeptToo, IsUnserved, IsMadeOf, CountedRun, OfRun}
+use Rattle.xt_driver.specs.declared.follow.Gone.TheVariants as gone
+use Rattle.xt_record.specs.Search.{PassedOver, Stands as IsThere}
+use Rattle.spec_reuse.specs.Serving.{Fits}
+use Rattle.spec_reuse.specs.Instantiation.{entered, for_reference}
+use Rattle.xt_text.specs.declared.memory.Memory.{Memory}
 use Rattle.xt_driver.specs.Followed.{instance_of, IsFollowed, cut_with, EndsWith}
 use Rattle.xt_driver.proofs.NoHoles.{meaning_whole}
 use Rattle.xt_driver.proofs.Remembering.{keeps_all}
@@ -35,9 +41,14 @@ use Rattle.xt_driver.proofs.Standing.{stands_entered, stands_referred, stands_do
 use Rattle.xt_driver.proofs.Referring.{refers_given, refers_evaluated, aside_of, evaluates_as}
 use Rattle.xt_driver.proofs.Onward.{Onward, onward_begun, onward_entered, onward_referred, on_any, evaluation_ready, evaluation_all, remembers_there, lasts_fault}
 use Rattle.xt_driver.proofs.Serving.{followed_begun}
-use Rattle.xt_driver.proofs.Along.{rest_from, rest_all, rest_none, along_turn, along_even, along_ended, along_short, gone_holds, gone_entered, gone_referred, gone_on, gone_refused, left_entered, left_referred, lost_on, lost_there, keeps_there, served_there, served_as, served_not}
-use Rattle.xt_driver.proofs.Regaining.{some_of, regained_settles}
+use Rattle.xt_driver.proofs.Along.{rest_from, rest_all, rest_none, done_to, done_next, next_event, along_turn, along_even, along_ended, along_short, gone_holds, gone_entered, gone_referred, gone_on, gone_refused, left_entered, left_referred, lost_on, lost_there, keeps_there, served_there, served_as, served_not}
+use Rattle.xt_driver.proofs.Regaining.{some_of, same_of, none_of, lost_refusal, regained_settles}
 use Rattle.xt_driver.proofs.Keeping.{done_kept}
+use Rattle.xt_driver.proofs.Tallying.{means_none, means_served, run_counted, served_ready, need_known, need_other}
+use Rattle.xt_driver.proofs.Trying.{Tried, tried_begun, tried_all, tried_next, tried_still, front_judged, answered, unserved, kept_none}
+use Rattle.xt_driver.proofs.Telling.{along_begun, along_whole, along_to, along_done, along_with, gone_as, counts_held, counts_other, counts_entered, counts_referred}
+use Rattle.xt_driver.proofs.Running.{Running, over_from, for_from, running_begun, running_entered, running_referred, running_done, running_failed, done_same, failed_same}
+use Rattle.xt_driver.proofs.Finding.{looked_given, counts_evaluated, evaluated_idle}
 use Rattle.xt_driver.proofs.Coming.{Ask, sure_there, of_streamed, of_taken, of_takes, of_reference, as_served, on_is, on_all, of_evaluates}
 use Rattle.xt_driver.proofs.drive.+drive.Goals as goal
 
@@ -107,6 +118,17 @@ run_call-loop-standing-preserved-in-Continue-branch-4 g t c =
     record {
       stands = on;
       onward = onward_next;
+      running = λ h ready.
+          let X : Running l c.args.lost.now (prog old.run).left (received (prog old.run).waits (prog old.run).going (prog old.run).supplies gift)
+          (hand_of c.args.reuse.now c.args.memo.now) (hand_of c.loop-standing.reuse c.loop-standing.memo) = rw c.deref_mut.ensures.value (inv.running h ready) in
+          let over = over_from (λ a. setting_of a globals) past below e.depth left (call_of c.deref.result.now) _ c.means-came.result
+          (hand_of c.loop-standing.reuse c.loop-standing.memo) (hand_of c.means-came.new.reuse c.means-came.new.memo) resumed e.levels entered c.means-came.ensures.counts in
+          let on_so = running_entered l c.args.lost.now (hand_of c.args.reuse.now c.args.memo.now) (hand_of c.loop-standing.reuse c.loop-standing.memo)
+          (hand_of c.means-came.new.reuse c.means-came.new.memo) (prog old.run) (prog new.run) gift ss (streams_of next.parts.items) e.wanted e.depth
+          c.means-came.result next.given stands e.advances came streamed over X in
+          let Y : Running l c.args.lost.now (prog next.run).left (received (prog next.run).waits (prog next.run).going (prog next.run).supplies (gift_of next.given))
+          (hand_of c.args.reuse.now c.args.memo.now) (hand_of c.means-came.new.reuse c.means-came.new.memo) = rw (c.take_stream.ensures.run, at) on_so in
+          Y;
       sure = sure_there resumed (of_streamed next.given ss (streams_of next.parts.items) c.means-came.result streamed c.means-came.ensures.sure);
       truth = c.means-came.ensures.truth ∙ resumed;
       name = c.means-came.ensures.name ∙ c.advance.ensures.name ∙ inv.name;
@@ -176,6 +198,17 @@ run_call-loop-standing-preserved g t c =
     record {
       stands = on;
       onward = onward_next;
+      running = λ h ready.
+          let X : Running l c.args.lost.now (prog old.run).left (received (prog old.run).waits (prog old.run).going (prog old.run).supplies gift)
+          (hand_of c.args.reuse.now c.args.memo.now) (hand_of c.loop-standing.reuse c.loop-standing.memo) = rw c.deref_mut.ensures.value (inv.running h ready) in
+          let over = for_from (λ a. setting_of a globals) past c.args.lost.now left c.deref-in-Refer.result.now needed c.need-came.result
+          (hand_of c.loop-standing.reuse c.loop-standing.memo) (hand_of c.need-came.new.reuse c.need-came.new.memo) resumed c.deref-in-Refer.ensures c.need-came.ensures.counts in
+          let on_so = running_referred l c.args.lost.now (hand_of c.args.reuse.now c.args.memo.now) (hand_of c.loop-standing.reuse c.loop-standing.memo)
+          (hand_of c.need-came.new.reuse c.need-came.new.memo) (prog old.run) (prog new.run) gift ss needed e.depth left c.need-came.result next.given
+          stands e.advances e.levels c.requires.lost gives c.in_ok-take_global-in-Refer.ensures.taken over X in
+          let Y : Running l c.args.lost.now (prog next.run).left (received (prog next.run).waits (prog next.run).going (prog next.run).supplies (gift_of next.given))
+          (hand_of c.args.reuse.now c.args.memo.now) (hand_of c.need-came.new.reuse c.need-came.new.memo) = rw (c.take_global.ensures.run, at) on_so in
+          Y;
       sure = sure_there resumed (of_taken next.given c.need-came.result c.in_ok-take_global-in-Refer.ensures.taken c.need-came.ensures.sure);
       truth = c.need-came.ensures.truth ∙ resumed;
       name = c.need-came.ensures.name ∙ c.advance.ensures.name ∙ inv.name;
@@ -361,7 +394,18 @@ follow-loop-event-init g t c =
     let ss = streams_of way.parts.items in
     let P : List (Event NodeRef) → Type 0 = λ es. IsFollowed s i first first way.spare k ss es in
     let begun = followed_begun s i first way.spare k c.requires.remembers c.requires.serves.asks c.a_record_lasts.ensures (ap streams_of c.in_ok-way.ensures) in
-    record { followed = subst P (rest_all c.as_slice-events.result.now c.as_slice-events.ensures.value) begun; sure = c.requires.sure; truth = refl; name = refl; last = refl; spared = refl }
+    let C : List (Event NodeRef) → Type 0 = λ es. CountedAlong s i k [] es ss (hand_of c.args.reuse.now c.args.memo.now) (hand_of c.args.reuse.now c.args.memo.now) in
+    let fits : Fits s i k = record { lasting = c.a_record_lasts.ensures; of_call = c.requires.serves.of_call; levels = c.requires.serves.levels } in
+    record {
+      followed = subst P (rest_all c.as_slice-events.result.now c.as_slice-events.ensures.value) begun;
+      counted = λ h ready. subst C (rest_all c.as_slice-events.result.now c.as_slice-events.ensures.value)
+          (along_begun s i k ss (hand_of c.args.reuse.now c.args.memo.now) h fits c.requires.serves.asks (ap streams_of c.in_ok-way.ensures) ready);
+      sure = c.requires.sure;
+      truth = refl;
+      name = refl;
+      last = refl;
+      spared = refl;
+    }
 
 pub follow-go_on-requires : goal.follow-go_on-requires
 follow-go_on-requires g t c =
@@ -393,6 +437,17 @@ follow-loop-event-preserved g t c =
     let before : IsFollowed s i first held old.spare k (streams_of old.parts.items) (event_of e ∷ rest_from events (n + 1)) = rw c.deref_mut.ensures.value turned in
     record {
       followed = gone_on (λ a. setting_of a globals) i first held more old next (event_of e) k (rest_from events (n + 1)) c.in_ok-go_on.field-0 inv.truth c.in_ok-go_on.ensures.goes c.in-On.is before;
+      counted = λ h ready.
+          let now = hand_of c.loop-event.reuse c.loop-event.memo in
+          let later = hand_of c.go_on.new.reuse c.go_on.new.memo in
+          let turn = along_to s i k (done_to events n) (rest_from events n) (event_of e ∷ rest_from events (n + 1)) ss (hand_of c.args.reuse.now c.args.memo.now) now
+          (next_event events n e (omega arith) c.event-item.is) (inv.counted h ready) in
+          let on = gone_as (λ a. setting_of a globals) i (event_of e) (streams_of old.parts.items) (streams_of next.parts.items) now later c.in_ok-go_on.field-0 gone.On
+          inv.truth c.in_ok-go_on.ensures.counts c.in-On.is in
+          along_done s i k (done_to events n ++ event_of e ∷ []) (done_to events (n + 1)) (rest_from events (n + 1)) (streams_of next.parts.items)
+          (hand_of c.args.reuse.now c.args.memo.now) later (done_next events n e (omega arith) c.event-item.is)
+          (on (hand_of c.args.reuse.now c.args.memo.now) k (done_to events n) (rest_from events (n + 1))
+          (along_with s i k (done_to events n) (event_of e ∷ rest_from events (n + 1)) old way (hand_of c.args.reuse.now c.args.memo.now) now c.deref_mut.ensures.value turn));
       sure = sure_there inv.truth c.in_ok-go_on.ensures.sure;
       truth = c.go_on.ensures.truth ∙ inv.truth;
       name = c.go_on.ensures.name ∙ inv.name;
@@ -668,7 +723,17 @@ go_on-returns-in-Refer-clause-sure g t c =
 
 pub serve-loop-found-init : goal.serve-loop-found-init
 serve-loop-found-init g t c =
-    record { keeps = keeps_all c.requires.remembers; sure = c.requires.sure; truth = refl; name = refl; last = refl; spared = refl }
+    let s = setting_of (g.W.World.state c.args.world.now).truth c.args.globals.now in
+    let i = instance_of (call_of c.args.call.now) c.args.below (past_of c.args.globals.now) in
+    record {
+      keeps = keeps_all c.requires.remembers;
+      tried = λ h ready. tried_begun s i (hand_of c.args.reuse.now c.args.memo.now) ready;
+      sure = c.requires.sure;
+      truth = refl;
+      name = refl;
+      last = refl;
+      spared = refl;
+    }
 
 pub serve-find-requires : goal.serve-find-requires
 serve-find-requires g t c =
@@ -723,6 +788,33 @@ serve-loop-found-preserved g t c =
     = some_of (λ f. MayServe there (call_of c.args.call.now) c.args.below (kept_in f.record.value)) c.in_ok-find.field-0 found c.in-Some.is c.in_ok-find.ensures.serves in
     record {
       keeps = keeps_there (λ a. setting_of a globals) past first held (entries_of c.follow-served.new.memo) here inv.keeps (on_is c.follow-served.result c.in_ok-tried-in-Some.ensures.came c.follow-served.ensures.keeps);
+      tried =
+          let s = setting_of truth globals in
+          let i = instance_of (call_of c.args.call.now) c.args.below (past_of globals) in
+          let begun = hand_of c.args.reuse.now c.args.memo.now in
+          let now = hand_of c.loop-found.reuse c.loop-found.memo in
+          let from = c.loop-found.from in
+          let P : Ask → Type 0 = λ a. PassedOver a i.call i.below c.loop-found.reuse from (Some found) in
+          let passed = subst P inv.truth (same_of (λ o. PassedOver there i.call i.below c.loop-found.reuse from o) c.in_ok-find.field-0 found c.in-Some.is c.in_ok-find.ensures.complete) in
+          let stands = some_of (λ f. IsThere c.loop-found.reuse f.next f.record.value) c.in_ok-find.field-0 found c.in-Some.is c.in_ok-find.ensures.stands in
+          let mid = hand_of c.find.new.self c.loop-found.memo in
+          let later = hand_of c.follow-served.new.reuse c.follow-served.new.memo in
+          let k = kept_in found.record.value in
+          let Q : Record → Type 0 = λ r. IfOk c.follow-served.result (λ v. OfRun (setting_of (g.W.World.state c.find.new.world).truth globals) i mid
+          (CountsFollowed v (setting_of (g.W.World.state c.find.new.world).truth globals) i (kept_in r) mid later)) in
+          let R : Ask → Type 0 = λ a. IfOk c.follow-served.result (λ v. OfRun (setting_of a globals) i mid (CountsFollowed v (setting_of a globals) i k mid later)) in
+          let followed = subst R here (subst Q c.deref.ensures c.follow-served.ensures.counts) in
+          let tells = c.in_ok-tried-in-Some.ensures in
+          let none = none_of (λ o. IfNone o (IsUnserved c.follow-served.result)) c.in_ok-tried-in-Some.field-0 c.in-None-2.is tells.unserved in
+          λ h ready.
+          let t = inv.tried h ready in
+          let ready_now = (front_judged s i begun now c.find.new.self from c.find.ensures.judges t).ready in
+          let lost_so = unserved (λ v. OfRun s i mid (CountsFollowed v s i k mid later)) c.follow-served.result none followed h ready_now in
+          let next = tried_next s i begun now later c.find.new.self from found c.find.ensures.judges passed stands h t lost_so in
+          let still = tried_still s i begun later c.tried.new.reuse found.next next tells.last
+          (kept_none c.follow-served.result later.reuse.kept.records.items c.tried.new.reuse.kept.records.items found.record none tells.kept) tells.steps in
+          let F : ℕ → Type 0 = λ n. Tried s i begun (hand_of c.tried.new.reuse c.follow-served.new.memo) n in
+          subst F (sym c.next_turn-from.ensures.same) still;
       sure = sure_there inv.truth (c.in_ok-tried-in-Some.ensures.sure there (sure_there c.find.ensures.truth (on_is c.follow-served.result c.in_ok-tried-in-Some.ensures.came c.follow-served.ensures.sure)) may.asks);
       truth = c.follow-served.ensures.truth ∙ here;
       name = c.follow-served.ensures.name ∙ c.find.ensures.name ∙ inv.name;
@@ -865,7 +957,7 @@ need-returns-in-Some-clause-settles g t c =
     let past = past_of globals in
     let lost = c.args.lost.now in
     let r = c.in-Some.referred in
-    let is = some_of (λ x. IsOfReference lost c.args.needed.now c.args.levels x.value) c.in_ok-referred.field-0 r c.in-Some.is c.in_ok-referred.ensures in
+    let is = some_of (λ x. IsOfReference lost c.args.needed.now c.args.levels x.value) c.in_ok-referred.field-0 r c.in-Some.is c.in_ok-referred.ensures.again in
     regained_settles s past lost c.args.needed.now c.args.levels (entries_of c.args.memo.now) r.value c.requires.lost is
 
 pub refer-evaluated-requires : goal.refer-evaluated-requires
@@ -881,7 +973,7 @@ refer-returns-in-Given-clause-keeps g t c =
     let levels = c.args.levels in
     let old = entries_of c.args.memo.now in
     let new = entries_of c.look_up.new.memo in
-    let refers : Refers c.in_ok-given.field-0 globals name levels old new = c.in_ok-given.ensures in
+    let refers : Refers c.in_ok-given.field-0 globals name levels old new = c.in_ok-given.ensures.refers in
     (refers_given c.in_ok-given.field-0 c.in-Given.given globals name levels old new truth refers c.in-Given.is c.requires.remembers).0
 
 pub refer-returns-in-Given-clause-settles : goal.refer-returns-in-Given-clause-settles
@@ -892,7 +984,7 @@ refer-returns-in-Given-clause-settles g t c =
     let levels = c.args.levels in
     let old = entries_of c.args.memo.now in
     let new = entries_of c.look_up.new.memo in
-    let refers : Refers c.in_ok-given.field-0 globals name levels old new = c.in_ok-given.ensures in
+    let refers : Refers c.in_ok-given.field-0 globals name levels old new = c.in_ok-given.ensures.refers in
     (refers_given c.in_ok-given.field-0 c.in-Given.given globals name levels old new truth refers c.in-Given.is c.requires.remembers).1 (place_of c.args.needed.now.place)
 
 pub refer-means-came-requires : goal.refer-means-came-requires
@@ -904,7 +996,7 @@ refer-means-came-requires g t c =
     let old = entries_of c.args.memo.now in
     let s = setting_of truth globals in
     let past = past_of globals in
-    let refers : Refers c.in_ok-given.field-0 globals name levels old (entries_of c.look_up.new.memo) = c.in_ok-given.ensures in
+    let refers : Refers c.in_ok-given.field-0 globals name levels old (entries_of c.look_up.new.memo) = c.in_ok-given.ensures.refers in
     let anew = refers_evaluated c.in_ok-given.field-0 c.in-Evaluated.element globals name levels old (entries_of c.look_up.new.memo) truth refers c.in-Evaluated.is c.requires.remembers in
     let evaluation = c.in_ok-evaluation-in-Evaluated in
     let under = c.as_slice.ensures.value ∙ ap (λ (e : Evaluation). e.under_way.items) c.deref.ensures ∙ evaluation.ensures.under_way in
@@ -921,7 +1013,7 @@ refer-returns-in_ok-evaluation-in-Evaluated-clause-keeps g t c =
     let old = entries_of c.args.memo.now in
     let s = setting_of truth globals in
     let past = past_of globals in
-    let refers : Refers c.in_ok-given.field-0 globals name levels old (entries_of c.look_up.new.memo) = c.in_ok-given.ensures in
+    let refers : Refers c.in_ok-given.field-0 globals name levels old (entries_of c.look_up.new.memo) = c.in_ok-given.ensures.refers in
     let node = c.in-Evaluated.element in
     let anew = refers_evaluated c.in_ok-given.field-0 node globals name levels old (entries_of c.look_up.new.memo) truth refers c.in-Evaluated.is c.requires.remembers in
     let evaluation = c.in_ok-evaluation-in-Evaluated in
@@ -946,7 +1038,7 @@ refer-returns-in_ok-evaluation-in-Evaluated-clause-settles g t c =
     let old = entries_of c.args.memo.now in
     let s = setting_of truth globals in
     let past = past_of globals in
-    let refers : Refers c.in_ok-given.field-0 globals name levels old (entries_of c.look_up.new.memo) = c.in_ok-given.ensures in
+    let refers : Refers c.in_ok-given.field-0 globals name levels old (entries_of c.look_up.new.memo) = c.in_ok-given.ensures.refers in
     let node = c.in-Evaluated.element in
     let anew = refers_evaluated c.in_ok-given.field-0 node globals name levels old (entries_of c.look_up.new.memo) truth refers c.in-Evaluated.is c.requires.remembers in
     let evaluation = c.in_ok-evaluation-in-Evaluated in
@@ -977,6 +1069,8 @@ run_call-loop-standing-init g t c =
     record {
       stands = subst Q (sym (ap streams_of c.in_ok-standing.ensures.parts)) (subst P (sym (ap gift_of c.in_ok-standing.ensures.given)) (stands_begun l p refl c.in_ok-standing.ensures.started));
       onward = onward_begun l all begun.spare p (gift_of begun.given) refl c.requires.remembers c.in_ok-standing.ensures.started (ap gift_of c.in_ok-standing.ensures.given);
+      running = λ h ready. running_begun l c.args.lost.now p (gift_of begun.given) (hand_of c.args.reuse.now c.args.memo.now) c.count_run.new.self
+          c.in_ok-standing.ensures.started (ap gift_of c.in_ok-standing.ensures.given) h ready c.count_run.ensures.last c.count_run.ensures.kept c.count_run.ensures.ran;
       sure = c.count_run.ensures.sure truth c.requires.sure;
       truth = refl;
       name = refl;
@@ -989,3 +1083,402 @@ run_call-returns-in-Failed-clause-lasts g t c =
     let l = level_of (g.W.World.state c.args.world.now).truth c.args.globals.now c.args.below (call_of c.args.call.now) in
     let o = c.in_ok-outcome-in-Failed.outcome.value in
     lasts_fault l.setting l.past (suc c.args.below - o.spare) (entries_of c.loop-standing.memo) l.call c.in-Failed.fault.value o c.in_ok-outcome-in-Failed.ensures
+
+pub follow-returns-in-Not-clause-counts : goal.follow-returns-in-Not-clause-counts
+follow-returns-in-Not-clause-counts g t c =
+    let truth = (g.W.World.state c.args.world.now).truth in
+    let globals = c.args.globals.now in
+    let s = setting_of truth globals in
+    let i = instance_of (call_of c.args.call.now) c.args.below (past_of globals) in
+    let k = kept_in c.args.kept.now in
+    let inv = c.loop-event.invariant in
+    let n = c.loop-event.event-index in
+    let events = c.as_slice-events.result.now in
+    let way = c.loop-event.way.value in
+    let ss = streams_of way.parts.items in
+    let first = hand_of c.args.reuse.now c.args.memo.now in
+    let now = hand_of c.loop-event.reuse c.loop-event.memo in
+    let e = c.event-item.result in
+    let old = c.deref_mut.result.now in
+    let next = c.go_on.new.way in
+    let later = hand_of c.go_on.new.reuse c.go_on.new.memo in
+    λ h ready.
+    let turn = along_to s i k (done_to events n) (rest_from events n) (event_of e ∷ rest_from events (n + 1)) ss first now
+    (next_event events n e (omega arith) c.event-item.is) (inv.counted h ready) in
+    let on = gone_as (λ a. setting_of a globals) i (event_of e) (streams_of old.parts.items) (streams_of next.parts.items) now later c.in_ok-go_on.field-0 (gone.Not c.in-Not.lost)
+    inv.truth c.in_ok-go_on.ensures.counts c.in-Not.is in
+    on first k (done_to events n) (rest_from events (n + 1))
+    (along_with s i k (done_to events n) (event_of e ∷ rest_from events (n + 1)) old way first now c.deref_mut.ensures.value turn)
+
+pub follow-returns-in-Refused-clause-counts : goal.follow-returns-in-Refused-clause-counts
+follow-returns-in-Refused-clause-counts g t c =
+    let truth = (g.W.World.state c.args.world.now).truth in
+    let globals = c.args.globals.now in
+    let s = setting_of truth globals in
+    let i = instance_of (call_of c.args.call.now) c.args.below (past_of globals) in
+    let k = kept_in c.args.kept.now in
+    let inv = c.loop-event.invariant in
+    let n = c.loop-event.event-index in
+    let events = c.as_slice-events.result.now in
+    let way = c.loop-event.way.value in
+    let ss = streams_of way.parts.items in
+    let first = hand_of c.args.reuse.now c.args.memo.now in
+    let now = hand_of c.loop-event.reuse c.loop-event.memo in
+    let e = c.event-item.result in
+    let old = c.deref_mut.result.now in
+    let next = c.go_on.new.way in
+    let later = hand_of c.go_on.new.reuse c.go_on.new.memo in
+    λ h ready.
+    let turn = along_to s i k (done_to events n) (rest_from events n) (event_of e ∷ rest_from events (n + 1)) ss first now
+    (next_event events n e (omega arith) c.event-item.is) (inv.counted h ready) in
+    let on = gone_as (λ a. setting_of a globals) i (event_of e) (streams_of old.parts.items) (streams_of next.parts.items) now later c.in_ok-go_on.field-0 (gone.Refused c.in-Refused.last)
+    inv.truth c.in_ok-go_on.ensures.counts c.in-Refused.is in
+    on first k (done_to events n) (rest_from events (n + 1))
+    (along_with s i k (done_to events n) (event_of e ∷ rest_from events (n + 1)) old way first now c.deref_mut.ensures.value turn)
+
+pub follow-returns-clause-counts : goal.follow-returns-clause-counts
+follow-returns-clause-counts g t c =
+    let truth = (g.W.World.state c.args.world.now).truth in
+    let globals = c.args.globals.now in
+    let s = setting_of truth globals in
+    let i = instance_of (call_of c.args.call.now) c.args.below (past_of globals) in
+    let k = kept_in c.args.kept.now in
+    let inv = c.loop-event.invariant in
+    let n = c.loop-event.event-index in
+    let events = c.as_slice-events.result.now in
+    let way = c.loop-event.way.value in
+    let ss = streams_of way.parts.items in
+    let first = hand_of c.args.reuse.now c.args.memo.now in
+    let now = hand_of c.loop-event.reuse c.loop-event.memo in
+    λ h ready. along_whole s i k (done_to events n) (rest_from events n) ss first now (rest_none events n (omega arith)) (inv.counted h ready)
+
+pub go_on-returns-in-Holds-clause-counts : goal.go_on-returns-in-Holds-clause-counts
+go_on-returns-in-Holds-clause-counts g t c =
+    let truth = (g.W.World.state c.args.world.now).truth in
+    let globals = c.args.globals.now in
+    let s = setting_of truth globals in
+    let i = instance_of (call_of c.args.call.now) c.args.below (past_of globals) in
+    let way = c.args.way.now in
+    let e = event_of c.args.event.now in
+    let x = c.in_ok-next_done.field-0 in
+    let n : IsNext x i.call i.below (streams_of way.parts.items) e = rw (sym c.as_slice.ensures.value) c.in_ok-next_done.ensures in
+    let now = hand_of c.args.reuse.now c.args.memo.now in
+    counts_held s i e (streams_of way.parts.items) now x n c.in-Holds.is
+
+pub go_on-returns-in-Differs-clause-counts : goal.go_on-returns-in-Differs-clause-counts
+go_on-returns-in-Differs-clause-counts g t c =
+    let truth = (g.W.World.state c.args.world.now).truth in
+    let globals = c.args.globals.now in
+    let s = setting_of truth globals in
+    let i = instance_of (call_of c.args.call.now) c.args.below (past_of globals) in
+    let way = c.args.way.now in
+    let e = event_of c.args.event.now in
+    let x = c.in_ok-next_done.field-0 in
+    let n : IsNext x i.call i.below (streams_of way.parts.items) e = rw (sym c.as_slice.ensures.value) c.in_ok-next_done.ensures in
+    let now = hand_of c.args.reuse.now c.args.memo.now in
+    counts_other s i e (streams_of way.parts.items) now x n c.in-Differs.is
+
+pub go_on-returns-in-Enter-clause-counts : goal.go_on-returns-in-Enter-clause-counts
+go_on-returns-in-Enter-clause-counts g t c =
+    let truth = (g.W.World.state c.args.world.now).truth in
+    let globals = c.args.globals.now in
+    let s = setting_of truth globals in
+    let i = instance_of (call_of c.args.call.now) c.args.below (past_of globals) in
+    let way = c.args.way.now in
+    let e = event_of c.args.event.now in
+    let x = c.in_ok-next_done.field-0 in
+    let n : IsNext x i.call i.below (streams_of way.parts.items) e = rw (sym c.as_slice.ensures.value) c.in_ok-next_done.ensures in
+    let now = hand_of c.args.reuse.now c.args.memo.now in
+    if_ok c.take_entered.result c.take_entered.ensures (λ l h.
+    counts_entered s i e way c.take_entered.new.way now (hand_of c.means-came.new.reuse c.means-came.new.memo) x c.in-Enter.inner c.as_call-call.result.now
+    c.in-Enter.left c.means-came.result l c.as_call-call.ensures n c.in-Enter.is c.means-came.ensures.counts c.means-came.ensures.meaning h)
+
+pub go_on-returns-in-Refer-clause-counts : goal.go_on-returns-in-Refer-clause-counts
+go_on-returns-in-Refer-clause-counts g t c =
+    let truth = (g.W.World.state c.args.world.now).truth in
+    let globals = c.args.globals.now in
+    let s = setting_of truth globals in
+    let i = instance_of (call_of c.args.call.now) c.args.below (past_of globals) in
+    let way = c.args.way.now in
+    let e = event_of c.args.event.now in
+    let x = c.in_ok-next_done.field-0 in
+    let n : IsNext x i.call i.below (streams_of way.parts.items) e = rw (sym c.as_slice.ensures.value) c.in_ok-next_done.ensures in
+    let now = hand_of c.args.reuse.now c.args.memo.now in
+    if_ok c.take_reference.result c.take_reference.ensures (λ l h.
+    counts_referred s i e way c.take_reference.new.way now (hand_of c.refer-came.new.reuse c.refer-came.new.memo) x c.in-Refer.needed c.deref.result.now
+    c.in-Refer.left c.refer-came.result l c.deref.ensures n c.in-Refer.is c.refer-came.ensures.counts c.refer-came.ensures.idle
+    (if_ok c.refer-came.result c.refer-came.ensures.settles (λ r m. m.gives)) h)
+
+pub serve-returns-in-None-clause-counts : goal.serve-returns-in-None-clause-counts
+serve-returns-in-None-clause-counts g t c =
+    let truth = (g.W.World.state c.args.world.now).truth in
+    let globals = c.args.globals.now in
+    let s = setting_of truth globals in
+    let i = instance_of (call_of c.args.call.now) c.args.below (past_of globals) in
+    let inv = c.loop-found.invariant in
+    let there = (g.W.World.state c.loop-found.world).truth in
+    let first = hand_of c.args.reuse.now c.args.memo.now in
+    let now = hand_of c.loop-found.reuse c.loop-found.memo in
+    let from = c.loop-found.from in
+    let P : Ask → Type 0 = λ a. PassedOver a i.call i.below c.loop-found.reuse from None in
+    let passed = subst P inv.truth (none_of (λ o. PassedOver there i.call i.below c.loop-found.reuse from o) c.in_ok-find.field-0 c.in-None.is c.in_ok-find.ensures.complete) in
+    λ h ready.
+    let t = inv.tried h ready in
+    (front_judged s i first now c.find.new.self from c.find.ensures.judges t, tried_all s i first now from passed t)
+
+pub serve-returns-in-Some-2-clause-counts : goal.serve-returns-in-Some-2-clause-counts
+serve-returns-in-Some-2-clause-counts g t c =
+    let truth = (g.W.World.state c.args.world.now).truth in
+    let globals = c.args.globals.now in
+    let s = setting_of truth globals in
+    let i = instance_of (call_of c.args.call.now) c.args.below (past_of globals) in
+    let inv = c.loop-found.invariant in
+    let there = (g.W.World.state c.loop-found.world).truth in
+    let first = hand_of c.args.reuse.now c.args.memo.now in
+    let now = hand_of c.loop-found.reuse c.loop-found.memo in
+    let from = c.loop-found.from in
+    let found = c.in-Some.found in
+    let here = c.find.ensures.truth ∙ inv.truth in
+    let P : Ask → Type 0 = λ a. PassedOver a i.call i.below c.loop-found.reuse from (Some found) in
+    let passed = subst P inv.truth (same_of (λ o. PassedOver there i.call i.below c.loop-found.reuse from o) c.in_ok-find.field-0 found c.in-Some.is c.in_ok-find.ensures.complete) in
+    let stands = some_of (λ f. IsThere c.loop-found.reuse f.next f.record.value) c.in_ok-find.field-0 found c.in-Some.is c.in_ok-find.ensures.stands in
+    let mid = hand_of c.find.new.self c.loop-found.memo in
+    let later = hand_of c.follow-served.new.reuse c.follow-served.new.memo in
+    let k = kept_in found.record.value in
+    let Q : Record → Type 0 = λ r. IfOk c.follow-served.result (λ v. OfRun (setting_of (g.W.World.state c.find.new.world).truth globals) i mid
+    (CountsFollowed v (setting_of (g.W.World.state c.find.new.world).truth globals) i (kept_in r) mid later)) in
+    let R : Ask → Type 0 = λ a. IfOk c.follow-served.result (λ v. OfRun (setting_of a globals) i mid (CountsFollowed v (setting_of a globals) i k mid later)) in
+    let followed = subst R here (subst Q c.deref.ensures c.follow-served.ensures.counts) in
+    let v = c.in-Some-2.served in
+    let tells = c.in_ok-tried-in-Some.ensures in
+    let is = some_of (λ x. c.follow-served.result ≡ Ok x) c.in_ok-tried-in-Some.field-0 v c.in-Some-2.is tells.served in
+    let answer = some_of IsAnswer c.in_ok-tried-in-Some.field-0 v c.in-Some-2.is tells.answer in
+    let may : MayServe there i.call i.below k = some_of (λ f. MayServe there i.call i.below (kept_in f.record.value)) c.in_ok-find.field-0 found c.in-Some.is c.in_ok-find.ensures.serves in
+    let A : Ask → Type 0 = λ a. AsksHold a k.trace in
+    let asks = subst A inv.truth may.asks in
+    let K : Result Served Memory → Type 0 = λ r. IsKeptToo r later.reuse.kept.records.items c.tried.new.reuse.kept.records.items found.record in
+    λ h ready.
+    let t = inv.tried h ready in
+    let ready_now = (front_judged s i first now c.find.new.self from c.find.ensures.judges t).ready in
+    let went = as_served (λ x. OfRun s i mid (CountsFollowed x s i k mid later)) v c.follow-served.result is followed h ready_now in
+    answered s i first now later c.find.new.self c.tried.new.reuse from found v c.find.ensures.judges stands h t went asks answer (subst K is tells.kept) tells.last tells.steps
+
+pub means-returns-in-As-clause-counts : goal.means-returns-in-As-clause-counts
+means-returns-in-As-clause-counts g t c =
+    let truth = (g.W.World.state c.args.world.now).truth in
+    let globals = c.args.globals.now in
+    let s = setting_of truth globals in
+    let past = past_of globals in
+    let i = instance_of (call_of c.args.call.now) (c.args.levels - 1) past in
+    let first = hand_of c.args.reuse.now c.args.memo.now in
+    let later = hand_of c.serve.new.reuse c.serve.new.memo in
+    let room : suc (c.args.levels - 1) ≡ c.args.levels = omega arith in
+    let P : Served → Type 0 = λ v. OfRun s i first (CountsServed v s i first later) in
+    means_served s i c.args.levels first later room (subst P c.in-As.is c.in_ok-outcome.ensures.counts)
+
+pub means-returns-in_ok-ended-in-Not-clause-counts : goal.means-returns-in_ok-ended-in-Not-clause-counts
+means-returns-in_ok-ended-in-Not-clause-counts g t c =
+    let truth = (g.W.World.state c.args.world.now).truth in
+    let globals = c.args.globals.now in
+    let s = setting_of truth globals in
+    let past = past_of globals in
+    let i = instance_of (call_of c.args.call.now) (c.args.levels - 1) past in
+    let first = hand_of c.args.reuse.now c.args.memo.now in
+    let mid = hand_of c.serve.new.reuse c.serve.new.memo in
+    let later = hand_of c.run_call.new.reuse c.run_call.new.memo in
+    let last = hand_of c.keep_ended.new.reuse c.run_call.new.memo in
+    let room : suc (c.args.levels - 1) ≡ c.args.levels = omega arith in
+    let P : Served → Type 0 = λ v. OfRun s i first (CountsServed v s i first mid) in
+    let served_so = subst P c.in-Not.is c.in_ok-outcome.ensures.counts in
+    let ended = c.in_ok-ended-in-Not.ended in
+    let R : Ask → Type 0 = λ a. OfRun (setting_of a globals) i mid (CountedRun (setting_of a globals) i c.in-Not.lost mid later) in
+    let M : Ask → Type 0 = λ a. IsMadeOf (setting_of a globals) i ended.ran in
+    let runs = subst R c.serve.ensures.truth c.in_ok-ended-in-Not.ensures.counts in
+    let made = subst M c.serve.ensures.truth c.in_ok-ended-in-Not.ensures.made_of in
+    on_all c.keep_ended.result c.keep_ended.ensures.kept (λ kept.
+    means_served s i c.args.levels first last room (λ h ready.
+    let x = served_so h ready in
+    run_counted s i c.in-Not.lost first mid later c.keep_ended.new.reuse ended.ran h x (runs h (served_ready s i c.in-Not.lost first mid x)) made kept
+    c.keep_ended.ensures.last c.keep_ended.ensures.steps))
+
+pub need-returns-in-Some-clause-counts : goal.need-returns-in-Some-clause-counts
+need-returns-in-Some-clause-counts g t c =
+    let truth = (g.W.World.state c.args.world.now).truth in
+    let globals = c.args.globals.now in
+    let s = setting_of truth globals in
+    let past = past_of globals in
+    let now = hand_of c.args.reuse.now c.args.memo.now in
+    let name = c.args.needed.now.name in
+    let place = place_of c.args.needed.now.place in
+    let l = c.args.lost.now in
+    let known = sym (c.in_ok-referred.ensures.lost (lost_refusal s past l c.requires.lost)) ∙ ap is_some c.in-Some.is in
+    need_known s past l name c.args.levels place now known
+
+pub need-returns-in-None-clause-counts : goal.need-returns-in-None-clause-counts
+need-returns-in-None-clause-counts g t c =
+    let truth = (g.W.World.state c.args.world.now).truth in
+    let globals = c.args.globals.now in
+    let s = setting_of truth globals in
+    let past = past_of globals in
+    let now = hand_of c.args.reuse.now c.args.memo.now in
+    let name = c.args.needed.now.name in
+    let place = place_of c.args.needed.now.place in
+    let l = c.args.lost.now in
+    let known = sym (c.in_ok-referred.ensures.lost (lost_refusal s past l c.requires.lost)) ∙ ap is_some c.in-None.is in
+    on_all c.refer.result c.refer.ensures.counts (λ over. need_other s past l name c.args.levels place now (hand_of c.refer.new.reuse c.refer.new.memo) known over)
+
+pub refer-returns-in-Given-clause-counts : goal.refer-returns-in-Given-clause-counts
+refer-returns-in-Given-clause-counts g t c =
+    let truth = (g.W.World.state c.args.world.now).truth in
+    let globals = c.args.globals.now in
+    let s = setting_of truth globals in
+    let past = past_of globals in
+    let name = c.args.needed.now.name in
+    let place = place_of c.args.needed.now.place in
+    let levels = c.args.levels in
+    let old = entries_of c.args.memo.now in
+    let looked = looked_given c.in_ok-given.field-0 c.in-Given.given globals name levels old (entries_of c.look_up.new.memo) c.in_ok-given.ensures.counts c.in-Given.is in
+    (looked truth c.args.reuse.now place c.requires.remembers).0
+
+pub refer-returns-in-Given-clause-idle : goal.refer-returns-in-Given-clause-idle
+refer-returns-in-Given-clause-idle g t c =
+    let truth = (g.W.World.state c.args.world.now).truth in
+    let globals = c.args.globals.now in
+    let s = setting_of truth globals in
+    let past = past_of globals in
+    let name = c.args.needed.now.name in
+    let place = place_of c.args.needed.now.place in
+    let levels = c.args.levels in
+    let old = entries_of c.args.memo.now in
+    let looked = looked_given c.in_ok-given.field-0 c.in-Given.given globals name levels old (entries_of c.look_up.new.memo) c.in_ok-given.ensures.counts c.in-Given.is in
+    (looked truth c.args.reuse.now place c.requires.remembers).1
+
+pub refer-returns-in_ok-evaluation-in-Evaluated-clause-counts : goal.refer-returns-in_ok-evaluation-in-Evaluated-clause-counts
+refer-returns-in_ok-evaluation-in-Evaluated-clause-counts g t c =
+    let truth = (g.W.World.state c.args.world.now).truth in
+    let globals = c.args.globals.now in
+    let s = setting_of truth globals in
+    let past = past_of globals in
+    let name = c.args.needed.now.name in
+    let place = place_of c.args.needed.now.place in
+    let levels = c.args.levels in
+    let old = entries_of c.args.memo.now in
+    let refers : Refers c.in_ok-given.field-0 globals name levels old (entries_of c.look_up.new.memo) = c.in_ok-given.ensures.refers in
+    let node = c.in-Evaluated.element in
+    let anew = refers_evaluated c.in_ok-given.field-0 node globals name levels old (entries_of c.look_up.new.memo) truth refers c.in-Evaluated.is c.requires.remembers in
+    let evaluation = c.in_ok-evaluation-in-Evaluated in
+    let under = c.as_slice.ensures.value ∙ ap (λ (e : Evaluation). e.under_way.items) c.deref.ensures ∙ evaluation.ensures.under_way in
+    let call = ap (λ (e : Evaluation). call_of e.call) c.deref-in-Evaluated.ensures ∙ evaluation.ensures.call in
+    let aside = map entry_of evaluation.evaluation.value.aside.items in
+    let new = entries_of c.means-came.new.memo in
+    let last = entries_of c.evaluated.new.memo in
+    let evaluates = evaluates_as c.means-came.result c.evaluated.result levels aside new last evaluation.ensures.name evaluation.ensures.element c.evaluated.ensures in
+    counts_evaluated s past name c.as_slice.result.now node place levels (call_of c.deref-in-Evaluated.result.now.call) aside old (entries_of c.evaluation_of.new.memo) new last
+    c.args.reuse.now c.means-came.new.reuse c.means-came.result c.evaluated.result under call anew.0 (aside_of anew.1 evaluation.ensures.aside)
+    c.means-came.ensures.counts c.means-came.ensures.meaning evaluates
+
+pub refer-returns-in_ok-evaluation-in-Evaluated-clause-idle : goal.refer-returns-in_ok-evaluation-in-Evaluated-clause-idle
+refer-returns-in_ok-evaluation-in-Evaluated-clause-idle g t c =
+    let truth = (g.W.World.state c.args.world.now).truth in
+    let globals = c.args.globals.now in
+    let s = setting_of truth globals in
+    let past = past_of globals in
+    let name = c.args.needed.now.name in
+    let place = place_of c.args.needed.now.place in
+    let levels = c.args.levels in
+    let old = entries_of c.args.memo.now in
+    let refers : Refers c.in_ok-given.field-0 globals name levels old (entries_of c.look_up.new.memo) = c.in_ok-given.ensures.refers in
+    let node = c.in-Evaluated.element in
+    let anew = refers_evaluated c.in_ok-given.field-0 node globals name levels old (entries_of c.look_up.new.memo) truth refers c.in-Evaluated.is c.requires.remembers in
+    let evaluation = c.in_ok-evaluation-in-Evaluated in
+    let under = c.as_slice.ensures.value ∙ ap (λ (e : Evaluation). e.under_way.items) c.deref.ensures ∙ evaluation.ensures.under_way in
+    let call = ap (λ (e : Evaluation). call_of e.call) c.deref-in-Evaluated.ensures ∙ evaluation.ensures.call in
+    let aside = map entry_of evaluation.evaluation.value.aside.items in
+    let new = entries_of c.means-came.new.memo in
+    let last = entries_of c.evaluated.new.memo in
+    let evaluates = evaluates_as c.means-came.result c.evaluated.result levels aside new last evaluation.ensures.name evaluation.ensures.element c.evaluated.ensures in
+    evaluated_idle c.means-came.result c.evaluated.result name node levels aside new last (for_reference s (entered s levels) past name 0 place) evaluates
+
+pub run_call-returns-in-Done-clause-counts : goal.run_call-returns-in-Done-clause-counts
+run_call-returns-in-Done-clause-counts g t c =
+    let truth = (g.W.World.state c.args.world.now).truth in
+    let prog = g.E.Engine.progress in
+    let globals = c.args.globals.now in
+    let past = past_of globals in
+    let below = c.args.below in
+    let l = level_of truth globals below (call_of c.args.call.now) in
+    let inv = c.loop-standing.invariant in
+    let old = c.deref_mut.result.now in
+    let new = c.advance.new.standing in
+    let gift = gift_of old.given in
+    let ss = streams_of new.parts.items in
+    let stands : Stands l (prog old.run) gift ss = rw (c.advance.ensures.parts, c.deref_mut.ensures.value) inv.stands in
+    let ran = c.in-Done.ran.value in
+    let adv : Advances truth gift (prog old.run) (prog new.run) (Ok (Done ran)) = stepped gift (prog old.run) (prog new.run) l.call below inv.truth c.in-Done.is c.in_ok-inner.ensures.steps in
+    λ h ready.
+    let X : Running l c.args.lost.now (prog old.run).left (received (prog old.run).waits (prog old.run).going (prog old.run).supplies gift)
+    (hand_of c.args.reuse.now c.args.memo.now) (hand_of c.loop-standing.reuse c.loop-standing.memo) = rw c.deref_mut.ensures.value (inv.running h ready) in
+    running_done l c.args.lost.now (hand_of c.args.reuse.now c.args.memo.now) (hand_of c.loop-standing.reuse c.loop-standing.memo) (prog old.run) (prog new.run) gift ss ran stands adv X
+
+pub run_call-returns-in-Done-clause-made_of : goal.run_call-returns-in-Done-clause-made_of
+run_call-returns-in-Done-clause-made_of g t c =
+    let truth = (g.W.World.state c.args.world.now).truth in
+    let prog = g.E.Engine.progress in
+    let globals = c.args.globals.now in
+    let past = past_of globals in
+    let below = c.args.below in
+    let l = level_of truth globals below (call_of c.args.call.now) in
+    let inv = c.loop-standing.invariant in
+    let old = c.deref_mut.result.now in
+    let new = c.advance.new.standing in
+    let gift = gift_of old.given in
+    let ss = streams_of new.parts.items in
+    let stands : Stands l (prog old.run) gift ss = rw (c.advance.ensures.parts, c.deref_mut.ensures.value) inv.stands in
+    let ran = c.in-Done.ran.value in
+    let adv : Advances truth gift (prog old.run) (prog new.run) (Ok (Done ran)) = stepped gift (prog old.run) (prog new.run) l.call below inv.truth c.in-Done.is c.in_ok-inner.ensures.steps in
+    done_same l (prog old.run) (prog new.run) gift ss ran stands adv
+
+pub run_call-returns-in-Failed-clause-counts : goal.run_call-returns-in-Failed-clause-counts
+run_call-returns-in-Failed-clause-counts g t c =
+    let truth = (g.W.World.state c.args.world.now).truth in
+    let prog = g.E.Engine.progress in
+    let globals = c.args.globals.now in
+    let past = past_of globals in
+    let below = c.args.below in
+    let l = level_of truth globals below (call_of c.args.call.now) in
+    let inv = c.loop-standing.invariant in
+    let old = c.deref_mut.result.now in
+    let new = c.advance.new.standing in
+    let gift = gift_of old.given in
+    let ss = streams_of new.parts.items in
+    let stands : Stands l (prog old.run) gift ss = rw (c.advance.ensures.parts, c.deref_mut.ensures.value) inv.stands in
+    let fault = c.in-Failed.fault.value in
+    let adv : Advances truth gift (prog old.run) (prog new.run) (Err fault) = stepped gift (prog old.run) (prog new.run) l.call below inv.truth c.in-Failed.is c.in_ok-inner.ensures.steps in
+    λ h ready.
+    let X : Running l c.args.lost.now (prog old.run).left (received (prog old.run).waits (prog old.run).going (prog old.run).supplies gift)
+    (hand_of c.args.reuse.now c.args.memo.now) (hand_of c.loop-standing.reuse c.loop-standing.memo) = rw c.deref_mut.ensures.value (inv.running h ready) in
+    running_failed l c.args.lost.now (hand_of c.args.reuse.now c.args.memo.now) (hand_of c.loop-standing.reuse c.loop-standing.memo) (prog old.run) (prog new.run) gift ss fault c.in_ok-outcome-in-Failed.outcome.value stands adv c.in_ok-outcome-in-Failed.ensures X
+
+pub run_call-returns-in-Failed-clause-made_of : goal.run_call-returns-in-Failed-clause-made_of
+run_call-returns-in-Failed-clause-made_of g t c =
+    let truth = (g.W.World.state c.args.world.now).truth in
+    let prog = g.E.Engine.progress in
+    let globals = c.args.globals.now in
+    let past = past_of globals in
+    let below = c.args.below in
+    let l = level_of truth globals below (call_of c.args.call.now) in
+    let inv = c.loop-standing.invariant in
+    let old = c.deref_mut.result.now in
+    let new = c.advance.new.standing in
+    let gift = gift_of old.given in
+    let ss = streams_of new.parts.items in
+    let stands : Stands l (prog old.run) gift ss = rw (c.advance.ensures.parts, c.deref_mut.ensures.value) inv.stands in
+    let fault = c.in-Failed.fault.value in
+    let adv : Advances truth gift (prog old.run) (prog new.run) (Err fault) = stepped gift (prog old.run) (prog new.run) l.call below inv.truth c.in-Failed.is c.in_ok-inner.ensures.steps in
+    failed_same l (prog old.run) (prog new.run) gift ss fault c.in_ok-outcome-in-Failed.outcome.value stands adv c.in_ok-outcome-in-Failed.ensures
+
+pub means-returns-then-levels-eq0-clause-counts : goal.means-returns-then-levels-eq0-clause-counts
+means-returns-then-levels-eq0-clause-counts g t c =
+    let globals = c.args.globals.now in
+    on_any c.too_deep.result (means_none (setting_of (g.W.World.state c.args.world.now).truth globals) (past_of globals) (call_of c.args.call.now) c.args.levels
+    (hand_of c.args.reuse.now c.args.memo.now) (omega arith))

@@ -10,7 +10,11 @@ use Rattle.xt_driver.specs.Referring.{entries_of}
 use Rattle.xt_driver.specs.Stands.{level_of, Stands, work_left}
 use Rattle.xt_driver.proofs.Onward.{Onward}
 use Rattle.xt_driver.specs.Followed.{instance_of, IsFollowed}
-use Rattle.xt_driver.proofs.Along.{rest_from}
+use Rattle.xt_driver.specs.Counted.{hand_of, CountedAlong, OfRun}
+use Rattle.xt_driver.proofs.Along.{rest_from, done_to}
+use Rattle.xt_driver.proofs.Trying.{Tried}
+use Rattle.xt_driver.proofs.Running.{Running}
+use Rattle.xt_engine.specs.Progress.{received}
 use Rattle.xt_driver.proofs.drive.+drive.Given as goal
 
 abbrev pub decreases-means : goal.decreases-means
@@ -40,6 +44,8 @@ invariant-serve-loop-found g l =
     let truth = (g.W.World.state l.fn.world).truth in
     record {
       keeps : Keeps (setting_of truth l.globals) (past_of l.globals) (entries_of l.fn.memo) (entries_of l.memo);
+      tried : OfRun (setting_of truth l.globals) (instance_of (call_of l.call) l.below (past_of l.globals)) (hand_of l.fn.reuse l.fn.memo)
+          (Tried (setting_of truth l.globals) (instance_of (call_of l.call) l.below (past_of l.globals)) (hand_of l.fn.reuse l.fn.memo) (hand_of l.reuse l.memo) l.from);
       sure : IsSure truth l.reuse;
       truth : (g.W.World.state l.world).truth ≡ truth;
       name : g.W.World.name l.world ≡ g.W.World.name l.fn.world;
@@ -58,6 +64,9 @@ invariant-follow-loop-event g l =
     record {
       followed : IsFollowed (setting_of truth l.globals) (instance_of (call_of l.call) l.below (past_of l.globals)) (entries_of l.fn.memo) (entries_of l.memo) way.spare (kept_in l.kept) (streams_of way.parts.items)
           (rest_from l.events l.event-index);
+      counted : OfRun (setting_of truth l.globals) (instance_of (call_of l.call) l.below (past_of l.globals)) (hand_of l.fn.reuse l.fn.memo)
+          (CountedAlong (setting_of truth l.globals) (instance_of (call_of l.call) l.below (past_of l.globals)) (kept_in l.kept) (done_to l.events l.event-index)
+          (rest_from l.events l.event-index) (streams_of way.parts.items) (hand_of l.fn.reuse l.fn.memo) (hand_of l.reuse l.memo));
       sure : IsSure truth l.reuse;
       truth : (g.W.World.state l.world).truth ≡ truth;
       name : g.W.World.name l.world ≡ g.W.World.name l.fn.world;
@@ -72,6 +81,10 @@ invariant-run_call-loop-standing g l =
     record {
       stands : Stands (level_of truth l.globals l.below (call_of l.call)) (g.E.Engine.progress s.run) (gift_of s.given) (streams_of s.parts.items);
       onward : Onward (level_of truth l.globals l.below (call_of l.call)) (entries_of l.fn.memo) (entries_of l.memo) s.spare (g.E.Engine.progress s.run) (gift_of s.given);
+      running : OfRun (setting_of truth l.globals) (instance_of (call_of l.call) l.below (past_of l.globals)) (hand_of l.fn.reuse l.fn.memo)
+          (Running (level_of truth l.globals l.below (call_of l.call)) l.lost (g.E.Engine.progress s.run).left
+          (received (g.E.Engine.progress s.run).waits (g.E.Engine.progress s.run).going (g.E.Engine.progress s.run).supplies (gift_of s.given))
+          (hand_of l.fn.reuse l.fn.memo) (hand_of l.reuse l.memo));
       sure : IsSure truth l.reuse;
       truth : (g.W.World.state l.world).truth ≡ truth;
       name : g.W.World.name l.world ≡ g.W.World.name l.fn.world;

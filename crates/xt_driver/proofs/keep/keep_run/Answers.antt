@@ -16,3 +16,9 @@ returns-clause-sure c =
     on_all c.keep.result c.keep.ensures.sure (λ sure ask before asks.
     let P : List (Event NodeRef) → Type 0 = λ es. AsksHold ask es in
     sure ask before (subst P (ap (λ (k : Kept NodeRef). k.trace) (sym same)) asks))
+
+pub returns-clause-kept : goal.returns-clause-kept
+returns-clause-kept c =
+    let same = ap kept_in c.in_ok-shared.ensures.ok ∙ c.new-kept.ensures ∙ ap (λ k. kept_with k (ran_of c.into_inner-ran.result)) c.in_ok-call.ensures
+    ∙ ap (λ r. kept_with (call_of c.args.call.now) (ran_of r)) c.into_inner-ran.ensures in
+    on_all c.keep.result c.keep.ensures.kept (λ kept. (c.in_ok-shared.shared, kept, same))

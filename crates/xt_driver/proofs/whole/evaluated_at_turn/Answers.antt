@@ -11,7 +11,9 @@ use Rattle.xt_driver.specs.Referring.{entries_of}
 use Rattle.xt_driver.proofs.NoHoles.{meaning_whole}
 use Rattle.xt_driver.proofs.Standing.{if_ok, on_ok}
 use Rattle.xt_driver.proofs.Coming.{of_turned}
+use Rattle.xt_driver.specs.Counted.{hand_of}
 use Rattle.xt_driver.proofs.Turning.{evaluated_turns}
+use Rattle.xt_driver.proofs.Wholes.{turn_with}
 use Rattle.xt_driver.proofs.whole.evaluated_at_turn.Goals as goal
 
 pub first_means-came-requires-clause-remembers : goal.first_means-came-requires-clause-remembers
@@ -41,3 +43,14 @@ returns-clause-turns g c =
 
 pub returns-clause-sure : goal.returns-clause-sure
 returns-clause-sure g c = on_ok c.at_turn.result c.at_turn.ensures (λ t h. of_turned t c.first_means-came.result h c.first_means-came.ensures.sure)
+
+pub returns-clause-counts : goal.returns-clause-counts
+returns-clause-counts g c =
+    let globals = c.args.globals.now in
+    let s = setting_of (g.W.World.state c.args.world.now).truth globals in
+    let under = c.as_slice.ensures.value ∙ c.in_ok-under_way.ensures ∙ ap (λ n. n ∷ globals.under_way.now) c.in_ok-name.ensures in
+    let call = c.global_call-call.ensures ∙ ap (global_call globals.root c.args.global.now.element) c.nowhere.ensures in
+    on_ok c.at_turn.result c.at_turn.ensures (λ t h.
+    turn_with s (past_of globals) (named_of c.args.global.now) c.args.levels c.as_slice.result.now (call_of c.global_call-call.result)
+    (hand_of c.args.reuse.now c.args.memo.now) (hand_of c.first_means-came.new.reuse c.first_means-came.new.memo) under call
+    (of_turned t c.first_means-came.result h c.first_means-came.ensures.counts))

@@ -2,9 +2,15 @@ use Rattle.std.proofs.Common.{ap, ◌∙◌, []}
 use Rattle.spec_run.specs.Meaning as meant
 use Rattle.xt_driver.specs.View.{setting_in}
 use Rattle.xt_driver.proofs.Standing.{if_ok}
+use Rattle.xt_driver.proofs.Wholes.{whole_at}
 use Rattle.xt_driver.proofs.whole.run.Goals as goal
 
 pub returns-clause-run : goal.returns-clause-run
 returns-clause-run g c =
     let s = setting_in (g.W.World.state c.args.world.now).truth c.args.root c.args.globals.now in
     if_ok c.run_in.result c.run_in.ensures.run (λ w h. h ∙ ap (λ n. meant.run s n s.globals [] [] (meant.root_call s)) c.levels_of_a_run.ensures)
+
+pub returns-clause-counts : goal.returns-clause-counts
+returns-clause-counts g c =
+    let s = setting_in (g.W.World.state c.args.world.now).truth c.args.root c.args.globals.now in
+    whole_at s c.levels_of_a_run.result c.run_in.result c.args.reuse.now c.run_in.new.reuse c.levels_of_a_run.ensures c.run_in.ensures.counts

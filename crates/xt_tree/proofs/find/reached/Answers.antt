@@ -1,4 +1,4 @@
-use Rattle.std.proofs.Common.{◌≡◌, ◌+◌, ◌-◌, ◌/◌, ◌<◌, length, arith, sym, ap, ◌∙◌}
+use Rattle.std.proofs.Common.{◌≡◌, ◌+◌, ◌-◌, ◌<◌, length, arith, sym, ap, ◌∙◌}
 use Rattle.xt_tree.specs.Keys.{key_by}
 use Rattle.xt_tree.specs.View.{tree_of}
 use Rattle.xt_tree.proofs.Views.{view-Node, key-at}

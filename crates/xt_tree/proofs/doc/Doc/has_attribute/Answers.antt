@@ -1,4 +1,4 @@
-use Rattle.std.proofs.Common.{◌≡◌, ◌==◌, true, false, Some, ◌∙◌, sym, ap, is_some}
+use Rattle.std.proofs.Common.{◌≡◌, ◌==◌, true, false, ◌∙◌, sym, ap, is_some}
 use Rattle.std.specs.Option.{option_and_then}
 use Rattle.spec_document.specs.Place.{at_number, attributes_in, attributes_of}
 use Rattle.xt_tree.specs.View.{tree_of, written_of}
@@ -25,7 +25,6 @@ returns-in-Some c =
     let d = c.args.self.now in
     let number = c.args.id.number in
     let apart : (d.root == number) ≡ false = ap (λ e. e.root == number) (sym c.self.view_is) ∙ sym c.eq.ensures ∙ c.if-eq.false in
-    c.is_some.ensures ∙ sym (some_mapped (λ a. written_of a.now) c.attribute_at.result) ∙ ap is_some c.attribute_at.ensures
-    ∙ ap (λ x. is_some (at_number c.args.number (attributes_in (Some x)))) c.content.ensures
+    c.is_some.ensures ∙ sym (some_mapped (λ a. written_of a.now) c.attribute.result) ∙ ap is_some c.attribute.ensures
     ∙ sym (ap is_some (tree_there (λ o. at_number c.args.number (attributes_in o)) d number (tree_of c.in-Some.node.now) apart
     (sym c.in-Some.ensures)))

@@ -1,6 +1,5 @@
-use Rattle.std.proofs.Common.{◌∙◌, ap, Some, Result, Ok, Err, IfOk}
+use Rattle.std.proofs.Common.{◌∙◌, ap, Result, Ok, Err, IfOk}
 use Rattle.spec_document.specs.Place.{name_by, scope_at}
-use Rattle.xt_tree.specs.View.{content_of}
 use Rattle.xt_tree.proofs.doc.Doc.resolved_name.Goals as goal
 
 more_known : {A E : Type 0} (P Q : A → Type 0) (r : Result A E) → ((a : A) → P a → Q a) → IfOk r P → IfOk r Q
@@ -10,9 +9,6 @@ more_known P Q (Err e) h p = p
 pub returns-in-None : goal.returns-in-None
 returns-in-None c x e = ap (λ o. name_by o (scope_at x)) (c.in-None.ensures x e)
 
-pub returns-in_ok-scope-in-Some : goal.returns-in_ok-scope-in-Some
-returns-in_ok-scope-in-Some c =
-    more_known _ _ c.content_name.result
-    (λ name known x e.
-    known ∙ ap (name_by (Some (content_of c.in-Some.content.now))) (c.in_ok-scope-in-Some.ensures x e) ∙ ap (λ o. name_by o (scope_at x)) (c.in-Some.ensures x e))
-    c.content_name.ensures
+pub returns-in-Some : goal.returns-in-Some
+returns-in-Some c =
+    more_known _ _ c.name_there.result (λ name known x e. known x e ∙ ap (λ o. name_by o (scope_at x)) (c.in-Some.ensures x e)) c.name_there.ensures

@@ -21,7 +21,7 @@ invariant_of-result c =
     let names = ap kept_at (sym c.in_ok-names.ensures.cases) in
     let nodes : children_changed (content_replaced position new) parent old.nodes ≡ forest_of c.in_ok-children.children.items =
     sym (c.in_ok-children.ensures
-    ∙ ap (λ x. children_changed (content_replaced position (content_of x)) parent (forest_of c.as_slice.result.now)) c.in_ok-content.ensures.ok
+    ∙ ap (λ x. children_changed (content_replaced position (content_of x)) parent (forest_of c.as_slice.result.now)) (c.in_ok-content.ensures.ok ∙ c.in_ok-indexed.ensures)
     ∙ ap (λ xs. children_changed (content_replaced position new) parent (forest_of xs)) c.as_slice.ensures.value) in
     let keeps = subst (λ d. ForSome (content_below d parent position) (λ old. KeepsNames old new)) (sym c.self.view_is) c.requires in
     let whole = document_same (key_by c.self.inside.keys) (kept_at c.self.inside.names.value) root (changed_alike old parent position new keeps)

@@ -2,7 +2,7 @@ use Rattle.std.proofs.Common.{None, Some, ◌∙◌, sym, ap, subst, append-nil,
 use Rattle.std.specs.Option.{option_to_list}
 use Rattle.xt_tree.specs.View.{IsPlaceOf}
 use Rattle.xp_axes.proofs.Kept.{not_placed, placed_there}
-use Rattle.xp_axes.proofs.ordered.place.Goals as goal
+use Rattle.xp_axes.proofs.ordered.place_alone.Goals as goal
 
 pub returns-in-None : goal.returns-in-None
 returns-in-None c =

@@ -1,0 +1,327 @@
+-- What is counted of one part and then of the next, and of a call.
+use Rattle.std.proofs.Common.{◌≡◌, inl, inr, ℕ, suc, ◌+◌, List, [], ◌∷◌, ◌++◌, length, map, Bool, true, false, cond, Option, Some, None, refl, sym}
+use Rattle.std.proofs.Common.{ap, subst, ◌∙◌, arith, append_assoc}
+use Rattle.std.specs.Prelude.{Box}
+use Rattle.std.proofs.lemmas.List.{append-nil, length-append, map-append}
+use Rattle.std.specs.declared.alloc.Global.{Global as Allocator}
+use Rattle.std.specs.declared.rc.Rc.{Rc}
+use Rattle.spec_document.specs.Name.{Expanded}
+use Rattle.spec_stylesheet.specs.Place.{Place}
+use Rattle.spec_meaning.specs.Context.{Bound}
+use Rattle.spec_run.specs.Hold.{GoesOn}
+use Rattle.spec_run.specs.Trail.{Kept}
+use Rattle.spec_run.specs.Plan.{Call}
+use Rattle.spec_run.specs.Meaning.{Setting, Past}
+use Rattle.spec_reuse.specs.Among.{IsIn}
+use Rattle.spec_reuse.specs.Instantiation.{Instantiation, own_of, kept_of, for_reference, entered, instantiations}
+use Rattle.spec_reuse.specs.Serving.{Serves}
+use Rattle.spec_reuse.specs.Cost.{Repeats}
+use Rattle.spec_reuse.specs.Ledger.{nested_in, nested_but, AllFound, AreOfRun, Enters, EntersFront, IsFound}
+use Rattle.spec_reuse.proofs.Again.{agrees_self, serves}
+use Rattle.spec_reuse.proofs.Counting.{served_asks, one_after_another, some_gone_over, front_then_all, front_then_front, nothing_entered}
+use Rattle.spec_reuse.proofs.Counting.{call_counted, record_kept, nested_some}
+use Rattle.spec_reuse.proofs.Within.{in_left, in_right, nested_of_run}
+use Rattle.spec_node.specs.declared.node_ref.NodeRef.{NodeRef}
+use Rattle.xt_engine.specs.declared.event.Ran.{Ran}
+use Rattle.xt_record.specs.Search.{StandOn}
+use Rattle.xt_record.specs.declared.record.Record.{Record}
+use Rattle.xt_record.specs.declared.reuse.Reuse.{Reuse}
+use Rattle.xt_record.proofs.Standing.{stand_on}
+use Rattle.xt_driver.specs.declared.lost.Lost.{Lost}
+use Rattle.xt_driver.specs.declared.lost.Lost.TheVariants as lost
+use Rattle.xt_driver.specs.declared.drive.Served.TheVariants as served
+use Rattle.xt_driver.specs.Lost.{is_lost}
+use Rattle.xt_driver.specs.Remembered.{Entry}
+use Rattle.xt_driver.specs.Counted.{Hand, kept_at, records_of, IsMadeToo, IsMadeOf, IsRecorded, AreRecorded, IsReady, IsCounted, Counted}
+use Rattle.xt_driver.specs.Counted.{CountedFront, CountsFor, CountsOver}
+use Rattle.xt_driver.specs.Counted.{known_by, CountsServed, CountedRun}
+
+-- ---- What is remembered
+
+one_later : (s : Setting NodeRef) (values : List (Bound NodeRef)) (before after : List (Kept NodeRef)) (o : Option NodeRef)
+    → ((k : Kept NodeRef) → IsIn k before → IsIn k after) → IsRecorded s values before o → IsRecorded s values after o
+one_later s values before after None f h = tt
+one_later s values before after (Some element) f h = record {
+  evaluation = h.evaluation;
+  place = h.place;
+  more = h.more;
+  call = h.call;
+  of_run = h.of_run;
+  since = h.since;
+  ends = h.ends;
+  found = λ i m. let k = h.found i m in (k.0, f k.0 k.1, k.2, k.3);
+}
+
+pub recorded_later : (s : Setting NodeRef) (values : List (Bound NodeRef)) (before after : List (Kept NodeRef)) (es : List (Entry NodeRef))
+    → ((k : Kept NodeRef) → IsIn k before → IsIn k after) → AreRecorded s values before es → AreRecorded s values after es
+recorded_later s values before after [] f h = tt
+recorded_later s values before after (e ∷ es) f h = (one_later s values before after e.element f h.0, recorded_later s values before after es f h.1)
+
+pub recorded_both : (s : Setting NodeRef) (values : List (Bound NodeRef)) (records : List (Kept NodeRef)) (es others : List (Entry NodeRef))
+    → AreRecorded s values records es → AreRecorded s values records others → AreRecorded s values records (es ++ others)
+recorded_both s values records [] others h k = k
+recorded_both s values records (e ∷ es) others h k = (h.0, recorded_both s values records es others h.1 k)
+
+-- ---- The records
+
+pub records_more : (before after : Reuse) (more : List (Rc Record Allocator)) → after.last ≡ before.last
+    → after.kept.records.items ≡ before.kept.records.items ++ more → records_of after ≡ records_of before ++ map kept_at more
+records_more before after more last kept =
+    ap (λ l. map kept_at l.now.records.items ++ map kept_at after.kept.records.items) last
+    ∙ ap (λ rs. map kept_at before.last.now.records.items ++ map kept_at rs) kept
+    ∙ ap (λ ks. map kept_at before.last.now.records.items ++ ks) (map-append kept_at before.kept.records.items more)
+    ∙ sym (append_assoc (map kept_at before.last.now.records.items) (map kept_at before.kept.records.items) (map kept_at more))
+
+pub records_same : (before after : Reuse) → after.last ≡ before.last → after.kept.records.items ≡ before.kept.records.items
+    → records_of after ≡ records_of before
+records_same before after last kept =
+    ap (λ l. map kept_at l.now.records.items ++ map kept_at after.kept.records.items) last
+    ∙ ap (λ rs. map kept_at before.last.now.records.items ++ map kept_at rs) kept
+
+pub stand_same : (before after : Reuse) → after.last ≡ before.last → after.kept.records.items ≡ before.kept.records.items → StandOn before after
+stand_same before after last kept = stand_on before after [] last (kept ∙ sym (append-nil before.kept.records.items))
+
+-- ---- Numbers
+
+pub more_counted : (a b c : Hand) (m n l : ℕ) → l ≡ m + n → IsCounted m a b → IsCounted n b c → IsCounted l a c
+more_counted a b c m n l e f g = λ low.
+    let first = f low in
+    let second = g (omega (arith, first)) in
+    omega (arith, first, second, e)
+
+none_counted : (a b : Hand) → b.reuse.steps.ran ≡ a.reuse.steps.ran → IsCounted 0 a b
+none_counted a b e = λ low. omega (arith, e, low)
+
+-- ---- One part after another
+
+pub counted_then : (s : Setting NodeRef) (values : List (Bound NodeRef)) (is js : List (Instantiation NodeRef)) (a b c : Hand)
+    → AreOfRun s (is ++ js) → Counted s values is a b → Counted s values js b c → Counted s values (is ++ js) a c
+counted_then s values is js a b c of_run x y = record {
+  list = x.list ++ y.list;
+  enters = one_after_another s (records_of a.reuse) (records_of b.reuse) (records_of c.reuse) x.list y.list is js of_run x.enters y.enters;
+  ran = more_counted a b c (length x.list) (length y.list) (length (x.list ++ y.list)) (length-append x.list y.list) x.ran y.ran;
+  stands = λ at r h. y.stands at r (x.stands at r h);
+  ready = y.ready;
+}
+
+pub front_then : (s : Setting NodeRef) (values : List (Bound NodeRef)) (is : List (Instantiation NodeRef)) (a b c : Hand)
+    → AreOfRun s is → CountedFront s values is a b → Counted s values is b c → Counted s values is a c
+front_then s values is a b c of_run x y = record {
+  list = x.list ++ y.list;
+  enters = front_then_all s (records_of a.reuse) (records_of b.reuse) (records_of c.reuse) x.list y.list is of_run x.enters y.enters;
+  ran = more_counted a b c (length x.list) (length y.list) (length (x.list ++ y.list)) (length-append x.list y.list) x.ran y.ran;
+  stands = λ at r h. y.stands at r (x.stands at r h);
+  ready = y.ready;
+}
+
+pub fronts : (s : Setting NodeRef) (values : List (Bound NodeRef)) (is : List (Instantiation NodeRef)) (a b c : Hand)
+    → AreOfRun s is → CountedFront s values is a b → CountedFront s values is b c → CountedFront s values is a c
+fronts s values is a b c of_run x y = record {
+  list = x.list ++ y.list;
+  enters = front_then_front s (records_of a.reuse) (records_of b.reuse) (records_of c.reuse) x.list y.list is of_run x.enters y.enters;
+  ran = more_counted a b c (length x.list) (length y.list) (length (x.list ++ y.list)) (length-append x.list y.list) x.ran y.ran;
+  stands = λ at r h. y.stands at r (x.stands at r h);
+  ready = y.ready;
+}
+
+-- nothing more, where there are records of all
+pub counted_none : (s : Setting NodeRef) (values : List (Bound NodeRef)) (is : List (Instantiation NodeRef)) (a b : Hand)
+    → records_of b.reuse ≡ records_of a.reuse → b.reuse.steps.ran ≡ a.reuse.steps.ran → StandOn a.reuse b.reuse
+    → AllFound s (records_of a.reuse) is → IsReady s values b → Counted s values is a b
+counted_none s values is a b same ran stands found ready = record {
+  list = [];
+  enters = let E : List (Kept NodeRef) → Type 0 = λ ks. Enters s (records_of a.reuse) [] is ks in
+      subst E (sym same) (nothing_entered s (records_of a.reuse) is found);
+  ran = none_counted a b ran;
+  stands = stands;
+  ready = ready;
+}
+
+-- and of a front of nothing
+pub front_none : (s : Setting NodeRef) (values : List (Bound NodeRef)) (is : List (Instantiation NodeRef)) (a : Hand) → IsReady s values a
+    → CountedFront s values is a a
+front_none s values is a ready = record {
+  list = [];
+  enters = record {
+    front = [];
+    rest = is;
+    parts = refl;
+    ended = λ i h. absurd h;
+    enters = nothing_entered s (records_of a.reuse) [] (λ i h. absurd h);
+  };
+  ran = none_counted a a refl;
+  stands = λ at r h. h;
+  ready = ready;
+}
+
+-- ---- A record is kept that was at hand
+
+pub kept_on : (s : Setting NodeRef) (values : List (Bound NodeRef)) (is : List (Instantiation NodeRef)) (a b : Hand) (after : Reuse)
+    (r : Rc Record Allocator) → Counted s values is a b → IsIn (kept_at r) (records_of b.reuse) → after.last ≡ b.reuse.last
+    → after.kept.records.items ≡ b.reuse.kept.records.items ++ r ∷ [] → after.steps ≡ b.reuse.steps
+    → Counted s values is a (record { reuse = after; entries = b.entries })
+kept_on s values is a b after r x at_hand last kept steps =
+    let same = records_more b.reuse after (r ∷ []) last kept in
+    let E : List (Kept NodeRef) → Type 0 = λ ks. Enters s (records_of a.reuse) x.list is ks in
+    let R : List (Kept NodeRef) → Type 0 = λ ks. AreRecorded s values ks b.entries in
+    record {
+      list = x.list;
+      enters = subst E (sym same) (record_kept s (records_of a.reuse) (records_of b.reuse) x.list is (kept_at r) x.enters at_hand);
+      ran = λ low. let l = x.ran low in ap (λ t. t.ran) steps ∙ l;
+      stands = λ at y h. stand_on b.reuse after (r ∷ []) last kept at y (x.stands at y h);
+      ready = subst R (sym same) (recorded_later s values (records_of b.reuse) (records_of b.reuse ++ kept_at r ∷ []) b.entries
+          (λ k h. in_left k (records_of b.reuse) (kept_at r ∷ []) h) x.ready);
+    }
+
+-- where nothing is kept, and records may be judged
+pub same_on : (s : Setting NodeRef) (values : List (Bound NodeRef)) (is : List (Instantiation NodeRef)) (a b : Hand) (after : Reuse)
+    → Counted s values is a b → after.last ≡ b.reuse.last
+    → after.kept.records.items ≡ b.reuse.kept.records.items → after.steps.ran ≡ b.reuse.steps.ran
+    → Counted s values is a (record { reuse = after; entries = b.entries })
+same_on s values is a b after x last kept steps =
+    let same = records_same b.reuse after last kept in
+    let E : List (Kept NodeRef) → Type 0 = λ ks. Enters s (records_of a.reuse) x.list is ks in
+    let R : List (Kept NodeRef) → Type 0 = λ ks. AreRecorded s values ks b.entries in
+    record {
+      list = x.list;
+      enters = subst E (sym same) x.enters;
+      ran = λ low. steps ∙ x.ran low;
+      stands = λ at y h. stand_same b.reuse after last kept at y (x.stands at y h);
+      ready = subst R (sym same) x.ready;
+    }
+
+pub front_on : (s : Setting NodeRef) (values : List (Bound NodeRef)) (is : List (Instantiation NodeRef)) (a b : Hand) (after : Reuse)
+    → CountedFront s values is a b → after.last ≡ b.reuse.last
+    → after.kept.records.items ≡ b.reuse.kept.records.items → after.steps.ran ≡ b.reuse.steps.ran
+    → CountedFront s values is a (record { reuse = after; entries = b.entries })
+front_on s values is a b after x last kept steps =
+    let same = records_same b.reuse after last kept in
+    let E : List (Kept NodeRef) → Type 0 = λ ks. EntersFront s (records_of a.reuse) x.list is ks in
+    let R : List (Kept NodeRef) → Type 0 = λ ks. AreRecorded s values ks b.entries in
+    record {
+      list = x.list;
+      enters = subst E (sym same) x.enters;
+      ran = λ low. steps ∙ x.ran low;
+      stands = λ at y h. stand_same b.reuse after last kept at y (x.stands at y h);
+      ready = subst R (sym same) x.ready;
+    }
+
+-- ---- A call that is run
+
+-- what it does in all, after what was gone along before it
+run_whole : (s : Setting NodeRef) (i : Instantiation NodeRef) (l : Lost) (a b c : Hand) → IsIn i (instantiations s)
+    → CountsServed (served.Not l) s i a b → CountedRun s i l b c
+    → (list : List (Instantiation NodeRef)) × Enters s (records_of a.reuse) list (nested_in s i) (records_of c.reuse)
+    × IsCounted (suc (length list)) a c × StandOn a.reuse c.reuse × (¬ (IsFound s (records_of a.reuse) i))
+run_whole s i lost.Nothing a b c h x y =
+    let first = x.0.list in (
+      first ++ y.list,
+      front_then_all s (records_of a.reuse) (records_of b.reuse) (records_of c.reuse) first y.list (nested_in s i)
+          (nested_of_run s i h) x.0.enters y.enters,
+      more_counted a b c (length first) (suc (length y.list)) (suc (length (first ++ y.list)))
+          (let m = length-append first y.list in omega (arith, m)) x.0.ran y.ran,
+      λ at r k. y.stands at r (x.0.stands at r k),
+      x.1,
+    )
+run_whole s i (lost.Reference l) a b c h x y =
+    let first = x.counted.list in (
+      first ++ y.list,
+      some_gone_over s (records_of a.reuse) (records_of b.reuse) (records_of c.reuse) first y.list (nested_in s i)
+          (nested_but s i (known_by (lost.Reference l) i.below) (own_of s i).going.trace) (nested_of_run s i h)
+          (nested_some s i (known_by (lost.Reference l) i.below) (own_of s i).going.trace) x.ends x.counted.enters y.enters,
+      more_counted a b c (length first) (suc (length y.list)) (suc (length (first ++ y.list)))
+          (let m = length-append first y.list in omega (arith, m)) x.counted.ran y.ran,
+      λ at r k. y.stands at r (x.counted.stands at r k),
+      λ k. x.none k.0 k.2,
+    )
+
+-- what was made of it serves it
+made_serves : (s : Setting NodeRef) (i : Instantiation NodeRef) (k : Kept NodeRef) → k ≡ kept_of s i → GoesOn (own_of s i).ending
+    → IsFound s (k ∷ []) i
+made_serves s i k same on =
+    let r : Repeats s i i = record { target = refl; node = refl; parameters = refl; position = refl; size = refl; ruling = refl; one_ends = on; other_ends = on } in
+    let own = serves s i i (inl (agrees_self s i.past.values)) r in
+    let S : Kept NodeRef → Type 0 = λ x. Serves s i x in
+    let there = subst S (sym same) own in
+    (k, inl refl, there, served_asks s i k there on)
+
+pub run_counted : (s : Setting NodeRef) (i : Instantiation NodeRef) (l : Lost) (a b c : Hand) (after : Reuse) (ran : Option (Box Ran Allocator))
+    → IsIn i (instantiations s) → CountsServed (served.Not l) s i a b → CountedRun s i l b c → IsMadeOf s i ran
+    → IsMadeToo c.reuse.kept.records.items after.kept.records.items i.call ran → after.last ≡ c.reuse.last → after.steps ≡ c.reuse.steps
+    → Counted s i.past.values (nested_in s i ++ i ∷ []) a (record { reuse = after; entries = c.entries })
+run_counted s i l a b c after ran h x y of made last steps = go ran of made
+  where
+    went : (list : List (Instantiation NodeRef)) × Enters s (records_of a.reuse) list (nested_in s i) (records_of c.reuse)
+        × IsCounted (suc (length list)) a c × StandOn a.reuse c.reuse × (¬ (IsFound s (records_of a.reuse) i))
+    went = run_whole s i l a b c h x y
+
+    by : (more : List (Rc Record Allocator)) → after.kept.records.items ≡ c.reuse.kept.records.items ++ more
+        → (GoesOn (own_of s i).ending → IsFound s (map kept_at more) i)
+        → ((k : Kept NodeRef) → IsIn k (map kept_at more) → (k.call.target ≡ i.call.target) × (k.call.node ≡ i.call.node))
+        → Counted s i.past.values (nested_in s i ++ i ∷ []) a (record { reuse = after; entries = c.entries })
+    by more kept found like =
+        let same = records_more c.reuse after more last kept in
+        let E : List (Kept NodeRef) → Type 0 = λ ks. Enters s (records_of a.reuse) (went.0 ++ i ∷ []) (nested_in s i ++ i ∷ []) ks in
+        let R : List (Kept NodeRef) → Type 0 = λ ks. AreRecorded s i.past.values ks c.entries in
+        record {
+          list = went.0 ++ i ∷ [];
+          enters = subst E (sym same) (call_counted s (records_of a.reuse) (records_of c.reuse) (map kept_at more) went.0 i went.1 went.4 found like);
+          ran = λ low.
+              let n = went.2 low in
+              let m = length-append went.0 (i ∷ []) in
+              let e = ap (λ t. t.ran) steps in
+              omega (arith, n, m, e);
+          stands = λ at r k. stand_on c.reuse after more last kept at r (went.3 at r k);
+          ready = subst R (sym same) (recorded_later s i.past.values (records_of c.reuse) (records_of c.reuse ++ map kept_at more) c.entries
+              (λ k m. in_left k (records_of c.reuse) (map kept_at more) m) y.ready);
+        }
+
+    go : (o : Option (Box Ran Allocator)) → IsMadeOf s i o → IsMadeToo c.reuse.kept.records.items after.kept.records.items i.call o
+        → Counted s i.past.values (nested_in s i ++ i ∷ []) a (record { reuse = after; entries = c.entries })
+    go None never same = by [] (same ∙ sym (append-nil c.reuse.kept.records.items)) (λ on. absurd (never on)) (λ k m. absurd m)
+    go (Some r) is new =
+        let same : kept_at new.0 ≡ kept_of s i = new.2 ∙ is in
+        by (new.0 ∷ []) new.1 (λ on. made_serves s i (kept_at new.0) same on) (λ k m. like k m same)
+      where
+        like : (k : Kept NodeRef) → IsIn k (kept_at new.0 ∷ []) → kept_at new.0 ≡ kept_of s i
+            → (k.call.target ≡ i.call.target) × (k.call.node ≡ i.call.node)
+        like k (inl e) same =
+            let all : k ≡ kept_of s i = e ∙ same in
+            (ap (λ (z : Kept NodeRef). z.call.target) all, ap (λ (z : Kept NodeRef). z.call.node) all)
+        like k (inr e) same = absurd e
+
+-- ---- A call, with the levels for it
+
+pub means_served : (s : Setting NodeRef) (i : Instantiation NodeRef) (levels : ℕ) (a b : Hand) → suc i.below ≡ levels
+    → (IsIn i (instantiations s) → IsReady s i.past.values a → Counted s i.past.values (nested_in s i ++ i ∷ []) a b)
+    → CountsOver s i.past.values (entered s levels i.past 0 i.call) a b
+means_served s i levels a b room h =
+    let C : ℕ → Type 0 = λ n. CountsOver s i.past.values (entered s n i.past 0 i.call) a b in
+    subst C room (λ of_run ready. h (of_run i (in_right i (nested_in s i) (i ∷ []) (inl refl))) ready)
+
+pub means_none : (s : Setting NodeRef) (past : Past NodeRef) (c : Call NodeRef) (levels : ℕ) (a : Hand) → levels ≡ 0
+    → CountsOver s past.values (entered s levels past 0 c) a a
+means_none s past c levels a none =
+    let C : ℕ → Type 0 = λ n. CountsOver s past.values (entered s n past 0 c) a a in
+    subst C (sym none) (λ of_run ready. counted_none s past.values [] a a refl refl (λ at r h. h) (λ i h. absurd h) ready)
+
+-- there are records then of all that is remembered
+pub served_ready : (s : Setting NodeRef) (i : Instantiation NodeRef) (l : Lost) (a b : Hand) → CountsServed (served.Not l) s i a b
+    → IsReady s i.past.values b
+served_ready s i lost.Nothing a b h = h.0.ready
+served_ready s i (lost.Reference l) a b h = h.counted.ready
+
+-- ---- A reference, of which it may be known what it gives
+
+pub need_known : (s : Setting NodeRef) (past : Past NodeRef) (l : Lost) (name : Expanded) (levels : ℕ) (place : Place) (a : Hand)
+    → is_lost l name levels place ≡ true → CountsFor s past l name levels place a a
+need_known s past l name levels place a known =
+    let C : Bool → Type 0 = λ t. CountsOver s past.values (cond t [] (for_reference s (entered s levels) past name 0 place)) a a in
+    subst C (sym known) (λ of_run ready. counted_none s past.values [] a a refl refl (λ at r h. h) (λ i h. absurd h) ready)
+
+pub need_other : (s : Setting NodeRef) (past : Past NodeRef) (l : Lost) (name : Expanded) (levels : ℕ) (place : Place) (a b : Hand)
+    → is_lost l name levels place ≡ false → CountsOver s past.values (for_reference s (entered s levels) past name 0 place) a b
+    → CountsFor s past l name levels place a b
+need_other s past l name levels place a b other over =
+    let C : Bool → Type 0 = λ t. CountsOver s past.values (cond t [] (for_reference s (entered s levels) past name 0 place)) a b in
+    subst C (sym other) over
