@@ -41,9 +41,9 @@ use Rattle.xt_driver.specs.View.{outcome_of, setting_of, past_of, Gives, GivesSo
 use Rattle.xt_driver.specs.Remembered.{Entry, first_named, AllHold, IsAnew, IsAside, all_aside, none_aside}
 use Rattle.xt_driver.specs.Referring.{entry_of, no_global, remembered_as, IsValue, IsRecalled, IsGivenAt, IsGivenAs, Recalls, RecallsSo, IsEvaluated}
 use Rattle.xt_driver.specs.Referring.{Evaluates}
-use Rattle.xt_driver.specs.Counted.{Hand, records_of, IsRecorded, IsRecordedOf, AreRecorded, Counted, CountsOver, CountsLooked, IsFrom, IsIdle}
+use Rattle.xt_driver.specs.Counted.{Hand, kept_by, IsRecorded, IsRecordedOf, AreRecorded, Counted, CountsOver, CountsLooked, IsFrom, IsIdle}
 use Rattle.xt_driver.proofs.Given.{equal_names}
-use Rattle.xt_driver.proofs.Tallying.{recorded_later, recorded_both, counted_none}
+use Rattle.xt_driver.proofs.Tallying.{ready_on, recorded_both, counted_none}
 
 abbrev Ask : Type 0
 Ask = Question NodeRef → Answer NodeRef
@@ -150,9 +150,8 @@ looked_idle globals name levels m (references.Evaluated n) e none is = tt
 looked_idle globals name levels m (references.Given r) e none is = λ ask reuse place h.
     let s = setting_of ask globals in
     let past = past_of globals in
-    let list = for_reference s (entered s levels) past name 0 place in
-    let a = with_entries reuse m in (
-      λ of_run ready. counted_none s past.values list a a refl refl (λ at x k. k) (none_found s (records_of reuse) list (none ask place)) ready,
+    let list = for_reference s (entered s levels) past name 0 place in (
+      λ of_run ready. counted_none s past.values list reuse m m (none_found s (kept_by reuse) list (none ask place)) ready,
       idle r.value.entered list (none ask place),
     )
   where
@@ -182,12 +181,11 @@ looked_recalled globals name levels m r found recalls is from = λ ask reuse pla
     let P : Option (Box Referred Allocator) → Type 0 = λ x. RecallsSo x s past m name levels in
     let settles = subst P is (recalls.so s past h) place in
     let list = for_reference s (entered s levels) past name 0 place in
-    let a = with_entries reuse m in
     let same = equal_names from.entry.name name from.named in
     let element = ap (λ n. element_named n s.globals) (sym same) ∙ element_at s past.values m m from.entry from.among h.hold in (
-      λ of_run ready. counted_none s past.values list a a refl refl (λ at x k. k)
-          (found_for s past (records_of reuse) name levels place from.entry.element element
-          (recorded_at s past.values (records_of reuse) m from.entry from.among ready) of_run
+      λ of_run ready. counted_none s past.values list reuse m m
+          (found_for s past (kept_by reuse) name levels place from.entry.element element
+          (recorded_at s past.values (kept_by reuse) m from.entry from.among ready) of_run
           (ends s past name levels place from.entry r.value.entered settles.gives.so from.value)) ready,
       idle r.value.entered from.entry from.value list,
     )
@@ -216,10 +214,9 @@ looked_none globals name levels m n (references.Given r) none is same = λ ask r
     let past = past_of globals in
     let list = for_reference s (entered s levels) past name 0 place in
     let empty : list ≡ [] = reference_to_none s levels past name 0 place (none ask) in
-    let R : List (Entry NodeRef) → Type 0 = λ es. AreRecorded s past.values (records_of reuse) es in (
-      λ of_run ready. counted_none s past.values list (with_entries reuse m) (with_entries reuse n) refl refl (λ at x k. k)
-          (none_found s (records_of reuse) list empty)
-          (subst R (sym same) (recorded_both s past.values (records_of reuse) m (no_global name ∷ []) ready (tt, tt))),
+    let R : List (Entry NodeRef) → Type 0 = λ es. AreRecorded s past.values (kept_by reuse) es in (
+      λ of_run ready. counted_none s past.values list reuse m n (none_found s (kept_by reuse) list empty)
+          (subst R (sym same) (recorded_both s past.values (kept_by reuse) m (no_global name ∷ []) ready (tt, tt))),
       idle r.value.entered is.value list,
     )
   where
@@ -300,27 +297,34 @@ module _ (s : Setting NodeRef) (past : Past NodeRef) (name : Expanded) (element 
       let same = reference_evaluated s levels past name 0 place element e anew.apart anew.element_is in
       let R : List (Instantiation NodeRef) → Type 0 = λ is. AreOfRun s is in
       let here = subst R same of_run in
-      let parts = aside_ready s past.values (records_of before) is ready in
+      let parts = aside_ready s past.values (kept_by before) is ready in
       let y = over here parts.1 in
       let C : List (Instantiation NodeRef) → Type 0 = λ is. Counted s past.values is (with_entries before old) (with_entries after last) in
-      let A : List (Entry NodeRef) → Type 0 = λ es. AreRecorded s past.values (records_of after) es in
-      let set_aside = recorded_later s past.values (records_of before) (records_of after) aside y.enters.stays parts.0 in
-      let all = recorded_both s past.values (records_of after) (new ++ aside) (remembered_as name element (levels - o.spare) (outcome_of o).content r.entered)
-      (recorded_both s past.values (records_of after) new aside y.ready set_aside) (one r.entered (result.gives place).so here y.enters.found) in
-      subst C (sym same) (record { list = y.list; enters = y.enters; ran = y.ran; stands = y.stands; ready = subst A (sym result.remembered) all })
+      let A : List (Entry NodeRef) → Type 0 = λ es. AreRecorded s past.values (kept_by after) es in
+      let set_aside = ready_on s past.values aside before after y.stands parts.0 in
+      let all = recorded_both s past.values (kept_by after) (new ++ aside) (remembered_as name element (levels - o.spare) (outcome_of o).content r.entered)
+      (recorded_both s past.values (kept_by after) new aside y.ready set_aside) (one r.entered (result.gives place).so here y.keeps.found) in
+      subst C (sym same) (record {
+        list = y.list;
+        enters = y.enters;
+        ran = y.ran;
+        stands = y.stands;
+        keeps = y.keeps;
+        ready = subst A (sym result.remembered) all;
+      })
     where
       list : List (Instantiation NodeRef)
       list = entered s levels (going_into name past) 0 (global_call s.root element place)
 
       one : (g : Given) → GivesSo g place (held_by (outcome_of o)) → AreOfRun s list
-          → ((i : Instantiation NodeRef) → IsIn i list → GoesOn (own_of s i).ending → IsFound s (records_of after) i)
-          → AreRecorded s past.values (records_of after) (remembered_as name element (levels - o.spare) (outcome_of o).content g)
+          → ((i : Instantiation NodeRef) → IsIn i list → GoesOn (own_of s i).ending → IsFound s (kept_by after) i)
+          → AreRecorded s past.values (kept_by after) (remembered_as name element (levels - o.spare) (outcome_of o).content g)
       one (given.Value v) gives here found =
           let m = meaning s levels (going_into name past) 0 (global_call s.root element place) in
           let held : held_by m ≡ Known (Valued (value_of v)) = ap held_by (sym means) ∙ gives in
           let ends : AllEnd s list = all_end s levels (going_into name past) 0 (global_call s.root element place)
           (held_goes m.content m.ending (Valued (value_of v)) held) in
-          (evaluation_recorded s past (records_of after) name element levels place (value_of v) held here ends (λ i k. found i k (ends i k)), tt)
+          (evaluation_recorded s past (kept_by after) name element levels place (value_of v) held here ends (λ i k. found i k (ends i k)), tt)
       one (given.Stream v) gives here found = absurd gives
       one (given.Refused why v) gives here found = tt
       one given.UnderWay gives here found = tt

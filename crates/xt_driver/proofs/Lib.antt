@@ -18,6 +18,7 @@ pub mod Regaining
 pub mod Keeping
 pub mod Coming
 pub mod Streams
+pub mod Completing
 pub mod Tallying
 pub mod Trying
 pub mod Telling

@@ -23,7 +23,8 @@ use Rattle.spec_run.specs.Meaning.{Setting, Past, referred, meaning, settled}
 use Rattle.spec_reuse.specs.Among.{IsIn}
 use Rattle.spec_reuse.specs.Instantiation.{Instantiation, own_of, kept_of, for_reference, entered, instantiations}
 use Rattle.spec_reuse.specs.Ledger.{nested_along, nested_but, unless_known, AllFound, AreOfRun, Enters, IsRun, IsStuck}
-use Rattle.spec_reuse.proofs.Counting.{nested_entered, nested_referred, front_of_run, passes_served, reference_found_again}
+use Rattle.spec_reuse.proofs.Counting.{some_in, nested_entered, nested_referred, nested_but_append, nested_but_entered, nested_but_referred, nested_some}
+use Rattle.spec_reuse.proofs.Counting.{front_of_run, passes_served, reference_found_again}
 use Rattle.spec_reuse.proofs.Ends.{given_ends}
 use Rattle.spec_reuse.proofs.Entering.{entered_at}
 use Rattle.spec_reuse.proofs.Fronts.{own_grows}
@@ -67,13 +68,14 @@ use Rattle.xt_record.specs.Search.{StandOn}
 use Rattle.xt_driver.specs.declared.lost.Lost.{Lost}
 use Rattle.xt_driver.specs.Lost.{is_lost, is_to, IsLost}
 use Rattle.xt_driver.specs.Stands.{Level, supply_of, nested_of, Agrees, Stands, StandsSo}
-use Rattle.xt_driver.specs.Counted.{Hand, records_of, AreRecorded, IsReady, most_counted, IsCounted, Counted, CountsFor, CountsOver, CountedRun}
+use Rattle.xt_driver.specs.Counted.{Hand, kept_by, records_of, KeepsAll, IsReady, most_counted, IsCounted, Counted, CountsFor, CountsOver, CountedRun}
 use Rattle.xt_driver.specs.Counted.{known_by}
 use Rattle.xt_driver.proofs.Given.{equal_names, hand_more, found_last}
 use Rattle.xt_driver.proofs.Owns.{own_passes}
 use Rattle.xt_driver.proofs.Less.{referred_at, referred_less}
 use Rattle.xt_driver.proofs.Standing.{in_room, own_ends, stands_halt}
-use Rattle.xt_driver.proofs.Tallying.{more_counted, records_same, stand_same}
+use Rattle.xt_driver.proofs.Completing.{found_at_hand, all_found_on, keeps_none, keeps_found, keeps_of, keeps_both}
+use Rattle.xt_driver.proofs.Tallying.{ready_on, more_counted, records_same, stand_same}
 
 abbrev pub at_level : Level → Instantiation NodeRef
 at_level l = record { call = l.call; below = l.below; past = l.past }
@@ -88,7 +90,7 @@ abbrev pub ReachedSo : Level → Plan NodeRef → List (Event NodeRef) → Start
 ReachedSo l left done (Goes g s) = (q : Plan NodeRef) × (k : Going NodeRef) × Passes l.setting.ask (at_hand s) l.below left g q k × (k.trace ≡ done)
 ReachedSo l left done (Halts why g) = (own_of l.setting (at_level l)).going.trace ≡ done
 
--- there are records of all that was entered for what is at hand
+-- this run kept records of all that was entered for what is at hand
 abbrev pub AtHandFound : Level → List (Kept NodeRef) → Supplies NodeRef → Type 0
 AtHandFound l records s =
     (name : Expanded) (depth : ℕ) (place : Place) (y : Given NodeRef) → at_hand s depth (Global name) ≡ Some y
@@ -103,9 +105,10 @@ pub record Running (l : Level) (lo : Lost) (left : Plan NodeRef) (start : Start 
   pub list : List (Instantiation NodeRef)
   pub run : IsRun l.setting (at_level l) (known_by lo l.below) done (records_of a.reuse) list (records_of b.reuse)
   pub reached : ReachedSo l left done start
-  pub known : KnownSo l (records_of b.reuse) start
+  pub known : KnownSo l (kept_by b.reuse) start
   pub ran : IsCounted (suc (length list)) a b
   pub stands : StandOn a.reuse b.reuse
+  pub keeps : KeepsAll l.setting (nested_but l.setting (at_level l) (known_by lo l.below) done) b.reuse
   pub ready : IsReady l.setting l.past.values b
 
 -- ---- What is noted
@@ -167,30 +170,40 @@ module _ (l : Level) where
       → own l.setting.ask (supply_of l) (nested_of l) l.below left g ≡ own_of l.setting (at_level l)
       → Passes l.setting.ask (at_hand s) l.below left g r h → IsStuck (at_hand s) r
       → IsRun l.setting (at_level l) (known_by lo l.below) h.trace (records_of a.reuse) x.list (records_of b.reuse)
+      × KeepsAll l.setting (nested_but l.setting (at_level l) (known_by lo l.below) h.trace) b.reuse
   reach lo a b left r g h s x agrees all passes stuck =
       let i = at_level l in
       let back = x.reached in
-      let m = passes_served l.setting i (records_of b.reuse) (at_hand s) l.below back.0 r back.1 h x.known
+      let m = passes_served l.setting i (kept_by b.reuse) (at_hand s) l.below back.0 r back.1 h x.known
       (passes_further (λ d w y e. e) back.2 passes stuck) in
       let grown = own_grows l.setting.ask (supply_of l) (nested_of l) l.below r h in
       let trace : (own_of l.setting i).going.trace ≡ h.trace ++ grown.0
       = ap (λ (o : Owned NodeRef). o.going.trace) (sym all ∙ own_passes l.setting.ask (supply_of l) (nested_of l) l.below agrees passes) ∙ grown.1 in
       let at : h.trace ≡ x.done ++ m.0 = m.1 ∙ ap (λ es. es ++ m.0) back.3 in
       let E : Trace → Type 0 = λ es. IsRun l.setting i (known_by lo l.below) es (records_of a.reuse) x.list (records_of b.reuse) in
-      subst E (sym at) (run_passes l.setting i (known_by lo l.below) x.done m.0 grown.0 (records_of a.reuse) (records_of b.reuse) x.list x.run
-      (trace ∙ ap (λ es. es ++ grown.0) at) m.2)
+      let but : Trace → List (Instantiation NodeRef) = nested_but l.setting i (known_by lo l.below) in
+      let behind = keeps_found l.setting (but m.0) b.reuse (λ j k. m.2 j (some_in (nested_some l.setting i (known_by lo l.below) m.0) j k)) in
+      let all_kept = keeps_both l.setting (but x.done) (but m.0) b.reuse b.reuse (λ at r k. k) x.keeps behind in (
+        subst E (sym at) (run_passes l.setting i (known_by lo l.below) x.done m.0 grown.0 (records_of a.reuse) (records_of b.reuse) x.list x.run
+            (trace ∙ ap (λ es. es ++ grown.0) at) (found_at_hand l.setting b.reuse (nested_along l.setting i m.0) m.2)),
+        keeps_of l.setting (but x.done ++ but m.0) (but h.trace) b.reuse
+            (sym (ap but at ∙ nested_but_append l.setting i (known_by lo l.below) x.done m.0)) all_kept,
+      )
 
   -- what it does in all, where it comes to its end
   pub ran_whole : (lo : Lost) (a b : Hand) (done : Trace) (list : List (Instantiation NodeRef))
       → IsRun l.setting (at_level l) (known_by lo l.below) done (records_of a.reuse) list (records_of b.reuse)
       → (own_of l.setting (at_level l)).going.trace ≡ done → IsCounted (suc (length list)) a b → StandOn a.reuse b.reuse
+      → KeepsAll l.setting (nested_but l.setting (at_level l) (known_by lo l.below) done) b.reuse
       → IsReady l.setting l.past.values b → CountedRun l.setting (at_level l) lo a b
-  ran_whole lo a b done list run trace ran stands ready = record {
+  ran_whole lo a b done list run trace ran stands keeps ready = record {
     list = list;
     enters = let E : Trace → Type 0 = λ es. Enters l.setting (records_of a.reuse) list (nested_but l.setting (at_level l) (known_by lo l.below) es) (records_of b.reuse) in
         subst E (sym trace) run.enters;
     ran = ran;
     stands = stands;
+    keeps = let K : Trace → Type 0 = λ es. KeepsAll l.setting (nested_but l.setting (at_level l) (known_by lo l.below) es) b.reuse in
+        subst K (sym trace) keeps;
     ready = ready;
   }
 
@@ -203,8 +216,8 @@ pub running_begun : (l : Level) (lo : Lost) (p : Progress) (gift : Option (Gift 
 running_begun l lo p gift a reuse begun none h ready last kept counted =
     let b : Hand = record { reuse = reuse; entries = a.entries } in
     let same = records_same a.reuse reuse last (ap (λ (x : Pool). x.records.items) kept) in
+    let on = stand_same a.reuse reuse last (ap (λ (x : Pool). x.records.items) kept) in
     let i = at_level l in
-    let R : List (Kept NodeRef) → Type 0 = λ ks. AreRecorded l.setting l.past.values ks a.entries in
     let I : List (Kept NodeRef) → Type 0 = λ ks. IsRun l.setting i (known_by lo l.below) [] (records_of a.reuse) [] ks in
     let plan = plan_of same_ref l.call in
     let first : Running l lo plan (Goes at_start (supplies_for l.call)) a b = record {
@@ -214,8 +227,9 @@ running_begun l lo p gift a reuse begun none h ready last kept counted =
       reached = (plan, at_start, stays, refl);
       known = λ name depth place y e. absurd (cc);
       ran = λ low. counted;
-      stands = stand_same a.reuse reuse last (ap (λ (x : Pool). x.records.items) kept);
-      ready = subst R (sym same) ready;
+      stands = on;
+      keeps = keeps_none l.setting reuse;
+      ready = ready_on l.setting l.past.values a.entries a.reuse reuse on ready;
     } in
     let P : Progress → Type 0 = λ x. Running l lo x.left (received x.waits x.going x.supplies gift) a b in
     let G : Option (Gift NodeRef) → Type 0 = λ y. Running l lo plan (received ForNothing at_start (supplies_for l.call) y) a b in
@@ -229,6 +243,7 @@ module _ (l : Level) (lo : Lost) (a b c : Hand) (q : Progress) (k : Call NodeRef
     (passes : Passes l.setting.ask (at_hand s) l.below left g (Enter k d q.left) q.going)
     (over : CountsOver l.setting l.past.values (entered l.setting l.below l.past d (settled l.call k)) b c) where
   come_to : IsRun l.setting (at_level l) (known_by lo l.below) q.going.trace (records_of a.reuse) x.list (records_of b.reuse)
+      × KeepsAll l.setting (nested_but l.setting (at_level l) (known_by lo l.below) q.going.trace) b.reuse
   come_to = reach l lo a b left (Enter k d q.left) g q.going s x agrees all passes tt
 
   grown : (more : Trace) × ((own l.setting.ask (supply_of l) (nested_of l) l.below (Enter k d q.left) q.going).going.trace
@@ -242,21 +257,27 @@ module _ (l : Level) (lo : Lost) (a b c : Hand) (q : Progress) (k : Call NodeRef
   inside : Counted l.setting l.past.values (entered l.setting l.below l.past d (settled l.call k)) b c
   inside = over (λ j m.
       let P : List (Instantiation NodeRef) → Type 0 = λ is. IsIn j is in
-      front_of_run l.setting (at_level l) (q.going.trace ++ Entered k d ∷ []) grown.0 come_to.of_run trace_so j
+      front_of_run l.setting (at_level l) (q.going.trace ++ Entered k d ∷ []) grown.0 come_to.0.of_run trace_so j
       (subst P (sym (nested_entered l.setting (at_level l) q.going.trace k d)) (in_right j (nested_along l.setting (at_level l) q.going.trace) _ m))) x.ready
 
-  entered_to : (start : Start NodeRef) → ReachedSo l q.left (q.going.trace ++ Entered k d ∷ []) start → KnownSo l (records_of c.reuse) start
+  entered_to : (start : Start NodeRef) → ReachedSo l q.left (q.going.trace ++ Entered k d ∷ []) start → KnownSo l (kept_by c.reuse) start
       → Running l lo q.left start a c
   entered_to start reached known = record {
     done = q.going.trace ++ Entered k d ∷ [];
     list = x.list ++ inside.list;
     run = run_enters l.setting (at_level l) (known_by lo l.below) q.going.trace grown.0 k d (records_of a.reuse) (records_of b.reuse) (records_of c.reuse)
-        x.list inside.list come_to trace_so inside.enters;
+        x.list inside.list come_to.0 trace_so inside.enters;
     reached = reached;
     known = known;
     ran = more_counted a b c (suc (length x.list)) (length inside.list) (suc (length (x.list ++ inside.list)))
         (let m = length-append x.list inside.list in omega (arith, m)) x.ran inside.ran;
     stands = λ at r m. inside.stands at r (x.stands at r m);
+    keeps = keeps_of l.setting
+        (nested_but l.setting (at_level l) (known_by lo l.below) q.going.trace ++ entered l.setting l.below l.past d (settled l.call k))
+        (nested_but l.setting (at_level l) (known_by lo l.below) (q.going.trace ++ Entered k d ∷ [])) c.reuse
+        (sym (nested_but_entered l.setting (at_level l) (known_by lo l.below) q.going.trace k d))
+        (keeps_both l.setting (nested_but l.setting (at_level l) (known_by lo l.below) q.going.trace) (entered l.setting l.below l.past d (settled l.call k))
+        b.reuse c.reuse inside.stands come_to.1 inside.keeps);
     ready = inside.ready;
   }
 
@@ -265,12 +286,16 @@ module _ (l : Level) (lo : Lost) (a b c : Hand) (q : Progress) (k : Call NodeRef
       → Running l lo q.left (after_call k d q.going s (Some (gift_for t e))) a c
   entered_as t Finished is = entered_to (Goes (given t (opened k d q.going)) s) (q.left, given t (opened k d q.going), stays, refl) later
     where
-      later : AtHandFound l (records_of c.reuse) s
-      later name depth place y e j m = let f = x.known name depth place y e j m in (f.0, inside.enters.stays f.0 f.1, f.2, f.3)
+      later : AtHandFound l (kept_by c.reuse) s
+      later name depth place y e =
+          all_found_on l.setting (for_reference l.setting (entered l.setting l.below) l.past name depth place) b.reuse c.reuse inside.stands
+          (x.known name depth place y e)
   entered_as t (Gave v) is = entered_to (Goes (given t (opened k d q.going)) s) (q.left, given t (opened k d q.going), stays, refl) later
     where
-      later : AtHandFound l (records_of c.reuse) s
-      later name depth place y e j m = let f = x.known name depth place y e j m in (f.0, inside.enters.stays f.0 f.1, f.2, f.3)
+      later : AtHandFound l (kept_by c.reuse) s
+      later name depth place y e =
+          all_found_on l.setting (for_reference l.setting (entered l.setting l.below) l.past name depth place) b.reuse c.reuse inside.stands
+          (x.known name depth place y e)
   entered_as t (Halted why) is = entered_to (Halts why (given t (opened k d q.going)))
       (trace_so ∙ ap (λ es. (q.going.trace ++ Entered k d ∷ []) ++ es) (grown.2 why is) ∙ append-nil (q.going.trace ++ Entered k d ∷ [])) tt
 
@@ -353,6 +378,7 @@ module _ (l : Level) (lo : Lost) (a b c : Hand) (q : Progress) (n : Expanded) (d
   passed = passes_both start_so to_use
 
   came_so : IsRun l.setting (at_level l) (known_by lo l.below) last.trace (records_of a.reuse) x.list (records_of b.reuse)
+      × KeepsAll l.setting (nested_but l.setting (at_level l) (known_by lo l.below) last.trace) b.reuse
   came_so = reach l lo a b plan (Use (Global n) d place next) g last s x agrees all passed missing
 
   grows : (more : Trace) × ((own l.setting.ask (supply_of l) (nested_of l) l.below (Use (Global n) d place next) last).going.trace
@@ -368,7 +394,7 @@ module _ (l : Level) (lo : Lost) (a b c : Hand) (q : Progress) (n : Expanded) (d
   of_run : AreOfRun l.setting (for_reference l.setting (entered l.setting l.below) l.past n d place)
   of_run j m =
       let P : List (Instantiation NodeRef) → Type 0 = λ is. IsIn j is in
-      front_of_run l.setting (at_level l) (last.trace ++ Saw (Global n) d place (supply_of l (Global n) d place) ∷ []) grows.0 came_so.of_run trace_is j
+      front_of_run l.setting (at_level l) (last.trace ++ Saw (Global n) d place (supply_of l (Global n) d place) ∷ []) grows.0 came_so.0.of_run trace_is j
       (subst P (sym (nested_referred l.setting (at_level l) last.trace n d place (supply_of l (Global n) d place)))
       (in_right j (nested_along l.setting (at_level l) last.trace) _ m))
 
@@ -387,17 +413,25 @@ module _ (l : Level) (lo : Lost) (a b c : Hand) (q : Progress) (n : Expanded) (d
       (subst D low (subst C nearer over)) (entered_so (is_lost lo n (l.below - d) place)) x.ready
 
   referred_to : (start : Start NodeRef) → ReachedSo l q.left (last.trace ++ Saw (Global n) d place (supply_of l (Global n) d place) ∷ []) start
-      → KnownSo l (records_of c.reuse) start → Running l lo q.left start a c
+      → KnownSo l (kept_by c.reuse) start → Running l lo q.left start a c
   referred_to start reached known = record {
     done = last.trace ++ Saw (Global n) d place (supply_of l (Global n) d place) ∷ [];
     list = x.list ++ gone.list;
     run = run_refers l.setting (at_level l) (known_by lo l.below) last.trace grows.0 n d place (supply_of l (Global n) d place) (records_of a.reuse)
-        (records_of b.reuse) (records_of c.reuse) x.list gone.list came_so trace_is gone.enters;
+        (records_of b.reuse) (records_of c.reuse) x.list gone.list came_so.0 trace_is gone.enters;
     reached = reached;
     known = known;
     ran = more_counted a b c (suc (length x.list)) (length gone.list) (suc (length (x.list ++ gone.list)))
         (let m = length-append x.list gone.list in omega (arith, m)) x.ran gone.ran;
     stands = λ at r m. gone.stands at r (x.stands at r m);
+    keeps = keeps_of l.setting
+        (nested_but l.setting (at_level l) (known_by lo l.below) last.trace
+        ++ unless_known (known_by lo l.below) (for_reference l.setting (entered l.setting l.below) l.past) n d place)
+        (nested_but l.setting (at_level l) (known_by lo l.below) (last.trace ++ Saw (Global n) d place (supply_of l (Global n) d place) ∷ [])) c.reuse
+        (sym (nested_but_referred l.setting (at_level l) (known_by lo l.below) last.trace n d place (supply_of l (Global n) d place)))
+        (keeps_both l.setting (nested_but l.setting (at_level l) (known_by lo l.below) last.trace)
+        (unless_known (known_by lo l.below) (for_reference l.setting (entered l.setting l.below) l.past) n d place)
+        b.reuse c.reuse gone.stands came_so.1 gone.keeps);
     ready = gone.ready;
   }
 
@@ -416,17 +450,17 @@ module _ (l : Level) (lo : Lost) (a b c : Hand) (q : Progress) (n : Expanded) (d
       let T : Supplied NodeRef → Type 0 = λ y. (noted (Saw (Global n) d place (Known (Valued v))) last).trace ≡ last.trace ++ Saw (Global n) d place y ∷ [] in
       let got : at_hand (supplied_with n d v s) d (Global n) ≡ Some (Valued v) = found_last n d v s.globals missing in
       let forward = passes_given (Valued v) more to_use got in
-      let kept : AtHandFound l (records_of c.reuse) s = λ name depth there y e j m.
-      (let f = x.known name depth there y e j m in (f.0, gone.enters.stays f.0 f.1, f.2, f.3)) in
-      let E : Bool → Type 0 = λ t. Enters l.setting (records_of b.reuse) gone.list (cond t [] (for_reference l.setting (entered l.setting l.below) l.past n d place))
-      (records_of c.reuse) in
-      let enters = subst E other gone.enters in
+      let kept : AtHandFound l (kept_by c.reuse) s = λ name depth there y e.
+      all_found_on l.setting (for_reference l.setting (entered l.setting l.below) l.past name depth there) b.reuse c.reuse gone.stands
+      (x.known name depth there y e) in
+      let K : Bool → Type 0 = λ t. KeepsAll l.setting (cond t [] (for_reference l.setting (entered l.setting l.below) l.past n d place)) c.reuse in
+      let keeps = subst K other gone.keeps in
       let ends = given_ends l.setting (at_level l) n d place (Valued v) is in
-      let here : AllFound l.setting (records_of c.reuse) (for_reference l.setting (entered l.setting l.below) l.past n d place)
-      = λ j m. enters.found j m (ends j m) in
+      let here : AllFound l.setting (kept_by c.reuse) (for_reference l.setting (entered l.setting l.below) l.past n d place)
+      = λ j m. keeps.found j m (ends j m) in
       referred_to (Goes q.going (supplied_with n d v s)) (next (Valued v), noted (Saw (Global n) d place (Known (Valued v))) last, forward, subst T (sym is) refl)
-      (found_with l (records_of c.reuse) s n d v kept (λ depth there deep.
-      reference_found_again l.setting (records_of c.reuse) (at_level l) n d depth place there (Valued v) (Valued v) is (lower depth there deep) here))
+      (found_with l (kept_by c.reuse) s n d v kept (λ depth there deep.
+      reference_found_again l.setting (kept_by c.reuse) (at_level l) n d depth place there (Valued v) (Valued v) is (lower depth there deep) here))
 
 -- ---- What is known
 
@@ -532,7 +566,8 @@ module _ (l : Level) (lo : Lost) (a b : Hand) (left : Plan NodeRef) (g last : Go
   comes_to_end : CountedRun l.setting (at_level l) lo a b
   comes_to_end =
       let trace = ap (λ (o : Owned NodeRef). o.going.trace) (sym all ∙ own_passes l.setting.ask (supply_of l) (nested_of l) l.below agrees passes ∙ own_ends l e last) in
-      ran_whole l lo a b last.trace x.list (reach l lo a b left (ends e) g last s x agrees all passes (stuck_end (at_hand s) e)) trace x.ran x.stands x.ready
+      let reached = reach l lo a b left (ends e) g last s x agrees all passes (stuck_end (at_hand s) e) in
+      ran_whole l lo a b last.trace x.list reached.0 trace x.ran x.stands reached.1 x.ready
 
 pub running_done : (l : Level) (lo : Lost) (a b : Hand) (p q : Progress) (gift : Option (Gift NodeRef)) (ss : List Stream) (ran : Ran)
     → Stands l p gift ss → Advances l.setting.ask gift p q (Ok (Done ran)) → Running l lo p.left (received p.waits p.going p.supplies gift) a b
@@ -551,7 +586,7 @@ running_failed l lo a b p q gift ss fault o h adv refused x = by_fault fault adv
   where
     go : (why : CodeRefused) (t : Rc Items Allocator) (st : Start NodeRef) → StandsSo l p.left ss st
         → AdvancesSo l.setting.ask p st q (Err (faults.Refused why t)) → Running l lo p.left st a b → CountedRun l.setting (at_level l) lo a b
-    go why t (Halts w g) so to y = ran_whole l lo a b y.done y.list y.run y.reached y.ran y.stands y.ready
+    go why t (Halts w g) so to y = ran_whole l lo a b y.done y.list y.run y.reached y.ran y.stands y.keeps y.ready
     go why t (Goes g s) so to y = comes_to_end l lo a b p.left g to.last s (Halted (refused_of why)) y so.1 so.0 (in_room h.room to.passes)
 
     by_fault : (f : RunFault) → AdvancesSo l.setting.ask p (received p.waits p.going p.supplies gift) q (Err f) → IsRefusedSo f o

@@ -20,7 +20,7 @@ use Rattle.spec_reuse.specs.Ledger.{nested_in, nested_but, AllFound, AreOfRun, E
 use Rattle.spec_reuse.proofs.Again.{agrees_self, serves}
 use Rattle.spec_reuse.proofs.Counting.{served_asks, one_after_another, some_gone_over, front_then_all, front_then_front, nothing_entered}
 use Rattle.spec_reuse.proofs.Counting.{call_counted, record_kept, nested_some}
-use Rattle.spec_reuse.proofs.Within.{in_left, in_right, nested_of_run}
+use Rattle.spec_reuse.proofs.Within.{in_right, nested_of_run}
 use Rattle.spec_node.specs.declared.node_ref.NodeRef.{NodeRef}
 use Rattle.xt_engine.specs.declared.event.Ran.{Ran}
 use Rattle.xt_record.specs.Search.{StandOn}
@@ -32,9 +32,10 @@ use Rattle.xt_driver.specs.declared.lost.Lost.TheVariants as lost
 use Rattle.xt_driver.specs.declared.drive.Served.TheVariants as served
 use Rattle.xt_driver.specs.Lost.{is_lost}
 use Rattle.xt_driver.specs.Remembered.{Entry}
-use Rattle.xt_driver.specs.Counted.{Hand, kept_at, records_of, IsMadeToo, IsMadeOf, IsRecorded, AreRecorded, IsReady, IsCounted, Counted}
+use Rattle.xt_driver.specs.Counted.{Hand, kept_at, kept_by, records_of, KeepsAll, IsMadeToo, IsMadeOf, IsRecorded, AreRecorded, IsReady, IsCounted, Counted}
 use Rattle.xt_driver.specs.Counted.{CountedFront, CountsFor, CountsOver}
 use Rattle.xt_driver.specs.Counted.{known_by, CountsServed, CountedRun}
+use Rattle.xt_driver.proofs.Completing.{kept_still, kept_more, found_at_hand, keeps_both, keeps_found, keeps_on, keeps_one}
 
 -- ---- What is remembered
 
@@ -61,6 +62,11 @@ pub recorded_both : (s : Setting NodeRef) (values : List (Bound NodeRef)) (recor
     → AreRecorded s values records es → AreRecorded s values records others → AreRecorded s values records (es ++ others)
 recorded_both s values records [] others h k = k
 recorded_both s values records (e ∷ es) others h k = (h.0, recorded_both s values records es others h.1 k)
+
+-- where what this run kept stands as it did
+pub ready_on : (s : Setting NodeRef) (values : List (Bound NodeRef)) (es : List (Entry NodeRef)) (before after : Reuse) → StandOn before after
+    → AreRecorded s values (kept_by before) es → AreRecorded s values (kept_by after) es
+ready_on s values es before after on h = recorded_later s values (kept_by before) (kept_by after) es (kept_still before after on) h
 
 -- ---- The records
 
@@ -101,6 +107,7 @@ counted_then s values is js a b c of_run x y = record {
   enters = one_after_another s (records_of a.reuse) (records_of b.reuse) (records_of c.reuse) x.list y.list is js of_run x.enters y.enters;
   ran = more_counted a b c (length x.list) (length y.list) (length (x.list ++ y.list)) (length-append x.list y.list) x.ran y.ran;
   stands = λ at r h. y.stands at r (x.stands at r h);
+  keeps = keeps_both s is js b.reuse c.reuse y.stands x.keeps y.keeps;
   ready = y.ready;
 }
 
@@ -111,6 +118,7 @@ front_then s values is a b c of_run x y = record {
   enters = front_then_all s (records_of a.reuse) (records_of b.reuse) (records_of c.reuse) x.list y.list is of_run x.enters y.enters;
   ran = more_counted a b c (length x.list) (length y.list) (length (x.list ++ y.list)) (length-append x.list y.list) x.ran y.ran;
   stands = λ at r h. y.stands at r (x.stands at r h);
+  keeps = y.keeps;
   ready = y.ready;
 }
 
@@ -124,16 +132,16 @@ fronts s values is a b c of_run x y = record {
   ready = y.ready;
 }
 
--- nothing more, where there are records of all
-pub counted_none : (s : Setting NodeRef) (values : List (Bound NodeRef)) (is : List (Instantiation NodeRef)) (a b : Hand)
-    → records_of b.reuse ≡ records_of a.reuse → b.reuse.steps.ran ≡ a.reuse.steps.ran → StandOn a.reuse b.reuse
-    → AllFound s (records_of a.reuse) is → IsReady s values b → Counted s values is a b
-counted_none s values is a b same ran stands found ready = record {
+-- nothing more, where this run kept records of all
+pub counted_none : (s : Setting NodeRef) (values : List (Bound NodeRef)) (is : List (Instantiation NodeRef)) (reuse : Reuse)
+    (old new : List (Entry NodeRef)) → AllFound s (kept_by reuse) is → AreRecorded s values (kept_by reuse) new
+    → Counted s values is (record { reuse = reuse; entries = old }) (record { reuse = reuse; entries = new })
+counted_none s values is reuse old new found ready = record {
   list = [];
-  enters = let E : List (Kept NodeRef) → Type 0 = λ ks. Enters s (records_of a.reuse) [] is ks in
-      subst E (sym same) (nothing_entered s (records_of a.reuse) is found);
-  ran = none_counted a b ran;
-  stands = stands;
+  enters = nothing_entered s (records_of reuse) is (found_at_hand s reuse is found);
+  ran = none_counted (record { reuse = reuse; entries = old }) (record { reuse = reuse; entries = new }) refl;
+  stands = λ at r h. h;
+  keeps = keeps_found s is reuse found;
   ready = ready;
 }
 
@@ -163,14 +171,14 @@ pub kept_on : (s : Setting NodeRef) (values : List (Bound NodeRef)) (is : List (
 kept_on s values is a b after r x at_hand last kept steps =
     let same = records_more b.reuse after (r ∷ []) last kept in
     let E : List (Kept NodeRef) → Type 0 = λ ks. Enters s (records_of a.reuse) x.list is ks in
-    let R : List (Kept NodeRef) → Type 0 = λ ks. AreRecorded s values ks b.entries in
+    let on = stand_on b.reuse after (r ∷ []) last kept in
     record {
       list = x.list;
       enters = subst E (sym same) (record_kept s (records_of a.reuse) (records_of b.reuse) x.list is (kept_at r) x.enters at_hand);
       ran = λ low. let l = x.ran low in ap (λ t. t.ran) steps ∙ l;
-      stands = λ at y h. stand_on b.reuse after (r ∷ []) last kept at y (x.stands at y h);
-      ready = subst R (sym same) (recorded_later s values (records_of b.reuse) (records_of b.reuse ++ kept_at r ∷ []) b.entries
-          (λ k h. in_left k (records_of b.reuse) (kept_at r ∷ []) h) x.ready);
+      stands = λ at y h. on at y (x.stands at y h);
+      keeps = keeps_on s is b.reuse after on x.keeps;
+      ready = ready_on s values b.entries b.reuse after on x.ready;
     }
 
 -- where nothing is kept, and records may be judged
@@ -181,13 +189,14 @@ pub same_on : (s : Setting NodeRef) (values : List (Bound NodeRef)) (is : List (
 same_on s values is a b after x last kept steps =
     let same = records_same b.reuse after last kept in
     let E : List (Kept NodeRef) → Type 0 = λ ks. Enters s (records_of a.reuse) x.list is ks in
-    let R : List (Kept NodeRef) → Type 0 = λ ks. AreRecorded s values ks b.entries in
+    let on = stand_same b.reuse after last kept in
     record {
       list = x.list;
       enters = subst E (sym same) x.enters;
       ran = λ low. steps ∙ x.ran low;
-      stands = λ at y h. stand_same b.reuse after last kept at y (x.stands at y h);
-      ready = subst R (sym same) x.ready;
+      stands = λ at y h. on at y (x.stands at y h);
+      keeps = keeps_on s is b.reuse after on x.keeps;
+      ready = ready_on s values b.entries b.reuse after on x.ready;
     }
 
 pub front_on : (s : Setting NodeRef) (values : List (Bound NodeRef)) (is : List (Instantiation NodeRef)) (a b : Hand) (after : Reuse)
@@ -197,13 +206,13 @@ pub front_on : (s : Setting NodeRef) (values : List (Bound NodeRef)) (is : List 
 front_on s values is a b after x last kept steps =
     let same = records_same b.reuse after last kept in
     let E : List (Kept NodeRef) → Type 0 = λ ks. EntersFront s (records_of a.reuse) x.list is ks in
-    let R : List (Kept NodeRef) → Type 0 = λ ks. AreRecorded s values ks b.entries in
+    let on = stand_same b.reuse after last kept in
     record {
       list = x.list;
       enters = subst E (sym same) x.enters;
       ran = λ low. steps ∙ x.ran low;
-      stands = λ at y h. stand_same b.reuse after last kept at y (x.stands at y h);
-      ready = subst R (sym same) x.ready;
+      stands = λ at y h. on at y (x.stands at y h);
+      ready = ready_on s values b.entries b.reuse after on x.ready;
     }
 
 -- ---- A call that is run
@@ -212,7 +221,7 @@ front_on s values is a b after x last kept steps =
 run_whole : (s : Setting NodeRef) (i : Instantiation NodeRef) (l : Lost) (a b c : Hand) → IsIn i (instantiations s)
     → CountsServed (served.Not l) s i a b → CountedRun s i l b c
     → (list : List (Instantiation NodeRef)) × Enters s (records_of a.reuse) list (nested_in s i) (records_of c.reuse)
-    × IsCounted (suc (length list)) a c × StandOn a.reuse c.reuse × (¬ (IsFound s (records_of a.reuse) i))
+    × IsCounted (suc (length list)) a c × StandOn a.reuse c.reuse × (¬ (IsFound s (records_of a.reuse) i)) × KeepsAll s (nested_in s i) c.reuse
 run_whole s i lost.Nothing a b c h x y =
     let first = x.0.list in (
       first ++ y.list,
@@ -222,6 +231,7 @@ run_whole s i lost.Nothing a b c h x y =
           (let m = length-append first y.list in omega (arith, m)) x.0.ran y.ran,
       λ at r k. y.stands at r (x.0.stands at r k),
       x.1,
+      y.keeps,
     )
 run_whole s i (lost.Reference l) a b c h x y =
     let first = x.counted.list in (
@@ -233,6 +243,7 @@ run_whole s i (lost.Reference l) a b c h x y =
           (let m = length-append first y.list in omega (arith, m)) x.counted.ran y.ran,
       λ at r k. y.stands at r (x.counted.stands at r k),
       λ k. x.none k.0 k.2,
+      keeps_on s (nested_in s i) b.reuse c.reuse y.stands x.counted.keeps,
     )
 
 -- what was made of it serves it
@@ -252,7 +263,7 @@ pub run_counted : (s : Setting NodeRef) (i : Instantiation NodeRef) (l : Lost) (
 run_counted s i l a b c after ran h x y of made last steps = go ran of made
   where
     went : (list : List (Instantiation NodeRef)) × Enters s (records_of a.reuse) list (nested_in s i) (records_of c.reuse)
-        × IsCounted (suc (length list)) a c × StandOn a.reuse c.reuse × (¬ (IsFound s (records_of a.reuse) i))
+        × IsCounted (suc (length list)) a c × StandOn a.reuse c.reuse × (¬ (IsFound s (records_of a.reuse) i)) × KeepsAll s (nested_in s i) c.reuse
     went = run_whole s i l a b c h x y
 
     by : (more : List (Rc Record Allocator)) → after.kept.records.items ≡ c.reuse.kept.records.items ++ more
@@ -262,7 +273,11 @@ run_counted s i l a b c after ran h x y of made last steps = go ran of made
     by more kept found like =
         let same = records_more c.reuse after more last kept in
         let E : List (Kept NodeRef) → Type 0 = λ ks. Enters s (records_of a.reuse) (went.0 ++ i ∷ []) (nested_in s i ++ i ∷ []) ks in
-        let R : List (Kept NodeRef) → Type 0 = λ ks. AreRecorded s i.past.values ks c.entries in
+        let F : List (Kept NodeRef) → Type 0 = λ ks. IsFound s ks i in
+        let on = stand_on c.reuse after more last kept in
+        let one = keeps_one s i after (λ ends.
+        let m = found ends in
+        subst F (sym (kept_more c.reuse after more kept)) (m.0, in_right m.0 (kept_by c.reuse) (map kept_at more) m.1, m.2, m.3)) in
         record {
           list = went.0 ++ i ∷ [];
           enters = subst E (sym same) (call_counted s (records_of a.reuse) (records_of c.reuse) (map kept_at more) went.0 i went.1 went.4 found like);
@@ -271,9 +286,9 @@ run_counted s i l a b c after ran h x y of made last steps = go ran of made
               let m = length-append went.0 (i ∷ []) in
               let e = ap (λ t. t.ran) steps in
               omega (arith, n, m, e);
-          stands = λ at r k. stand_on c.reuse after more last kept at r (went.3 at r k);
-          ready = subst R (sym same) (recorded_later s i.past.values (records_of c.reuse) (records_of c.reuse ++ map kept_at more) c.entries
-              (λ k m. in_left k (records_of c.reuse) (map kept_at more) m) y.ready);
+          stands = λ at r k. on at r (went.3 at r k);
+          keeps = keeps_both s (nested_in s i) (i ∷ []) c.reuse after on went.5 one;
+          ready = ready_on s i.past.values c.entries c.reuse after on y.ready;
         }
 
     go : (o : Option (Box Ran Allocator)) → IsMadeOf s i o → IsMadeToo c.reuse.kept.records.items after.kept.records.items i.call o
@@ -303,7 +318,7 @@ pub means_none : (s : Setting NodeRef) (past : Past NodeRef) (c : Call NodeRef) 
     → CountsOver s past.values (entered s levels past 0 c) a a
 means_none s past c levels a none =
     let C : ℕ → Type 0 = λ n. CountsOver s past.values (entered s n past 0 c) a a in
-    subst C (sym none) (λ of_run ready. counted_none s past.values [] a a refl refl (λ at r h. h) (λ i h. absurd h) ready)
+    subst C (sym none) (λ of_run ready. counted_none s past.values [] a.reuse a.entries a.entries (λ i h. absurd h) ready)
 
 -- there are records then of all that is remembered
 pub served_ready : (s : Setting NodeRef) (i : Instantiation NodeRef) (l : Lost) (a b : Hand) → CountsServed (served.Not l) s i a b
@@ -317,7 +332,7 @@ pub need_known : (s : Setting NodeRef) (past : Past NodeRef) (l : Lost) (name : 
     → is_lost l name levels place ≡ true → CountsFor s past l name levels place a a
 need_known s past l name levels place a known =
     let C : Bool → Type 0 = λ t. CountsOver s past.values (cond t [] (for_reference s (entered s levels) past name 0 place)) a a in
-    subst C (sym known) (λ of_run ready. counted_none s past.values [] a a refl refl (λ at r h. h) (λ i h. absurd h) ready)
+    subst C (sym known) (λ of_run ready. counted_none s past.values [] a.reuse a.entries a.entries (λ i h. absurd h) ready)
 
 pub need_other : (s : Setting NodeRef) (past : Past NodeRef) (l : Lost) (name : Expanded) (levels : ℕ) (place : Place) (a b : Hand)
     → is_lost l name levels place ≡ false → CountsOver s past.values (for_reference s (entered s levels) past name 0 place) a b

@@ -21,13 +21,13 @@ use Rattle.spec_run.specs.Meaning.{Setting, referred, meaning, settled, needs_it
 use Rattle.spec_run.specs.World.{same_element, same_module}
 use Rattle.spec_run.proofs.More.{meaning_at}
 use Rattle.spec_reuse.specs.Among.{IsIn}
-use Rattle.spec_reuse.specs.Instantiation.{Instantiation, given_to, meant_below, for_reference, entered, instantiations}
+use Rattle.spec_reuse.specs.Instantiation.{Instantiation, given_to, meant_below, own_of, for_reference, entered, instantiations}
 use Rattle.spec_reuse.specs.Serving.{Fits, Serves}
 use Rattle.spec_reuse.specs.Ledger.{nested_along, nested_in, AreOfRun, Enters, EntersFront, IsAlong, IsRead}
-use Rattle.spec_reuse.proofs.Counting.{nested_entered, nested_referred, front_of_run, front_then_front}
+use Rattle.spec_reuse.proofs.Counting.{nested_append, nested_entered, nested_referred, front_of_run, front_then_front}
 use Rattle.spec_reuse.proofs.Ends.{trail_known, known_here, known_behind, AllKnown}
 use Rattle.spec_reuse.proofs.Entering.{entered_at}
-use Rattle.spec_reuse.proofs.Fronts.{front_next}
+use Rattle.spec_reuse.proofs.Fronts.{front_next, whole_done}
 use Rattle.spec_reuse.proofs.Steps.{sets_out, event_holds, call_goes_on, reference_holds, all_holds, call_refused, event_differs, reference_differs}
 use Rattle.spec_reuse.proofs.Steps.{reference_refused}
 use Rattle.spec_reuse.proofs.Within.{in_right, nested_of_run, reference_left}
@@ -40,6 +40,7 @@ use Rattle.xt_engine.specs.declared.call.Call.{Call as CodeCall}
 use Rattle.xt_engine.specs.declared.turn.Entered.{Entered as Given}
 use Rattle.xt_engine.specs.declared.turn.Entered.TheVariants as given
 use Rattle.xt_record.specs.View.{AreWhole, AsksHold}
+use Rattle.xt_record.specs.declared.reuse.Reuse.{Reuse}
 use Rattle.xt_text.specs.declared.memory.Memory.{Memory}
 use Rattle.xt_driver.specs.declared.follow.Gone.{Gone}
 use Rattle.xt_driver.specs.declared.follow.Gone.TheVariants as gone
@@ -55,11 +56,12 @@ use Rattle.xt_driver.specs.declared.outcome.Outcome.{Outcome as Came}
 use Rattle.xt_driver.specs.View.{outcome_of, Gives, GivesSo}
 use Rattle.xt_driver.specs.Along.{halts, inner_of, refuses, IsNext, IsSeenAs, Takes, TakesSo, TakesReference, TakesReferenceSo}
 use Rattle.xt_driver.specs.Lost.{is_to}
-use Rattle.xt_driver.specs.Counted.{Hand, records_of, IsReady, Counted, CountedAlong, CountedLost, CountsOver, CountsOn, CountsLost, CountsGone}
+use Rattle.xt_driver.specs.Counted.{Hand, records_of, KeepsAll, IsReady, Counted, CountedAlong, CountedLost, CountsOver, CountsOn, CountsLost, CountsGone}
 use Rattle.xt_driver.specs.Counted.{IsCounted, IsIdle, known_by}
 use Rattle.xt_driver.proofs.NoHoles.{meaning_whole}
 use Rattle.xt_driver.proofs.Less.{referred_at}
 use Rattle.xt_driver.proofs.Serving.{no_end}
+use Rattle.xt_driver.proofs.Completing.{keeps_none, keeps_of, keeps_both}
 use Rattle.xt_driver.proofs.Tallying.{more_counted}
 
 -- ---- Streams
@@ -123,10 +125,18 @@ along_begun s i k ss a h f asks none ready = record {
   asks = asks;
   ran = λ low. omega (arith, low);
   stands = λ at r m. m;
+  keeps = keeps_none s a.reuse;
   ready = ready;
 }
 
 -- ---- What holds, and what does not
+
+-- with one event more that enters nothing
+keeps_still : (s : Setting NodeRef) (i : Instantiation NodeRef) (done : List (Event NodeRef)) (e : Event NodeRef) (reuse : Reuse)
+    → nested_along s i (e ∷ []) ≡ [] → KeepsAll s (nested_along s i done) reuse → KeepsAll s (nested_along s i (done ++ e ∷ [])) reuse
+keeps_still s i done e reuse none h =
+    keeps_of s (nested_along s i done) (nested_along s i (done ++ e ∷ [])) reuse
+    (sym (nested_append s i done (e ∷ []) ∙ ap (λ is. nested_along s i done ++ is) none ∙ append-nil (nested_along s i done))) h
 
 -- with one event more that is no call
 still : (s : Setting NodeRef) (i : Instantiation NodeRef) (done : List (Event NodeRef)) (e : Event NodeRef) (ss : List Stream)
@@ -145,6 +155,7 @@ tells_held s i k done rest ss a b (Asked question answer) n x = record {
   asks = x.asks.1;
   ran = x.ran;
   stands = x.stands;
+  keeps = keeps_still s i done (Asked question answer) b.reuse refl x.keeps;
   ready = x.ready;
 }
 tells_held s i k done rest ss a b (Saw Position d p v) n x = record {
@@ -154,6 +165,7 @@ tells_held s i k done rest ss a b (Saw Position d p v) n x = record {
   asks = x.asks;
   ran = x.ran;
   stands = x.stands;
+  keeps = keeps_still s i done (Saw Position d p v) b.reuse refl x.keeps;
   ready = x.ready;
 }
 tells_held s i k done rest ss a b (Saw Size d p v) n x = record {
@@ -163,6 +175,7 @@ tells_held s i k done rest ss a b (Saw Size d p v) n x = record {
   asks = x.asks;
   ran = x.ran;
   stands = x.stands;
+  keeps = keeps_still s i done (Saw Size d p v) b.reuse refl x.keeps;
   ready = x.ready;
 }
 tells_held s i k done rest ss a b (Saw Rule d p v) n x = record {
@@ -172,6 +185,7 @@ tells_held s i k done rest ss a b (Saw Rule d p v) n x = record {
   asks = x.asks;
   ran = x.ran;
   stands = x.stands;
+  keeps = keeps_still s i done (Saw Rule d p v) b.reuse refl x.keeps;
   ready = x.ready;
 }
 tells_held s i k done rest ss a b (Saw (Global name) d p v) n x = absurd n
@@ -183,6 +197,7 @@ tells_held s i k done rest ss a b (Held first contents) n x = record {
   asks = x.asks;
   ran = x.ran;
   stands = x.stands;
+  keeps = keeps_still s i done (Held first contents) b.reuse refl x.keeps;
   ready = x.ready;
 }
 
@@ -237,6 +252,9 @@ tells_entered s i k done rest ss us a b c call depth o is on more over x =
       asks = x.asks;
       ran = more_counted a b c (length x.list) (length y.list) (length (x.list ++ y.list)) (length-append x.list y.list) x.ran y.ran;
       stands = λ at r m. y.stands at r (x.stands at r m);
+      keeps = keeps_of s (nested_along s i done ++ entered s i.below i.past depth (settled i.call call)) (nested_along s i (done ++ Entered call depth ∷ []))
+          c.reuse (sym (nested_entered s i done call depth))
+          (keeps_both s (nested_along s i done) (entered s i.below i.past depth (settled i.call call)) b.reuse c.reuse y.stands x.keeps y.keeps);
       ready = y.ready;
     }
 
@@ -248,13 +266,19 @@ tells_refused : (s : Setting NodeRef) (i : Instantiation NodeRef) (k : Kept Node
 tells_refused s i k done rest ss a b c call depth o is stops over x =
     let y = over (entered_of_run s i k done rest call depth x.along.of_run x.along.fits x.along.parts x.along.holds) x.ready in
     let G : Outcome NodeRef → Type 0 = λ m. GoesOn m.ending in
+    let refused : ¬ (GoesOn (meant_below s i depth call).ending) = λ on. no_end o.ending stops (subst G (sym is) on) in
     let h = call_refused s i k done rest call depth (records_of a.reuse) (records_of b.reuse) (records_of c.reuse) x.list y.list x.along
-    (λ on. no_end o.ending stops (subst G (sym is) on)) y.enters in (
+    refused y.enters in
+    let goes = front_next s i k done (Entered call depth) rest x.along.fits x.along.parts x.along.holds in
+    let own = goes.is ∙ ap (λ es. done ++ Entered call depth ∷ es) (goes.last refused) in (
       record {
         list = x.list ++ y.list;
         enters = h.0;
         ran = more_counted a b c (length x.list) (length y.list) (length (x.list ++ y.list)) (length-append x.list y.list) x.ran y.ran;
         stands = λ at r m. y.stands at r (x.stands at r m);
+        keeps = keeps_of s (nested_along s i done ++ entered s i.below i.past depth (settled i.call call)) (nested_in s i) c.reuse
+            (sym (ap (nested_along s i) own ∙ nested_entered s i done call depth))
+            (keeps_both s (nested_along s i done) (entered s i.below i.past depth (settled i.call call)) b.reuse c.reuse y.stands x.keeps y.keeps);
         ready = y.ready;
       },
       h.1,
@@ -352,6 +376,10 @@ module _ (s : Setting NodeRef) (i : Instantiation NodeRef) (k : Kept NodeRef) (d
   in_all : IsCounted (length (z.list ++ there.list)) a c
   in_all = more_counted a b c (length z.list) (length there.list) (length (z.list ++ there.list)) (length-append z.list there.list) z.ran there.ran
 
+  both_kept : KeepsAll s (nested_along s i done ++ for_reference s (entered s i.below) i.past name depth place) c.reuse
+  both_kept =
+      keeps_both s (nested_along s i done) (for_reference s (entered s i.below) i.past name depth place) b.reuse c.reuse there.stands z.keeps there.keeps
+
   -- it has the value that was seen
   refers_on : given_to s i (Global name) depth place ≡ x → us ≡ ss
       → CountedAlong s i k (done ++ Saw (Global name) depth place x ∷ []) rest us a c
@@ -363,6 +391,8 @@ module _ (s : Setting NodeRef) (i : Instantiation NodeRef) (k : Kept NodeRef) (d
     asks = z.asks;
     ran = in_all;
     stands = λ at r m. there.stands at r (z.stands at r m);
+    keeps = keeps_of s (nested_along s i done ++ for_reference s (entered s i.below) i.past name depth place)
+        (nested_along s i (done ++ Saw (Global name) depth place x ∷ [])) c.reuse (sym (nested_referred s i done name depth place x)) both_kept;
     ready = there.ready;
   }
 
@@ -406,12 +436,18 @@ module _ (s : Setting NodeRef) (i : Instantiation NodeRef) (k : Kept NodeRef) (d
   refers_lost why l same e f g =
       let h = reference_refused s i k done rest name depth place x why (records_of a.reuse) (records_of b.reuse) (records_of c.reuse) z.list there.list z.along
       same there.enters in
+      let event = Saw (Global name) depth place x in
+      let now : Event NodeRef = Saw (Global name) depth place (given_to s i (Global name) depth place) in
+      let goes = front_next s i k done event rest z.along.fits z.along.parts z.along.holds in
+      let own = goes.is ∙ ap (λ es. done ++ now ∷ es) (goes.last (why, same)) in
       record {
         counted = record {
           list = z.list ++ there.list;
           enters = h.0;
           ran = in_all;
           stands = λ at r m. there.stands at r (z.stands at r m);
+          keeps = keeps_of s (nested_along s i done ++ for_reference s (entered s i.below) i.past name depth place) (nested_in s i) c.reuse
+              (sym (ap (nested_along s i) own ∙ nested_referred s i done name depth place (given_to s i (Global name) depth place))) both_kept;
           ready = there.ready;
         };
         none = h.1;
@@ -510,8 +546,21 @@ pub along_whole : (s : Setting NodeRef) (i : Instantiation NodeRef) (k : Kept No
     → rest ≡ [] → CountedAlong s i k done rest ss a b → Counted s i.past.values (nested_in s i) a b × Serves s i k
 along_whole s i k done rest ss a b none x =
     let A : List (Event NodeRef) → Type 0 = λ es. IsAlong s i k done es (records_of a.reuse) x.list (records_of b.reuse) in
-    let h = all_holds s i k done (records_of a.reuse) (records_of b.reuse) x.list (subst A none x.along) in
-    (record { list = x.list; enters = h.0; ran = x.ran; stands = x.stands; ready = x.ready }, h.1)
+    let along = subst A none x.along in
+    let h = all_holds s i k done (records_of a.reuse) (records_of b.reuse) x.list along in
+    let whole : k.trace ≡ done = along.parts ∙ append-nil done in
+    let H : List (Event NodeRef) → Type 0 = λ es. Hold s.ask (given_to s i) (meant_below s i) [] es in
+    let own : (own_of s i).going.trace ≡ done = whole_done s i k along.fits (subst H (sym whole) along.holds) ∙ whole in (
+      record {
+        list = x.list;
+        enters = h.0;
+        ran = x.ran;
+        stands = x.stands;
+        keeps = keeps_of s (nested_along s i done) (nested_in s i) b.reuse (sym (ap (nested_along s i) own)) x.keeps;
+        ready = x.ready;
+      },
+      h.1,
+    )
 
 -- ---- In a world with the same truth
 

@@ -1,5 +1,5 @@
 -- What is counted while records are tried for a call.
-use Rattle.std.proofs.Common.{◌≡◌, ◌⊎◌, inl, inr, ℕ, zero, suc, ◌<◌, ◌≤◌, List, [], ◌∷◌, ◌++◌, map, Some, None, Result, Ok, Err, slice_get, refl, sym}
+use Rattle.std.proofs.Common.{◌≡◌, ◌⊎◌, inl, inr, ℕ, zero, suc, ◌<◌, ◌≤◌, List, [], ◌∷◌, ◌++◌, map, Some, None, Result, Ok, Err, refl, sym}
 use Rattle.std.proofs.Common.{ap, subst, arith}
 use Rattle.std.specs.Prelude.{Box, IfOk}
 use Rattle.std.specs.declared.alloc.Global.{Global as Allocator}
@@ -19,12 +19,11 @@ use Rattle.spec_reuse.proofs.Within.{in_left, in_right, nested_of_run}
 use Rattle.spec_node.specs.declared.node_ref.NodeRef.{NodeRef}
 use Rattle.xt_record.specs.Asked.{Judges}
 use Rattle.xt_record.specs.Search.{PassedOver, Stands, InKept, InLast}
-use Rattle.xt_record.specs.View.{kept_in, AsksHold, IsAt, MayServe}
+use Rattle.xt_record.specs.View.{kept_in, AsksHold, MayServe}
 use Rattle.xt_record.specs.declared.pool.Pool.{Pool}
 use Rattle.xt_record.specs.declared.record.Record.{Record}
 use Rattle.xt_record.specs.declared.reuse.Found.{Found}
 use Rattle.xt_record.specs.declared.reuse.Reuse.{Reuse}
-use Rattle.xt_record.proofs.Chaining.{none_some, some_is}
 use Rattle.xt_record.proofs.Standing.{stands_above, stands_once, judged_on}
 use Rattle.xt_text.specs.declared.memory.Memory.{Memory}
 use Rattle.xt_driver.specs.declared.drive.Served.{Served}
@@ -32,8 +31,9 @@ use Rattle.xt_driver.specs.declared.drive.Served.TheVariants as served
 use Rattle.xt_driver.specs.declared.lost.Lost.TheVariants as lost
 use Rattle.xt_driver.specs.declared.lost.LostReference.{LostReference}
 use Rattle.xt_driver.specs.declared.outcome.Outcome.{Outcome as Came}
-use Rattle.xt_driver.specs.Counted.{Hand, kept_at, records_of, IsKept, kept_before, kept_now, IsKeptToo, IsUnserved, IsAnswer, IsReady, Counted}
+use Rattle.xt_driver.specs.Counted.{Hand, kept_at, kept_by, records_of, IsKept, kept_before, kept_now, IsKeptToo, IsUnserved, IsAnswer, IsReady, Counted}
 use Rattle.xt_driver.specs.Counted.{CountedFront, CountedLost, CountsLost, CountsFollowed, CountsServed}
+use Rattle.xt_driver.proofs.Completing.{is_at, in_some, stands_kept, kept_still, kept_more, keeps_both, keeps_one}
 use Rattle.xt_driver.proofs.Tallying.{fronts, front_then, front_none, front_on, same_on, kept_on}
 
 -- ---- Records and their places
@@ -56,16 +56,6 @@ may_serve : (s : Setting NodeRef) (i : Instantiation NodeRef) (k : Kept NodeRef)
     → MayServe s.ask i.call i.below k
 may_serve s i k h asks = record { of_call = h.fits.of_call; levels = h.fits.levels; asks = asks_here s.ask k.trace asks }
 
-at_in : (rs : List (Rc Record Allocator)) (turn : ℕ) (r : Rc Record Allocator) → slice_get rs turn ≡ Some r → IsIn (kept_at r) (map kept_at rs)
-at_in [] turn r e = absurd (none_some e)
-at_in (x ∷ rs) zero r e = inl (ap kept_at (sym (some_is e)))
-at_in (x ∷ rs) (suc turn) r e = inr (at_in rs turn r e)
-
-is_at : (rs : List (Rc Record Allocator)) (turn : ℕ) (r : Record) → IsAt rs turn r → IsIn (kept_in r) (map kept_at rs)
-is_at rs turn r h =
-    let P : Record → Type 0 = λ x. IsIn (kept_in x) (map kept_at rs) in
-    subst P h.is (at_in rs turn h.handle h.here)
-
 -- a record that stands somewhere is at hand
 pub stands_in : (reuse : Reuse) (at : ℕ) (r : Record) → Stands reuse at r → IsIn (kept_in r) (records_of reuse)
 stands_in reuse at r (InKept h) =
@@ -74,17 +64,6 @@ stands_in reuse at r (InKept h) =
 stands_in reuse at r (InLast h) =
     in_left (kept_in r) (map kept_at reuse.last.now.records.items) (map kept_at reuse.kept.records.items)
     (is_at reuse.last.now.records.items h.turn r h.here)
-
-record IsSome (rs : List (Rc Record Allocator)) (k : Kept NodeRef) : Type 0 where
-  turn : ℕ
-  handle : Rc Record Allocator
-  here : slice_get rs turn ≡ Some handle
-  is : k ≡ kept_at handle
-
-in_some : (rs : List (Rc Record Allocator)) (k : Kept NodeRef) → IsIn k (map kept_at rs) → IsSome rs k
-in_some [] k h = absurd h
-in_some (x ∷ rs) k (inl e) = record { turn = 0; handle = x; here = refl; is = e }
-in_some (x ∷ rs) k (inr h) = let m = in_some rs k h in record { turn = suc m.turn; handle = m.handle; here = m.here; is = m.is }
 
 -- and what is at hand stands somewhere
 record StandsAs (reuse : Reuse) (k : Kept NodeRef) : Type 0 where
@@ -176,12 +155,25 @@ tried_all s i a b from passed t = λ m.
     none x serves asks (inl e) = t.passed x.at x.r x.stands e serves asks
     none x serves asks (inr e) = passed x.at x.r (t.counted.stands x.at x.r x.stands) e tt (may_serve s i (kept_in x.r) serves asks)
 
+-- with the call itself, which one of these records serves
+with_served : (s : Setting NodeRef) (i : Instantiation NodeRef) (a b : Hand) (k : Kept NodeRef) → Counted s i.past.values (nested_in s i) a b
+    → IsIn k (kept_by b.reuse) → Serves s i k → ledger.AsksHold s.ask k.trace → Counted s i.past.values (nested_in s i ++ i ∷ []) a b
+with_served s i a b k x there serves asks = record {
+  list = x.list;
+  enters = call_served s (records_of a.reuse) (records_of b.reuse) x.list i k x.enters
+      (in_right k (map kept_at b.reuse.last.now.records.items) (kept_by b.reuse) there) serves asks;
+  ran = x.ran;
+  stands = x.stands;
+  keeps = keeps_both s (nested_in s i) (i ∷ []) b.reuse b.reuse (λ at r h. h) x.keeps (keeps_one s i b.reuse (λ ends. (k, there, serves, asks)));
+  ready = x.ready;
+}
+
 -- one serves, and is kept
 pub tried_served : (s : Setting NodeRef) (i : Instantiation NodeRef) (a b after : Hand) (reuse last : Reuse) (from : ℕ) (f : Found)
     (o : Box Came Allocator) → Judges b.reuse reuse → Stands b.reuse f.next f.record.value → IsIn i (instantiations s) → Tried s i a b from
     → Counted s i.past.values (nested_in s i) (record { reuse = reuse; entries = b.entries }) after × Serves s i (kept_in f.record.value)
     → AsksHold s.ask (kept_in f.record.value).trace
-    → IsKeptToo (Ok (served.As o)) after.reuse.kept.records.items last.kept.records.items f.record
+    → IsKeptToo (Ok (served.As o)) after.reuse.kept.records.items last.kept.records.items f
     → last.last ≡ after.reuse.last → last.steps ≡ after.reuse.steps
     → Counted s i.past.values (nested_in s i ++ i ∷ []) a (record { reuse = last; entries = after.entries })
 tried_served s i a b after reuse last from f o j stands h t x asks kept same steps = go kept
@@ -192,20 +184,20 @@ tried_served s i a b after reuse last from f o j stands h t x asks kept same ste
     there : IsIn (kept_at f.record) (records_of after.reuse)
     there = x.0.enters.stays (kept_at f.record) (stands_in reuse f.next f.record.value (judged_on b.reuse reuse j f.next f.record.value stands))
 
-    whole : Counted s i.past.values (nested_in s i ++ i ∷ []) a after
-    whole = record {
-      list = all.list;
-      enters = call_served s (records_of a.reuse) (records_of after.reuse) all.list i (kept_at f.record) all.enters there x.1
-          (asks_there s.ask (kept_in f.record.value).trace asks);
-      ran = all.ran;
-      stands = all.stands;
-      ready = all.ready;
-    }
-
-    go : IsKept after.reuse.kept.records.items last.kept.records.items f.record
+    go : IsKept after.reuse.kept.records.items last.kept.records.items f
         → Counted s i.past.values (nested_in s i ++ i ∷ []) a (record { reuse = last; entries = after.entries })
-    go (kept_before e) = same_on s i.past.values (nested_in s i ++ i ∷ []) a after last whole same e (ap (λ y. y.ran) steps)
-    go (kept_now e) = kept_on s i.past.values (nested_in s i ++ i ∷ []) a after last f.record whole there same e steps
+    go (kept_before low e) =
+        let before = stands_kept reuse f.next f.record.value (judged_on b.reuse reuse j f.next f.record.value stands) low in
+        let P : List (Rc Record Allocator) → Type 0 = λ rs. IsIn (kept_at f.record) (map kept_at rs) in
+        with_served s i a (record { reuse = last; entries = after.entries }) (kept_at f.record)
+        (same_on s i.past.values (nested_in s i) a after last all same e (ap (λ y. y.ran) steps))
+        (subst P (sym e) (kept_still reuse after.reuse x.0.stands (kept_at f.record) before)) x.1 (asks_there s.ask (kept_in f.record.value).trace asks)
+    go (kept_now e) =
+        let K : List (Kept NodeRef) → Type 0 = λ ks. IsIn (kept_at f.record) ks in
+        with_served s i a (record { reuse = last; entries = after.entries }) (kept_at f.record)
+        (kept_on s i.past.values (nested_in s i) a after last f.record all there same e steps)
+        (subst K (sym (kept_more after.reuse last (f.record ∷ []) e)) (in_right (kept_at f.record) (kept_by after.reuse) (kept_at f.record ∷ []) (inl refl)))
+        x.1 (asks_there s.ask (kept_in f.record.value).trace asks)
 
 -- a global was refused
 pub tried_lost : (s : Setting NodeRef) (i : Instantiation NodeRef) (a b after : Hand) (reuse last : Reuse) (from : ℕ) (k : Kept NodeRef)
@@ -231,7 +223,7 @@ unserved P (Ok (served.Not lost.Nothing)) is h = h
 unserved P (Ok (served.Not (lost.Reference l))) is h = absurd is
 unserved P (Err m) is h = absurd is
 
-pub kept_none : (r : Result Served Memory) (before after : List (Rc Record Allocator)) (f : Rc Record Allocator) → IsUnserved r
+pub kept_none : (r : Result Served Memory) (before after : List (Rc Record Allocator)) (f : Found) → IsUnserved r
     → IsKeptToo r before after f → after ≡ before
 kept_none (Ok (served.As o)) before after f is h = absurd is
 kept_none (Ok (served.Not l)) before after f is h = h
@@ -251,7 +243,7 @@ pub answered : (s : Setting NodeRef) (i : Instantiation NodeRef) (a b after : Ha
     → Judges b.reuse reuse → Stands b.reuse f.next f.record.value → IsIn i (instantiations s) → Tried s i a b from
     → CountsFollowed v s i (kept_in f.record.value) (record { reuse = reuse; entries = b.entries }) after
     → AsksHold s.ask (kept_in f.record.value).trace → IsAnswer v
-    → IsKeptToo (Ok v) after.reuse.kept.records.items last.kept.records.items f.record → last.last ≡ after.reuse.last
+    → IsKeptToo (Ok v) after.reuse.kept.records.items last.kept.records.items f → last.last ≡ after.reuse.last
     → last.steps ≡ after.reuse.steps → CountsServed v s i a (record { reuse = last; entries = after.entries })
 answered s i a b after reuse last from f (served.As o) j stands h t x asks answer kept same steps =
     tried_served s i a b after reuse last from f o j stands h t x asks kept same steps

@@ -1,5 +1,5 @@
 -- What is counted of a whole run, turn by turn.
-use Rattle.std.proofs.Common.{◌≡◌, ℕ, ◌+◌, ◌<◌, ◌≤◌, List, [], ◌∷◌, ◌++◌, length, get_or, map, drop, Option, Some, None, Result, refl, sym, ap, subst}
+use Rattle.std.proofs.Common.{◌≡◌, ℕ, ◌+◌, ◌<◌, ◌≤◌, List, [], ◌∷◌, ◌++◌, length, get_or, map, drop, Option, Some, None, Result, sym, ap, subst}
 use Rattle.std.proofs.Common.{◌∙◌, append_assoc}
 use Rattle.std.specs.Prelude.{OnOk}
 use Rattle.std.proofs.lemmas.List.{append-nil, at_drop_more, at_drop_all}
@@ -33,8 +33,9 @@ use Rattle.xt_driver.specs.View.{held_of, setting_in, supplied_of}
 use Rattle.xt_driver.specs.Remembered.{Entry, Forgets}
 use Rattle.xt_driver.specs.Referring.{entry_of}
 use Rattle.xt_driver.specs.Turning.{HeldAs, IsHeldAs, IsTurnedAs, meant_in}
-use Rattle.xt_driver.specs.Counted.{Hand, records_of, IsRecorded, AreRecorded, Counted, CountsOver, IsOfTurn, for_turn, CountedWhole}
+use Rattle.xt_driver.specs.Counted.{Hand, kept_by, records_of, KeepsAll, IsRecorded, AreRecorded, Counted, CountsOver, IsOfTurn, for_turn, CountedWhole}
 use Rattle.xt_driver.proofs.Finding.{recorded_at, entry_in, evaluated_found, aside_ready, held_goes}
+use Rattle.xt_driver.proofs.Completing.{keeps_of}
 use Rattle.xt_driver.proofs.Tallying.{counted_none, counted_then}
 
 -- ---- A turn
@@ -49,11 +50,10 @@ pub turn_recalled : (s : Setting NodeRef) (past : Past NodeRef) (g : means.Named
     (reuse : Reuse) → IsOfTurn t g.element all → supplied_of t.held ≡ held_by (meant_in s past g levels)
     → CountsOver s past.values (for_turn s past g levels) (record { reuse = reuse; entries = all }) (record { reuse = reuse; entries = all })
 turn_recalled s past g levels t all reuse from same = λ of_run ready.
-    let a : Hand = record { reuse = reuse; entries = all } in
-    let R : Option NodeRef → Type 0 = λ o. IsRecorded s past.values (records_of reuse) o in
-    let h = subst R from.element_is (recorded_at s past.values (records_of reuse) all from.entry from.among ready) in
-    counted_none s past.values (for_turn s past g levels) a a refl refl (λ at r m. m)
-    (evaluated_found s past (records_of reuse) g.name levels nowhere g.element h of_run (ends t.held from.entry from.held same)) ready
+    let R : Option NodeRef → Type 0 = λ o. IsRecorded s past.values (kept_by reuse) o in
+    let h = subst R from.element_is (recorded_at s past.values (kept_by reuse) all from.entry from.among ready) in
+    counted_none s past.values (for_turn s past g levels) reuse all all
+    (evaluated_found s past (kept_by reuse) g.name levels nowhere g.element h of_run (ends t.held from.entry from.held same)) ready
   where
     ends : (h : Held) (e : Entry NodeRef) → HeldAs h e → supplied_of h ≡ held_by (meant_in s past g levels) → AllEnd s (for_turn s past g levels)
     ends (held.Value v) e is same =
@@ -68,8 +68,8 @@ pub turn_forgot : (s : Setting NodeRef) (past : Past NodeRef) (g : means.NamedGl
     → CountsOver s past.values (for_turn s past g levels) (record { reuse = reuse; entries = new }) after
     → CountsOver s past.values (for_turn s past g levels) (record { reuse = reuse; entries = old }) after
 turn_forgot s past g levels name old new reuse after forgets over = λ of_run ready.
-    let y = over of_run (aside_ready s past.values (records_of reuse) forgets.is ready).1 in
-    record { list = y.list; enters = y.enters; ran = y.ran; stands = y.stands; ready = y.ready }
+    let y = over of_run (aside_ready s past.values (kept_by reuse) forgets.is ready).1 in
+    record { list = y.list; enters = y.enters; ran = y.ran; stands = y.stands; keeps = y.keeps; ready = y.ready }
 
 pub turn_with : (s : Setting NodeRef) (past : Past NodeRef) (g : means.NamedGlobal NodeRef) (levels : ℕ) (under : List Expanded) (call : Call NodeRef)
     (a b : Hand) → under ≡ g.name ∷ past.under → call ≡ global_call s.root g.element nowhere
@@ -111,13 +111,11 @@ pub turns_begun : (s : Setting NodeRef) (levels : ℕ) (gs : List (means.NamedGl
     (reuse : Reuse) (all : List (Entry NodeRef)) → values ≡ [] → all ≡ []
     → CountedTurns s levels gs values c (entered_by_run s levels gs [] c) (record { reuse = reuse; entries = [] }) (record { reuse = reuse; entries = all })
 turns_begun s levels gs values c reuse all none empty =
-    let a : Hand = record { reuse = reuse; entries = [] } in
-    let b : Hand = record { reuse = reuse; entries = all } in
-    let R : List (Entry NodeRef) → Type 0 = λ es. AreRecorded s values (records_of reuse) es in
+    let R : List (Entry NodeRef) → Type 0 = λ es. AreRecorded s values (kept_by reuse) es in
     record {
       done = [];
       parts = ap (λ vs. entered_by_run s levels gs vs c) (sym none);
-      counted = counted_none s values [] a b refl refl (λ at r m. m) (λ i h. absurd h) (subst R (sym empty) tt);
+      counted = counted_none s values [] reuse [] all (λ i h. absurd h) (subst R (sym empty) tt);
     }
 
 turn_part : (s : Setting NodeRef) (levels : ℕ) (g : means.NamedGlobal NodeRef) (gs : List (means.NamedGlobal NodeRef)) (values : List (Bound NodeRef))
@@ -163,7 +161,8 @@ turns_on s levels g gs values all c (held.Value v) None is a b d of_run same e a
         enters = m.1.enters;
         ran = m.1.ran;
         stands = m.1.stands;
-        ready = recorded_turn s values (records_of d.reuse) new d.entries m.1.ready;
+        keeps = m.1.keeps;
+        ready = recorded_turn s values (kept_by d.reuse) new d.entries m.1.ready;
       };
     } in
     let P : List (Bound NodeRef) → Type 0 = λ vs. CountedTurns s levels gs vs c is a d in
@@ -172,7 +171,8 @@ turns_on s levels g gs values all c (held.Value v) None is a b d of_run same e a
 pub turns_refused : (s : Setting NodeRef) (levels : ℕ) (g : means.NamedGlobal NodeRef) (gs : List (means.NamedGlobal NodeRef))
     (values all : List (Bound NodeRef)) (c : Call NodeRef) (h : Held) (r : Option Refused) (why : Refused) (is : List (Instantiation NodeRef)) (a b d : Hand)
     → AreOfRun s is → supplied_of h ≡ held_by (meant_in s (at_turn values) g levels) → r ≡ Some why → IsHeldAs r h g.name values all
-    → CountedTurns s levels (g ∷ gs) values c is a b → CountsOver s values (for_turn s (at_turn values) g levels) b d → CountedWhole s is a.reuse d.reuse
+    → CountedTurns s levels (g ∷ gs) values c is a b → CountsOver s values (for_turn s (at_turn values) g levels) b d
+    → CountedWhole s is a.reuse d.reuse × KeepsAll s is d.reuse
 turns_refused s levels g gs values all c (held.Value v) None why is a b d of_run same e as_refused x over = absurd (cc)
 turns_refused s levels g gs values all c (held.Value v) (Some reason) why is a b d of_run same e as_refused x over = absurd as_refused
 turns_refused s levels g gs values all c (held.Refused because content) None why is a b d of_run same e as_refused x over = absurd as_refused
@@ -180,16 +180,15 @@ turns_refused s levels g gs values all c (held.Refused because content) (Some re
     let part = turn_part s levels g gs values c (Failed (refused_of because)) same in
     let m = turn_done s levels g gs values c is [] a b d of_run x part over in
     let E : List (Instantiation NodeRef) → Type 0 = λ l. Enters s (records_of a.reuse) m.1.list l (records_of d.reuse) in
-    record {
-      list = m.1.list;
-      enters = subst E (sym (m.0 ∙ append-nil (x.done ++ for_turn s (at_turn values) g levels))) m.1.enters;
-      ran = m.1.ran;
-    }
+    let all : (x.done ++ for_turn s (at_turn values) g levels) ≡ is = sym (m.0 ∙ append-nil (x.done ++ for_turn s (at_turn values) g levels)) in (
+      record { list = m.1.list; enters = subst E all m.1.enters; ran = m.1.ran },
+      keeps_of s (x.done ++ for_turn s (at_turn values) g levels) is d.reuse all m.1.keeps,
+    )
 
 -- the root, behind all turns
 pub turns_ended : (s : Setting NodeRef) (levels : ℕ) (values : List (Bound NodeRef)) (c : Call NodeRef) (is : List (Instantiation NodeRef)) (a b d : Hand)
     → AreOfRun s is → CountedTurns s levels [] values c is a b → CountsOver s values (entered s levels (at_turn values) 0 c) b d
-    → CountedWhole s is a.reuse d.reuse
+    → CountedWhole s is a.reuse d.reuse × KeepsAll s is d.reuse
 turns_ended s levels values c is a b d of_run x over =
     let last = entered s levels (at_turn values) 0 c in
     let R : List (Instantiation NodeRef) → Type 0 = λ l. AreOfRun s l in
@@ -197,16 +196,14 @@ turns_ended s levels values c is a b d of_run x over =
     let y = over (λ i m. both i (in_right i x.done last m)) x.counted.ready in
     let m = counted_then s values x.done last a b d both x.counted y in
     let F : List (Instantiation NodeRef) → Type 0 = λ l. Enters s (records_of a.reuse) m.list l (records_of d.reuse) in
-    record { list = m.list; enters = subst F (sym x.parts) m.enters; ran = m.ran }
+    (record { list = m.list; enters = subst F (sym x.parts) m.enters; ran = m.ran }, keeps_of s (x.done ++ last) is d.reuse (sym x.parts) m.keeps)
 
--- with all levels of a run
-pub whole_at : {T : Type 0} (s : Setting NodeRef) (levels : ℕ) (result : Result T Memory) (before after : Reuse) → levels ≡ levels_of_a_run
-    → (AreOfRun s (entered_by_run s levels s.globals [] (root_call s))
-    → OnOk result (CountedWhole s (entered_by_run s levels s.globals [] (root_call s)) before after))
-    → OnOk result (CountedWhole s (instantiations s) before after)
-whole_at s levels result before after e h =
-    let P : ℕ → Type 0 = λ n. AreOfRun s (entered_by_run s n s.globals [] (root_call s))
-    → OnOk result (CountedWhole s (entered_by_run s n s.globals [] (root_call s)) before after) in
+-- what is so of all that is entered with the levels of a run is so of all that a run enters
+pub whole_at : (Says : List (Instantiation NodeRef) → Type 0) (s : Setting NodeRef) (levels : ℕ) → levels ≡ levels_of_a_run
+    → (AreOfRun s (entered_by_run s levels s.globals [] (root_call s)) → Says (entered_by_run s levels s.globals [] (root_call s)))
+    → Says (instantiations s)
+whole_at Says s levels e h =
+    let P : ℕ → Type 0 = λ n. AreOfRun s (entered_by_run s n s.globals [] (root_call s)) → Says (entered_by_run s n s.globals [] (root_call s)) in
     (subst P e h) (λ i m. m)
 
 -- ---- In a world with the same truth

@@ -1,5 +1,6 @@
--- What a run counts as it goes on.
+-- What a run counts as it goes on, and what it keeps.
 --     Hand            the records that a run may reuse, how many instantiations it counted, and what it remembers
+--     KeepsAll        of these that come to their ends there are records among those that this run kept
 --     Counted         going over these, so many more are counted
 --     CountedFront    going over a front of these, which comes to its end
 --     CountedAlong    going along a record
@@ -21,16 +22,17 @@ use Rattle.spec_run.specs.Meaning.{Setting, Past, NamedGlobal, going_into, globa
 use Rattle.spec_reuse.specs.Among.{IsIn}
 use Rattle.spec_reuse.specs.Instantiation.{Instantiation, meant_below, own_of, kept_of, for_reference, entered, instantiations}
 use Rattle.spec_reuse.specs.Serving.{Serves}
-use Rattle.spec_reuse.specs.Ledger.{nested_in, nested_but, AllEnd, AllFound, AreOfRun, Enters, EntersFront, IsAlong, IsFound}
+use Rattle.spec_reuse.specs.Ledger.{nested_along, nested_in, nested_but, AllEnd, AllFound, AreOfRun, Enters, EntersFront, IsAlong, IsFound}
 use Rattle.spec_node.specs.declared.node_ref.NodeRef.{NodeRef}
 use Rattle.xt_engine.specs.declared.event.Ran.{Ran}
 use Rattle.xt_engine.specs.declared.turn.Entered.{Entered as Given}
 use Rattle.xt_engine.specs.declared.turn.Entered.TheVariants as given
 use Rattle.xt_engine.specs.Advances.{ran_of}
 use Rattle.xt_record.specs.Kept.{kept_with}
-use Rattle.xt_record.specs.Search.{StandOn}
+use Rattle.xt_record.specs.Search.{most, StandOn}
 use Rattle.xt_record.specs.View.{kept_in, AsksHold}
 use Rattle.xt_record.specs.declared.record.Record.{Record}
+use Rattle.xt_record.specs.declared.reuse.Found.{Found}
 use Rattle.xt_record.specs.declared.reuse.Reuse.{Reuse}
 use Rattle.xt_text.specs.declared.memory.Memory.{Memory}
 use Rattle.xt_driver.specs.declared.drive.Served.{Served}
@@ -63,22 +65,26 @@ hand_of reuse memo = record { reuse = reuse; entries = entries_of memo }
 abbrev pub kept_at : Rc Record Allocator → Kept NodeRef
 kept_at r = kept_in r.value
 
+-- the records that this run kept
+abbrev pub kept_by : Reuse → List (Kept NodeRef)
+kept_by reuse = map kept_at reuse.kept.records.items
+
 -- the records of the last finished run, and then those that this run kept
 abbrev pub records_of : Reuse → List (Kept NodeRef)
-records_of reuse = map kept_at reuse.last.now.records.items ++ map kept_at reuse.kept.records.items
+records_of reuse = map kept_at reuse.last.now.records.items ++ kept_by reuse
 
 -- ---- What is kept
 
--- this record too, if it was not yet
-pub data IsKept (before after : List (Rc Record Allocator)) (r : Rc Record Allocator) : Type 0 where
-  kept_before : after ≡ before → IsKept before after r
-  kept_now : after ≡ before ++ r ∷ [] → IsKept before after r
+-- the record that was found too, unless it stands among those that this run kept
+pub data IsKept (before after : List (Rc Record Allocator)) (found : Found) : Type 0 where
+  kept_before : found.next ≤ most → after ≡ before → IsKept before after found
+  kept_now : after ≡ before ++ found.record ∷ [] → IsKept before after found
 
 -- where it served
-abbrev pub IsKeptToo : Result Served Memory → (before after : List (Rc Record Allocator)) → Rc Record Allocator → Type 0
-IsKeptToo (Ok (served.As o)) before after r = IsKept before after r
-IsKeptToo (Ok (served.Not l)) before after r = after ≡ before
-IsKeptToo (Err memory) before after r = Unit {0}
+abbrev pub IsKeptToo : Result Served Memory → (before after : List (Rc Record Allocator)) → Found → Type 0
+IsKeptToo (Ok (served.As o)) before after found = IsKept before after found
+IsKeptToo (Ok (served.Not l)) before after found = after ≡ before
+IsKeptToo (Err memory) before after found = Unit {0}
 
 -- what an engine made of the call too, if it came to its end
 abbrev pub IsMadeToo : (before after : List (Rc Record Allocator)) → Call NodeRef → Option (Box Ran Allocator) → Type 0
@@ -104,6 +110,10 @@ abbrev pub IsMadeOf : Setting NodeRef → Instantiation NodeRef → Option (Box 
 IsMadeOf s i None = ¬ (GoesOn (own_of s i).ending)
 IsMadeOf s i (Some ran) = kept_with i.call (ran_of ran.value) ≡ kept_of s i
 
+-- of each of these that comes to its end there is a record among those that this run kept
+pub record KeepsAll (s : Setting NodeRef) (is : List (Instantiation NodeRef)) (reuse : Reuse) : Type 0 where
+  pub found : (i : Instantiation NodeRef) → IsIn i is → GoesOn (own_of s i).ending → IsFound s (kept_by reuse) i
+
 -- ---- What is remembered
 
 -- the evaluation that it is of is one of the run, at no later turn, and of all that it entered and of itself there are records
@@ -125,8 +135,9 @@ abbrev pub AreRecorded : Setting NodeRef → List (Bound NodeRef) → List (Kept
 AreRecorded s values records [] = Unit {0}
 AreRecorded s values records (e ∷ es) = IsRecorded s values records e.element × AreRecorded s values records es
 
+-- there are records of all that is remembered among those that this run kept
 abbrev pub IsReady : Setting NodeRef → List (Bound NodeRef) → Hand → Type 0
-IsReady s values hand = AreRecorded s values (records_of hand.reuse) hand.entries
+IsReady s values hand = AreRecorded s values (kept_by hand.reuse) hand.entries
 
 -- ---- What is counted
 
@@ -144,6 +155,7 @@ pub record Counted (s : Setting NodeRef) (values : List (Bound NodeRef)) (is : L
   pub enters : Enters s (records_of before.reuse) list is (records_of after.reuse)
   pub ran : IsCounted (length list) before after
   pub stands : StandOn before.reuse after.reuse
+  pub keeps : KeepsAll s is after.reuse
   pub ready : IsReady s values after
 
 pub record CountedFront (s : Setting NodeRef) (values : List (Bound NodeRef)) (is : List (Instantiation NodeRef)) (before after : Hand) : Type 0 where
@@ -197,6 +209,7 @@ pub record CountedAlong (s : Setting NodeRef) (i : Instantiation NodeRef) (k : K
   pub asks : AsksHold s.ask rest
   pub ran : IsCounted (length list) before after
   pub stands : StandOn before.reuse after.reuse
+  pub keeps : KeepsAll s (nested_along s i done) after.reuse
   pub ready : IsReady s i.past.values after
 
 -- what was lost is known, with so many levels below those of the call
@@ -246,6 +259,7 @@ pub record CountedRun (s : Setting NodeRef) (i : Instantiation NodeRef) (l : Los
   pub enters : Enters s (records_of before.reuse) list (nested_but s i (known_by l i.below) (own_of s i).going.trace) (records_of after.reuse)
   pub ran : IsCounted (suc (length list)) before after
   pub stands : StandOn before.reuse after.reuse
+  pub keeps : KeepsAll s (nested_but s i (known_by l i.below) (own_of s i).going.trace) after.reuse
   pub ready : IsReady s i.past.values after
 
 -- of an instantiation of the run

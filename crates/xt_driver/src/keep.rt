@@ -21,6 +21,9 @@ use xt_engine::{Call, Ran};
 use xt_record::{Found, Record, Reuse};
 use xt_text::Memory;
 
+// Up to here stand the records that this run kept, and behind it those of the last one.
+const LAST_KEPT: u64 = (1 << 63) - 1;
+
 /// Keeps what the engine made of a call, if it came to its end. Its outcome is given back.
 pub fn keep_ended(
     alloc: Global,
@@ -73,7 +76,7 @@ pub fn tried(
     ensures last { reuse.new.last ≡ reuse.old.last }
     ensures spared { reuse.new.spared ≡ reuse.old.spared }
     ensures steps { reuse.new.steps ≡ reuse.old.steps }
-    ensures kept { OnOk result (IsKeptToo served reuse.old.kept.records.items reuse.new.kept.records.items found.record) }
+    ensures kept { OnOk result (IsKeptToo served reuse.old.kept.records.items reuse.new.kept.records.items found) }
     ensures came { OnOk result (IsOk served) }
     ensures served { IfOk result (λ o. IfSome o (λ s. served ≡ Ok s)) }
     ensures unserved { IfOk result (λ o. IfNone o (IsUnserved served)) }
@@ -97,15 +100,15 @@ pub fn next_turn(found: &Found) -> u64
     found.next
 }
 
-// Keeps it, if this run does not yet.
+// Keeps it, if this run does not yet: those that it kept stand before all of the last run.
 fn keep_found(alloc: Global, reuse: &mut Reuse<'_>, found: Found) -> Result<(), Memory>
     ensures sure { OnOk result ((ask : Question NodeRef → Answer NodeRef) → IsSure ask reuse.old → AsksHold ask (kept_in found.record.value).trace → IsSure ask reuse.new) }
-    ensures kept { OnOk result (IsKept reuse.old.kept.records.items reuse.new.kept.records.items found.record) }
+    ensures kept { OnOk result (IsKept reuse.old.kept.records.items reuse.new.kept.records.items found) }
     ensures last { reuse.new.last ≡ reuse.old.last }
     ensures spared { reuse.new.spared ≡ reuse.old.spared }
     ensures steps { reuse.new.steps ≡ reuse.old.steps }
 {
-    if found.is_kept {
+    if found.next <= LAST_KEPT {
         return Ok(());
     }
     reuse.keep(alloc, found.record)

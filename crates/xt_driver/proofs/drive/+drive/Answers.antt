@@ -812,7 +812,7 @@ serve-loop-found-preserved g t c =
           let lost_so = unserved (λ v. OfRun s i mid (CountsFollowed v s i k mid later)) c.follow-served.result none followed h ready_now in
           let next = tried_next s i begun now later c.find.new.self from found c.find.ensures.judges passed stands h t lost_so in
           let still = tried_still s i begun later c.tried.new.reuse found.next next tells.last
-          (kept_none c.follow-served.result later.reuse.kept.records.items c.tried.new.reuse.kept.records.items found.record none tells.kept) tells.steps in
+          (kept_none c.follow-served.result later.reuse.kept.records.items c.tried.new.reuse.kept.records.items found none tells.kept) tells.steps in
           let F : ℕ → Type 0 = λ n. Tried s i begun (hand_of c.tried.new.reuse c.follow-served.new.memo) n in
           subst F (sym c.next_turn-from.ensures.same) still;
       sure = sure_there inv.truth (c.in_ok-tried-in-Some.ensures.sure there (sure_there c.find.ensures.truth (on_is c.follow-served.result c.in_ok-tried-in-Some.ensures.came c.follow-served.ensures.sure)) may.asks);
@@ -1256,7 +1256,7 @@ serve-returns-in-Some-2-clause-counts g t c =
     let may : MayServe there i.call i.below k = some_of (λ f. MayServe there i.call i.below (kept_in f.record.value)) c.in_ok-find.field-0 found c.in-Some.is c.in_ok-find.ensures.serves in
     let A : Ask → Type 0 = λ a. AsksHold a k.trace in
     let asks = subst A inv.truth may.asks in
-    let K : Result Served Memory → Type 0 = λ r. IsKeptToo r later.reuse.kept.records.items c.tried.new.reuse.kept.records.items found.record in
+    let K : Result Served Memory → Type 0 = λ r. IsKeptToo r later.reuse.kept.records.items c.tried.new.reuse.kept.records.items found in
     λ h ready.
     let t = inv.tried h ready in
     let ready_now = (front_judged s i first now c.find.new.self from c.find.ensures.judges t).ready in

@@ -1,6 +1,8 @@
 use Rattle.std.proofs.Common.{ap, ◌∙◌, []}
+use Rattle.std.specs.Prelude.{OnOk}
 use Rattle.spec_run.specs.Meaning as meant
 use Rattle.xt_driver.specs.View.{setting_in}
+use Rattle.xt_driver.specs.Counted.{CountedWhole, KeepsAll}
 use Rattle.xt_driver.proofs.Standing.{if_ok}
 use Rattle.xt_driver.proofs.Wholes.{whole_at}
 use Rattle.xt_driver.proofs.whole.run.Goals as goal
@@ -13,4 +15,10 @@ returns-clause-run g c =
 pub returns-clause-counts : goal.returns-clause-counts
 returns-clause-counts g c =
     let s = setting_in (g.W.World.state c.args.world.now).truth c.args.root c.args.globals.now in
-    whole_at s c.levels_of_a_run.result c.run_in.result c.args.reuse.now c.run_in.new.reuse c.levels_of_a_run.ensures c.run_in.ensures.counts
+    whole_at (λ is. OnOk c.run_in.result (CountedWhole s is c.args.reuse.now c.run_in.new.reuse)) s c.levels_of_a_run.result c.levels_of_a_run.ensures
+    c.run_in.ensures.counts
+
+pub returns-clause-kept : goal.returns-clause-kept
+returns-clause-kept g c =
+    let s = setting_in (g.W.World.state c.args.world.now).truth c.args.root c.args.globals.now in
+    whole_at (λ is. OnOk c.run_in.result (KeepsAll s is c.run_in.new.reuse)) s c.levels_of_a_run.result c.levels_of_a_run.ensures c.run_in.ensures.kept
