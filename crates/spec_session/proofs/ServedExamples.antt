@@ -10,6 +10,10 @@ use Rattle.spec_session.specs.Command.{session_of, status_of}
 use Rattle.spec_session.specs.Reply.{OkPending, OkDropped, Refused, Counted, No}
 use Rattle.spec_run.specs.Documents.{no_documents}
 use Rattle.spec_run.specs.Outcome.{Failed, no_main}
+use Rattle.spec_stylesheet.specs.Place.{Place}
+use Rattle.spec_node.specs.declared.node_ref.NodeRef.{NodeRef}
+use Rattle.spec_node.specs.declared.node_ref.Part.TheVariants as part
+use Rattle.spec_cost.specs.Past.{Past, nothing_past}
 use Rattle.spec_session.specs.Machine.{State, TellsNumbers, initial}
 use Rattle.spec_session.specs.Served.{AreReplies, IsServed, IsCutShort, Serves}
 
@@ -23,6 +27,13 @@ status_goes_on_inside_a_body = refl
 pub status_after_quit : status_of true Quit ≡ 0
 status_after_quit = refl
 
+-- what is remembered at the start, where nothing is called by any name yet
+abbrev called_so : Place → NodeRef
+called_so place = record { node = record { number = 0 }; part = part.Itself }
+
+abbrev at_first : Past
+at_first = nothing_past called_so
+
 -- the machine's reply to `show` at the start
 abbrev shown_at_start : List ℕ
 shown_at_start = codes "refused S01 -\n"
@@ -33,6 +44,9 @@ show_is_answered = record {
   replies = Refused no_main ∷ [];
   state = initial;
   run = (initial, inl ((Failed no_main [], refl, refl), refl), refl);
+  called = called_so;
+  past = at_first;
+  pays = (initial, at_first, inl ((Failed no_main [], refl, refl), refl), inl refl, (refl, refl));
   bytes = refl;
 }
 
@@ -55,6 +69,9 @@ counts_are_answered = record {
   replies = Counted 0 0 0 ∷ [];
   state = initial;
   run = (initial, inl ((Failed no_main [], refl, zeros_are_told), refl), refl);
+  called = called_so;
+  past = at_first;
+  pays = (initial, at_first, inl ((Failed no_main [], refl, zeros_are_told), refl), inl (refl, (0, 0, refl)), (refl, refl));
   bytes = refl;
 }
 
@@ -71,6 +88,15 @@ batch_is_answered = record {
   replies = OkPending ∷ OkDropped ∷ No 17 ∷ [];
   state = initial;
   run = (open_at_start, inl (refl, refl), (initial, inl (refl, refl), (initial, inl (refl, refl), refl)));
+  called = called_so;
+  past = at_first;
+  pays = (
+    open_at_start,
+    at_first,
+    inl (refl, refl),
+    inl refl,
+    (initial, at_first, inl (refl, refl), inl refl, (initial, at_first, inl (refl, refl), inl refl, (refl, refl))),
+  );
   bytes = refl;
 }
 
@@ -80,7 +106,15 @@ batch_answered = record { answered = batch_is_answered; ends = refl }
 -- a batch is open where the session ends: its status is that of any other
 open_batch_is_answered : AreReplies (session_of (codes "begin" ∷ [])).commands (codes "ok pending\n")
 unfolding chars is_utf8 encode digits
-open_batch_is_answered = record { replies = OkPending ∷ []; state = open_at_start; run = (open_at_start, inl (refl, refl), refl); bytes = refl }
+open_batch_is_answered = record {
+  replies = OkPending ∷ [];
+  state = open_at_start;
+  run = (open_at_start, inl (refl, refl), refl);
+  called = called_so;
+  past = at_first;
+  pays = (open_at_start, at_first, inl (refl, refl), inl refl, (refl, refl));
+  bytes = refl;
+}
 
 pub ends_in_a_batch : IsServed 100 (codes "begin\nquit\n") 0 (codes "ok pending\n")
 ends_in_a_batch = record { answered = open_batch_is_answered; ends = refl }
@@ -99,7 +133,8 @@ ends_inside_a_body = record { answered = show_is_answered; ends = refl }
 
 -- `quit` is not whole within four bytes, and is within five
 nothing_is_answered : AreReplies [] []
-nothing_is_answered = record { replies = []; state = initial; run = refl; bytes = refl }
+nothing_is_answered =
+    record { replies = []; state = initial; run = refl; called = called_so; past = at_first; pays = (refl, refl); bytes = refl }
 
 pub over_the_limit : IsServed 4 (codes "quit\n") 5 []
 over_the_limit = record { answered = nothing_is_answered; ends = refl }

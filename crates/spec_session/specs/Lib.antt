@@ -2,6 +2,7 @@ pub mod Command
 pub mod Request
 pub mod Reply
 pub mod Machine
+pub mod Costs
 pub mod Generated
 pub mod Served
 pub mod Asked

@@ -7,14 +7,22 @@ use Rattle.spec_session.specs.declared.kinds.Ending.TheVariants.{Quit}
 use Rattle.spec_session.specs.Command.{Command, Session, session_of, status_of}
 use Rattle.spec_session.specs.Reply.{Reply, reply_bytes}
 use Rattle.spec_lines.specs.Outside.{Appends}
+use Rattle.spec_node.specs.declared.node_ref.NodeRef.{NodeRef}
+use Rattle.spec_stylesheet.specs.Place.{Place}
+use Rattle.spec_cost.specs.Past.{Past, nothing_past}
 use Rattle.spec_session.specs.Machine.{State, initial, Run}
+use Rattle.spec_session.specs.Costs.{PaysAlong}
 use Rattle.spec_session.specs.Generated.{generated, summary}
 
--- the text is the bytes of the replies of a run of the machine over the commands, and nothing else
+-- The text is the bytes of the replies of a run of the machine over the commands, and nothing else. What `stats` tells is what changes cost, where at
+-- the start nothing is kept, whatever the elements of a stylesheet are called
 pub record AreReplies (commands : List Command) (text : List ℕ) : Type 0 where
   pub replies : List Reply
   pub state : State
   pub run : Run initial commands replies state
+  pub called : Place → NodeRef
+  pub past : Past
+  pub pays : PaysAlong initial (nothing_past called) commands replies state past
   pub bytes : text ≡ flat_map reply_bytes replies
 
 -- the session that bytes are, of which `limit` may be taken

@@ -59,17 +59,18 @@ pub record IsCopyOf (held : Held) (batch : Batch) : Type 0 where
   pub modules : AreSame held.modules.entries batch.modules.entries
   pub parameters : parameters_of batch.parameters ≡ parameters_of held.parameters
   pub since : since_of batch.since ≡ since_of held.last.since
+  pub edited : batch.is_edited ≡ false
 
 abbrev pub opened : Batch → Held → Held
 opened batch held = record held { batch = Some batch }
 
 module _ (held : Held) (batch : Batch) (none : held.batch ≡ None) (h : IsCopyOf held batch) where
-  copied_documents : documents_in batch ≡ documents_of held
+  pub copied_documents : documents_in batch ≡ documents_of held
   copied_documents =
       let modules = same_modules held.modules.entries batch.modules.entries h.modules in
       λ i. record { source = option_map plain_of (h.source i); modules = modules i; parameters = h.parameters i }
 
-  was_present : present_basis held ≡ edited_basis held
+  pub was_present : present_basis held ≡ edited_basis held
   was_present = ap (λ (b : Option Batch). present_by b (edited_basis held)) none
 
   pub begun : IsBegun held (opened batch held)

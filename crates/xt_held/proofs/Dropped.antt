@@ -8,11 +8,13 @@ use Rattle.spec_run.specs.Documents.{Documents, main_name, without_module}
 use Rattle.spec_run.specs.Outcome.{Comes, IsOutcome}
 use Rattle.xt_import.specs.View.{is_name, modules_in, plain_of}
 use Rattle.xt_world.specs.ParameterView.{parameters_of}
+use Rattle.xt_held.specs.Complete.{KeepsWhere}
+use Rattle.xt_held.specs.Cost.{CostsRun, any_change}
 use Rattle.xt_held.specs.OutcomeView.{Fits, outcome_of}
 use Rattle.xt_held.specs.RunView.{LastHolds}
 use Rattle.xt_held.specs.StylesheetView.{AreCompiled, IsThere, without_one}
 use Rattle.spec_node.specs.declared.node_ref.NodeId.{NodeId}
-use Rattle.xt_held.specs.View.{HasBelow, IsCurrent, IsReady, before_by, left_by, documents_of, made_of, with_edit}
+use Rattle.xt_held.specs.View.{HasBelow, IsCurrent, IsReady, before_by, left_by, documents_of, is_edited_by, made_of, with_edit}
 use Rattle.xt_held.specs.declared.held.Held.{Held}
 use Rattle.xt_held.specs.declared.outcome.Came.{Came}
 use Rattle.xt_held.specs.declared.ready.Change.TheVariants as changes
@@ -20,6 +22,7 @@ use Rattle.xt_held.specs.declared.ready.Recompiled.TheVariants.{Now}
 use Rattle.xt_held.specs.declared.stylesheet.Compiled.{Compiled}
 use Rattle.xt_held.proofs.Keeping.{IsReordered, same_documents, still_below}
 use Rattle.xt_held.proofs.Making.{mapped_edit, told_from, told_ready}
+use Rattle.xt_held.proofs.Paying.{module_changes}
 use denote.Ref.{Bor}
 
 -- a module of this name, as it is looked for by its text
@@ -34,8 +37,10 @@ pub ready_so : (old new : Held) → IsReordered old new → old.batch ≡ None �
     → Comes (without_one name (modules_in old.modules.entries)) (parameters_of old.parameters) (without_one name (modules_in old.modules.entries) main_name)
     (option_map plain_of old.source) (outcome_of came.outcome)
     → Fits came → LastHolds (outcome_of came.outcome) compiled (parameters_of new.parameters) new.source (left_by came (before_by compiled new.compiled new.last.before) new.last)
+    → CostsRun compiled (parameters_of new.parameters) new.source new.last.kept.records any_change came.counts
+    → KeepsWhere compiled (parameters_of new.parameters) new.source came.kept
     → IsCurrent old → IsReady (without_module name) (made_of new) new (told_ready (changes.Dropped kept (Now compiled)) next came)
-ready_so old new h alone name kept same compiled came next number are comes fits holds now =
+ready_so old new h alone name kept same compiled came next number are comes fits holds cost keeps now =
     let documents : without_module name (documents_of old) ≡ without_module kept (documents_of new)
     = sym (λ i. without_module (same i) (same_documents old new h i)) in
     let closed : new.batch ≡ None = h.batch ∙ alone in
@@ -50,5 +55,8 @@ ready_so old new h alone name kept same compiled came next number are comes fits
             fits = fits;
             compiled = subst (λ (ds : Documents). AreCompiled ds.modules compiled) documents are;
             last = holds;
+            cost = cost;
+            keeps = keeps;
+            same = module_changes (told_ready (changes.Dropped kept (Now compiled)) next came) new (is_edited_by new.batch);
           }) tt (subst (λ (first : ℕ). HasBelow first new) (h.made ∙ sym number) (still_below old new h now.below)) tt;
     }

@@ -24,7 +24,7 @@ use Rattle.xt_held.specs.OutcomeView.{IsFreeFor}
 use Rattle.xt_held.specs.RunView.{KeptSpared, LastHolds, LastServes, last_known}
 use Rattle.xt_held.specs.StylesheetView.{AreCompiled}
 use Rattle.xt_held.specs.Tried.{AreSame}
-use Rattle.xt_held.specs.View.{AreAllBelow, Basis, HasBelow, IsBatchOf, IsCurrent, IsKept, document_named, documents_of, edited_basis, last_in, made_of, numbered_document, outcome_in, pending_of, present_basis, present_by, counts_in}
+use Rattle.xt_held.specs.View.{AreAllBelow, Basis, HasBelow, IsBatchOf, IsCurrent, IsKept, document_named, documents_of, edited_basis, is_edited_by, last_in, made_of, numbered_document, outcome_in, pending_of, present_basis, present_by, counts_in}
 use Rattle.xt_held.specs.declared.batch.Batch.{Batch}
 use Rattle.xt_held.specs.declared.held.Held.{Held}
 use Rattle.xt_held.specs.declared.last_run.LastRun.{LastRun}
@@ -161,6 +161,10 @@ module _ (old new : Held) (h : IsReordered old new) where
     outcome = h.outcome;
     counts = h.counts;
     last = h.last;
+    source = h.source;
+    basis = same_present;
+    compiled = h.compiled;
+    is_edited = ap is_edited_by h.batch;
     current = still_current;
   }
 

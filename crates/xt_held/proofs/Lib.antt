@@ -2,6 +2,8 @@ pub mod Below
 pub mod FirstUnread
 pub mod Keys
 pub mod Coming
+pub mod Costing
+pub mod Completing
 pub mod Giving
 pub mod Keeping
 pub mod Dropping
@@ -11,3 +13,4 @@ pub mod Marked
 pub mod Left
 pub mod Making
 pub mod Batches
+pub mod Paying

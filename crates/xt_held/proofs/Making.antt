@@ -141,7 +141,7 @@ module _ (held : Held) (change : Change) (next : NodeId) where
       → IsBelow next.number change → IsMadeFrom held (told_ready change next came)
   told_from came h room others below = record { outcome = told_of_so came h; comes = h; room = room; others = others; below = below }
 
-  stays : (since : Since) → IsPending (pending_ready change next since) held
+  pub stays : (since : Since) → IsPending (pending_ready change next since) held
       → present_by (next_batch change held.batch) (next_basis (pending_ready change next since) held) ≡ present_basis held
   stays since h = present_stays change held.batch (edited_basis held) (next_basis (pending_ready change next since) held) h.is_open refl h.before
 
@@ -210,7 +210,7 @@ module _ (change : Change) (next : NodeId) (old new : Held) where
   basis_so : (ready : Ready) → IsAdopted ready old new → edited_basis new ≡ next_basis ready old
   basis_so ready h = λ i. record { documents = h.documents i; source = h.source i; last = h.last i }
 
-  present_so : (ready : Ready) → IsAdopted ready old new → present_basis new ≡ present_by (next_batch ready.change old.batch) (next_basis ready old)
+  pub present_so : (ready : Ready) → IsAdopted ready old new → present_basis new ≡ present_by (next_batch ready.change old.batch) (next_basis ready old)
   present_so ready h = λ i. present_by (h.batch i) (basis_so ready h i)
 
   told_current : (came : Came) → IsAdopted (told_ready change next came) old new → IsTold came (told_ready change next came) old → IsCurrent new

@@ -3,5 +3,8 @@ pub mod Unread
 pub mod StylesheetView
 pub mod OutcomeView
 pub mod RunView
+pub mod Cost
+pub mod Complete
 pub mod Tried
 pub mod View
+pub mod PastView

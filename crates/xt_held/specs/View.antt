@@ -1,5 +1,5 @@
 -- What is held, present and pending, what is ready to be adopted, and when it may be.
-use Rattle.std.specs.Prelude.{ℕ, ◌≡◌, ◌+◌, ◌<◌, ◌≤◌, true, false, List, Option, None, Some, IfSome, Result, Ok, Err, string_bytes}
+use Rattle.std.specs.Prelude.{ℕ, ◌≡◌, ◌+◌, ◌<◌, ◌≤◌, Bool, true, false, ◌||◌, List, Option, None, Some, IfSome, Result, Ok, Err, string_bytes}
 use Rattle.std.specs.Map.{lookup}
 use Rattle.std.specs.Option.{is_some, option_map, unwrap_or}
 use Rattle.std.specs.Str.{chars}
@@ -23,6 +23,8 @@ use Rattle.xt_edit.specs.declared.fault.EditFault.TheVariants as faults
 use Rattle.xt_import.specs.View.{is_name, modules_in, plain_of}
 use Rattle.xt_held.specs.declared.counts.Counts.{Counts}
 use Rattle.xt_world.specs.ParameterView.{HasRoomForOne, parameters_of}
+use Rattle.xt_held.specs.Complete.{KeepsWhere}
+use Rattle.xt_held.specs.Cost.{CostsRun, any_change}
 use Rattle.xt_held.specs.OutcomeView.{Fits, IsFreeFor, outcome_of}
 use Rattle.xt_held.specs.RunView.{IsFaultless, LastHolds, LastServes, last_known}
 use Rattle.xt_held.specs.StylesheetView.{AreCompiled, IsThere}
@@ -129,7 +131,12 @@ pub record IsCurrent (held : Held) : Type 0 where
 pub record IsKnown (held : Held) : Type 0 where
   pub last : LastServes held.compiled (parameters_of held.parameters) held.source held.last
 
--- nothing of what is told has changed
+-- whether a change of the batch that is open was one of a module
+abbrev pub is_edited_by : Option Batch → Bool
+is_edited_by None = false
+is_edited_by (Some batch) = batch.is_edited
+
+-- nothing of what is told has changed, nor the numbers of the source's nodes, nor what is held of the modules
 pub record IsKept (old new : Held) : Type 0 where
   pub documents : documents_of new ≡ documents_of old
   pub present : present_of new ≡ present_of old
@@ -138,6 +145,10 @@ pub record IsKept (old new : Held) : Type 0 where
   pub outcome : outcome_in new ≡ outcome_in old
   pub counts : counts_in new ≡ counts_in old
   pub last : last_in new ≡ last_in old
+  pub source : new.source ≡ old.source
+  pub basis : present_basis new ≡ present_basis old
+  pub compiled : new.compiled ≡ old.compiled
+  pub is_edited : is_edited_by new.batch ≡ is_edited_by old.batch
   pub current : IsCurrent old → IsCurrent new
 
 abbrev pub document_named : DocName → Documents → Option Plain
@@ -173,6 +184,14 @@ changed_by (changes.Module name document compiled) old = with_module (chars (str
 changed_by (changes.Dropped name compiled) old = without_module name old
 changed_by (changes.Parameter name value) old = with_parameter (chars (string_bytes name)) value old
 changed_by (changes.Committed compiled) old = old
+
+-- whether it is a change of a module
+abbrev pub is_of_module : Change → Bool
+is_of_module (changes.Source document) = false
+is_of_module (changes.Module name document compiled) = true
+is_of_module (changes.Dropped name compiled) = true
+is_of_module (changes.Parameter name value) = false
+is_of_module (changes.Committed compiled) = false
 
 -- what is held of what the modules are
 abbrev pub compiled_by : Recompiled → (was : Option Compiled) → Option Compiled
@@ -320,8 +339,14 @@ IsToldOf (Some outcome) ready held =
 IsToldOf None ready held =
     (is_some (pending_of held) ≡ true) × (next_present ready held ≡ present_of held) × (next_pending ready held ≡ Some (next_documents ready held))
 
+-- the modules that will be held are those that are present, and so is what is held of that
+pub record ModulesStay (ready : Ready) (held : Held) : Type 0 where
+  pub modules : (next_documents ready held).modules ≡ (present_of held).modules
+  pub compiled : next_compiled ready.change held ≡ held.compiled
+
 -- Its outcome is that of the documents that will be held, and no batch will be open. What was kept and counted goes with that, the modules are what will
--- be held of that, and where there is a result, the questions of what its run kept will have their answers
+-- be held of that, and where there is a result, the questions of what its run kept will have their answers. The counts are what the run of these documents
+-- has cost, over what the last run kept
 pub record IsTold (came : Came) (ready : Ready) (held : Held) : Type 0 where
   pub outcome : IsOutcome (next_documents ready held) (outcome_of came.outcome)
   pub closed : next_batch ready.change held.batch ≡ None
@@ -329,6 +354,13 @@ pub record IsTold (came : Came) (ready : Ready) (held : Held) : Type 0 where
   pub compiled : AreCompiled (next_documents ready held).modules (next_compiled ready.change held)
   pub last : LastHolds (outcome_of came.outcome) (next_compiled ready.change held) (next_documents ready held).parameters (next_source ready.change held)
       (next_last ready held)
+  -- where each question of what the last run kept was asked again once at most
+  pub cost : CostsRun (next_compiled ready.change held) (next_documents ready held).parameters (next_source ready.change held) held.last.kept.records any_change
+      came.counts
+  -- what the run kept is complete, and is there where the run ended with a result
+  pub keeps : KeepsWhere (next_compiled ready.change held) (next_documents ready held).parameters (next_source ready.change held) came.kept
+  -- where neither it nor the batch that it ends is a change of modules
+  pub same : (is_edited_by held.batch || is_of_module ready.change) ≡ false → ModulesStay ready held
 
 -- It is a change in a batch: what is present stays, the modules are not compiled, and what the last run kept will serve a run of the documents that will be
 -- pending

@@ -1,18 +1,20 @@
 // Batches: changes that become present together, or are dropped together.
-ghost use Rattle.std.specs.Prelude.{◌≡◌, ◌+◌, ◌≤◌, ℕ, List, ◌∷◌, IfOk, OnOk, drop, true};
+ghost use Rattle.std.specs.Prelude.{◌≡◌, ◌+◌, ◌≤◌, ℕ, List, ◌∷◌, IfOk, OnOk, Some, drop, false, true};
 ghost use Rattle.std.specs.Option.{is_some, option_map};
 ghost use Rattle.std.specs.declared.alloc.Global as alloc_type;
 ghost use Rattle.std.specs.declared.string.String as string_type;
 ghost use Rattle.spec_document.specs.Forest.{Document};
+ghost use Rattle.spec_cost.specs.Past.{Past};
 ghost use Rattle.spec_run.specs.Documents.{with_module, with_parameter, with_source, without_module};
 ghost use Rattle.xt_edit.specs.View.{AreBelow};
 ghost use Rattle.xt_import.specs.View.{plain_of};
 ghost use Rattle.xt_touch.specs.View.{since_of};
 ghost use Rattle.xt_world.specs.ParameterView.{parameters_of};
+ghost use Rattle.xt_held.specs.PastView.{Brings, IsPast, past_left, source_in};
 ghost use Rattle.xt_held.specs.RunView.{IsFaultless, IsMadeBy};
 ghost use Rattle.xt_held.specs.StylesheetView.{AreCompiled};
 ghost use Rattle.xt_held.specs.Tried.{AreSame};
-ghost use Rattle.xt_held.specs.View.{Abandons, Begins, IsCommit, IsCurrent, IsKept, IsReady, PreparesCommit, documents_of, made_of, gone_back, pending_of, with_edit};
+ghost use Rattle.xt_held.specs.View.{Abandons, Begins, IsCommit, IsCurrent, IsKept, IsReady, PreparesCommit, documents_of, is_edited_by, made_of, gone_back, pending_of, with_edit};
 
 use crate::held::Held;
 use crate::marking::since_parameter;
@@ -54,6 +56,7 @@ impl Held {
     pub fn begin(&mut self, alloc: Global) -> Result<(), EditFault>
         requires { IsCurrent self.old }
         ensures answer { Begins self.old self.new result }
+        ensures past { (past : Past) → IsPast past self.old → IsPast past self.new }
         ensures current { IsCurrent self.new }
     {
         if self.pending() {
@@ -73,6 +76,7 @@ impl Held {
         ensures modules { IfOk result (λ batch. AreSame self.now.modules.entries batch.modules.entries) }
         ensures parameters { IfOk result (λ batch. parameters_of batch.parameters ≡ parameters_of self.now.parameters) }
         ensures since { IfOk result (λ batch. since_of batch.since ≡ since_of self.now.last.since) }
+        ensures edited { IfOk result (λ batch. batch.is_edited ≡ false) }
     {
         let since = self.last.since.copy(alloc)?;
         let parameters = self.parameters.copy(alloc)?;
@@ -91,7 +95,8 @@ impl Held {
     /// modules are compiled again where one was changed in the batch.
     pub fn commit(&self, alloc: Global) -> Result<Ready, EditFault>
         requires { IsCurrent self.now }
-        ensures { PreparesCommit self.now result }
+        ensures answer { PreparesCommit self.now result }
+        ensures brings { IfOk result (Brings (source_in self.now) false self.now) }
     {
         match &self.batch {
             None => Err(EditFault::Refused {
@@ -112,7 +117,9 @@ impl Held {
     fn commit_with_modules(&self, alloc: Global) -> Result<Ready, Memory>
         requires current { IsCurrent self.now }
         requires is_open { is_some (pending_of self.now) ≡ true }
-        ensures { IfOk result (λ ready. IsCommit self.now ready) }
+        requires edited { is_edited_by self.now.batch ≡ true }
+        ensures ok { IfOk result (λ ready. IsCommit self.now ready) }
+        ensures brings { IfOk result (Brings (source_in self.now) false self.now) }
     {
         let compiled = compile(alloc, &self.modules)?;
         let Ok(came) = self.outcome_with_modules(alloc, compiled.as_ref()) else {
@@ -131,7 +138,8 @@ impl Held {
         requires current { IsCurrent self.now }
         requires is_open { is_some (pending_of self.now) ≡ true }
         requires compiled { AreCompiled (documents_of self.now).modules self.now.compiled }
-        ensures { IfOk result (λ ready. IsCommit self.now ready) }
+        ensures ok { IfOk result (λ ready. IsCommit self.now ready) }
+        ensures brings { IfOk result (Brings (source_in self.now) false self.now) }
     {
         let since = self.last.since.copy(alloc)?;
         let came = self.outcome_after(alloc, self.source.as_ref(), since)?;
@@ -147,6 +155,7 @@ impl Held {
     pub fn abandon(&mut self) -> Result<(), EditFault>
         requires { IsCurrent self.old }
         ensures answer { Abandons self.old self.new result }
+        ensures past { (past : Past) → IsPast past self.old → IsPast (past_left result past) self.new }
         ensures current { IsCurrent self.new }
     {
         match mem::replace(&mut self.batch, None) {
@@ -202,7 +211,8 @@ impl Held {
         requires faultless { IsFaultless document }
         requires grows { made_of self.now ≤ next.number }
         requires below { AreBelow next.number document }
-        ensures { IfOk result (λ ready. IsReady (with_source (plain_of document)) next.number self.now ready) }
+        ensures ok { IfOk result (λ ready. IsReady (with_source (plain_of document)) next.number self.now ready) }
+        ensures brings { IfOk result (Brings (Some document) false self.now) }
     {
         let Ok(since) = self.since_source(alloc, origin, &document) else {
             drop(document);
@@ -228,6 +238,7 @@ impl Held {
         requires grows { made_of self.old ≤ next.number }
         requires below { AreBelow next.number document }
         ensures ok { IfOk result (λ ready. IsReady (with_module name.now (plain_of document)) next.number self.new ready) }
+        ensures brings { IfOk result (Brings (source_in self.new) true self.new) }
         ensures kept { IsKept self.old self.new }
     {
         let Ok(key) = String::from_str(alloc, name.as_str()) else {
@@ -254,7 +265,8 @@ impl Held {
     pub(crate) fn pending_drop(&self, alloc: Global, name: &Text) -> Result<Ready, Memory>
         requires current { IsCurrent self.now }
         requires is_open { is_some (pending_of self.now) ≡ true }
-        ensures { IfOk result (λ ready. IsReady (without_module name.now) (made_of self.now) self.now ready) }
+        ensures ok { IfOk result (λ ready. IsReady (without_module name.now) (made_of self.now) self.now ready) }
+        ensures brings { IfOk result (Brings (source_in self.now) true self.now) }
     {
         let dropped = name.copy(alloc)?;
         let since = self.last.since.copy(alloc)?;
@@ -275,6 +287,7 @@ impl Held {
         requires current { IsCurrent self.old }
         requires is_open { is_some (pending_of self.old) ≡ true }
         ensures ok { IfOk result (λ ready. IsReady (with_parameter name.now value.now) (made_of self.new) self.new ready) }
+        ensures brings { IfOk result (Brings (source_in self.new) false self.new) }
         ensures kept { IsKept self.old self.new }
     {
         let key = String::from_str(alloc, name.as_str())?;

@@ -1,5 +1,5 @@
 // What a session holds.
-ghost use Rattle.std.specs.Prelude.{◌≡◌, ◌+◌, ◌<◌, ◌≤◌, ℕ, List, IfOk, IfSome, None, Some, false, string_bytes};
+ghost use Rattle.std.specs.Prelude.{◌≡◌, ◌+◌, ◌<◌, ◌≤◌, ℕ, List, IfOk, IfSome, None, Some, false, string_bytes, true};
 ghost use Rattle.std.specs.HashMap.{spare};
 ghost use Rattle.std.specs.Map.{lookup};
 ghost use Rattle.std.specs.Option.{is_some, option_copied, option_map};
@@ -7,8 +7,12 @@ ghost use Rattle.std.specs.Str.{chars};
 ghost use Rattle.spec_document.specs.Document.{document_of};
 ghost use Rattle.spec_document.specs.Forest.{size};
 ghost use Rattle.spec_document.specs.Scope.{root_scope};
-ghost use Rattle.spec_edit.specs.Edit.{edited_or_missing};
-ghost use Rattle.spec_move.specs.Move.{moved_document};
+ghost use Rattle.spec_cost.specs.Numbers.{given_source};
+ghost use Rattle.spec_cost.specs.Past.{Past, nothing_past};
+ghost use Rattle.spec_edit.specs.Edit.{edited_nodes, edited_or_missing};
+ghost use Rattle.spec_move.specs.Move.{moved_document, moved_nodes};
+ghost use Rattle.spec_node.specs.declared.node_ref.NodeRef.{NodeRef};
+ghost use Rattle.spec_stylesheet.specs.Place.{Place};
 ghost use Rattle.spec_run.specs.Documents.{main_name, no_documents, with_module, with_parameter, with_source, without_module};
 ghost use Rattle.xt_build.specs.View.{Builds, document_in};
 ghost use Rattle.xt_edit.specs.View.{AreBelow, EditsPlain, edit_of};
@@ -16,11 +20,14 @@ ghost use Rattle.spec_structure.specs.Modules.{Modules};
 ghost use Rattle.spec_run.specs.Outcome.{Comes};
 ghost use Rattle.xt_world.specs.ParameterView.{HasRoomForOne, parameters_of, with_value};
 ghost use Rattle.xt_touch.specs.View.{since_of};
+ghost use Rattle.xt_held.specs.Complete.{KeepsWhere};
+ghost use Rattle.xt_held.specs.Cost.{CostsRun, any_change};
 ghost use Rattle.xt_held.specs.RunView.{AnswersAsSome, IsFaultless, IsMadeBy, IsMadeByEdit, IsMadeByMove, LastHolds, LastServes, StaysSpared, last_known};
 ghost use Rattle.xt_held.specs.StylesheetView.{AreCompiled};
 ghost use Rattle.xt_import.specs.View.{is_name, plain_of};
 ghost use Rattle.xt_held.specs.OutcomeView.{Fits, no_counts, outcome_of, plain_in};
 ghost use Rattle.xt_held.specs.View.{HasBelow, HasRoom, IsBelow, IsCurrent, IsKept, IsKnown, IsMadeFrom, IsReady, IsFaultlessAs, Prepares, PreparesDrop, PreparesEdit, PreparesMove, PreparesParameter, StaysTold, before_by, before_with, changed_by, compiled_by, document_named, documents_of, edit_fault_of, last_in, left_by, made_of, next_batch, next_before, next_compiled, next_documents, next_last, next_made, next_outcome, next_pending, next_present, next_source, next_counts, numbered_document, outcome_in, pending_of, present_of, counts_in, with_came, with_coming, with_document, with_edit, with_edited_modules, with_recompiled};
+ghost use Rattle.xt_held.specs.PastView.{Brings, IsPast, PaysFor, edited_if, given_if, is_module, source_in};
 ghost use Rattle.xt_held.specs.declared.ready.Recompiled.TheVariants as recompiled;
 
 use crate::batch::Batch;
@@ -81,6 +88,7 @@ impl Held {
         ensures pending { pending_of result ≡ None }
         ensures made { made_of result ≡ 0 }
         ensures counts { counts_in result ≡ no_counts }
+        ensures past { (called : Place → NodeRef) → IsPast (nothing_past called) result }
         ensures current { IsCurrent result }
     {
         Held {
@@ -107,7 +115,8 @@ impl Held {
     /// with its line, where they make none. Nothing is changed. The modules are not read again.
     pub fn set_source(&self, alloc: Global, body: &[Line]) -> Result<Ready, EditFault>
         requires { IsCurrent self.now }
-        ensures { Prepares with_source self.now (document_of root_scope (made_of self.now) body.now) result }
+        ensures answer { Prepares with_source self.now (document_of root_scope (made_of self.now) body.now) result }
+        ensures brings { IfOk result (Brings (given_source (document_of root_scope (made_of self.now) body.now) (source_in self.now)) false self.now) }
     {
         match self.built(alloc, body) {
             Ok(Built { document, next }) => {
@@ -127,7 +136,9 @@ impl Held {
     ) -> Result<Ready, EditFault>
         requires { IsCurrent self.old }
         ensures answer { Prepares (with_module name.now) self.new (document_of root_scope (made_of self.old) body.now) result }
+        ensures brings { IfOk result (Brings (source_in self.new) true self.new) }
         ensures kept { IsKept self.old self.new }
+        ensures past { (past : Past) → IsPast past self.old → IsPast past self.new }
     {
         match self.built(alloc, body) {
             Ok(Built { document, next }) => Ok(self.module_ready(alloc, name, document, next)?),
@@ -140,7 +151,9 @@ impl Held {
     pub fn drop_module(&mut self, alloc: Global, name: &Text) -> Result<Ready, EditFault>
         requires { IsCurrent self.old }
         ensures answer { PreparesDrop name.now self.new result }
+        ensures brings { IfOk result (Brings (source_in self.new) true self.new) }
         ensures kept { IsKept self.old self.new }
+        ensures past { (past : Past) → IsPast past self.old → IsPast past self.new }
     {
         match self.module(name.as_str()) {
             None => Err(EditFault::Refused {
@@ -162,7 +175,9 @@ impl Held {
     ) -> Result<Ready, EditFault>
         requires { IsCurrent self.old }
         ensures answer { PreparesEdit name.entry (edit_of edit.now) self.new result }
+        ensures brings { IfOk result (Brings (edited_if name.entry (edited_nodes (made_of self.new) (edit_of edit.now)) (source_in self.new)) (is_module name.entry) self.new) }
         ensures kept { IsKept self.old self.new }
+        ensures past { (past : Past) → IsPast past self.old → IsPast past self.new }
     {
         match unread_line(edit) {
             Some(line) => Err(EditFault::Refused {
@@ -189,7 +204,9 @@ impl Held {
     ) -> Result<Ready, EditFault>
         requires { IsCurrent self.old }
         ensures answer { PreparesMove name.entry path.now other.now self.new result }
+        ensures brings { IfOk result (Brings (edited_if name.entry (moved_nodes (made_of self.new) path.now other.now) (source_in self.new)) (is_module name.entry) self.new) }
         ensures kept { IsKept self.old self.new }
+        ensures past { (past : Past) → IsPast past self.old → IsPast past self.new }
     {
         let Edited { document, next } = self.relocated(alloc, name, path, other)?;
         Ok(self.document_ready(alloc, name, Origin::Moved(path, other), document, next)?)
@@ -205,7 +222,9 @@ impl Held {
     ) -> Result<Ready, EditFault>
         requires { IsCurrent self.old }
         ensures answer { PreparesParameter name.now value.now self.new result }
+        ensures brings { IfOk result (Brings (source_in self.new) false self.new) }
         ensures kept { IsKept self.old self.new }
+        ensures past { (past : Past) → IsPast past self.old → IsPast past self.new }
     {
         match parameter_fault(name, value) {
             Some(code) => Err(EditFault::Refused { code, line: 0 }),
@@ -224,6 +243,7 @@ impl Held {
         ensures outcome { outcome_in self.new ≡ next_outcome ready self.old }
         ensures counts { counts_in self.new ≡ next_counts ready self.old }
         ensures last { last_in self.new ≡ next_last ready self.old }
+        ensures past { (before : Past) → IsPast before self.old → (after : Past) × PaysFor ready self.old before after × IsPast after self.new }
         ensures current { IsCurrent self.new }
     {
         let Ready {
@@ -322,6 +342,7 @@ impl Held {
         ensures edit { IfOk result (λ edited. IsMadeByEdit edit.now (numbered_document name.entry self.now) edited.document) }
         ensures faultless { IfOk result (λ edited. IsFaultlessAs name.entry edited.document) }
         ensures below { IfOk result (λ edited. AreBelow edited.next.number edited.document) }
+        ensures source { IfOk result (λ edited. given_if name.entry edited.document (source_in self.now) ≡ edited_if name.entry (edited_nodes (made_of self.now) (edit_of edit.now)) (source_in self.now)) }
     {
         documents_stay_valid();
         documents_stay_normal();
@@ -347,6 +368,7 @@ impl Held {
         ensures moved { IfOk result (λ edited. IsMadeByMove path.now other.now (numbered_document name.entry self.now) edited.document) }
         ensures faultless { IfOk result (λ edited. IsFaultlessAs name.entry edited.document) }
         ensures below { IfOk result (λ edited. AreBelow edited.next.number edited.document) }
+        ensures source { IfOk result (λ edited. given_if name.entry edited.document (source_in self.now) ≡ edited_if name.entry (moved_nodes (made_of self.now) path.now other.now) (source_in self.now)) }
     {
         moves_keep_documents_valid();
         moves_keep_documents_normal();
@@ -375,6 +397,7 @@ impl Held {
         requires grows { made_of self.old ≤ next.number }
         requires below { AreBelow next.number document }
         ensures ok { IfOk result (λ ready. IsReady (with_document name.entry (plain_of document)) next.number self.new ready) }
+        ensures brings { IfOk result (Brings (given_if name.entry document (source_in self.new)) (is_module name.entry) self.new) }
         ensures kept { IsKept self.old self.new }
     {
         match name {
@@ -396,7 +419,8 @@ impl Held {
         requires faultless { IsFaultless document }
         requires grows { made_of self.now ≤ next.number }
         requires below { AreBelow next.number document }
-        ensures { IfOk result (λ ready. IsReady (with_source (plain_of document)) next.number self.now ready) }
+        ensures ok { IfOk result (λ ready. IsReady (with_source (plain_of document)) next.number self.now ready) }
+        ensures brings { IfOk result (Brings (Some document) false self.now) }
     {
         if self.pending() {
             self.pending_source(alloc, origin, document, next)
@@ -419,7 +443,8 @@ impl Held {
         requires faultless { IsFaultless document }
         requires grows { made_of self.now ≤ next.number }
         requires below { AreBelow next.number document }
-        ensures { IfOk result (λ ready. IsReady (with_source (plain_of document)) next.number self.now ready) }
+        ensures ok { IfOk result (λ ready. IsReady (with_source (plain_of document)) next.number self.now ready) }
+        ensures brings { IfOk result (Brings (Some document) false self.now) }
     {
         let Ok(came) = self.outcome_with_source(alloc, origin, &document) else {
             drop(document);
@@ -447,6 +472,8 @@ impl Held {
         ensures fits { IfOk result (λ came. Fits came) }
         ensures last { IfOk result (λ came. LastHolds (outcome_of came.outcome) self.now.compiled (parameters_of self.now.parameters) (Some document.now)
             (left_by came self.now.last.before self.now.last)) }
+        ensures cost { IfOk result (λ came. CostsRun self.now.compiled (parameters_of self.now.parameters) (Some document.now) self.now.last.kept.records any_change came.counts) }
+        ensures keeps { IfOk result (λ came. KeepsWhere self.now.compiled (parameters_of self.now.parameters) (Some document.now) came.kept) }
     {
         let since = self.since_source(alloc, origin, document)?;
         self.outcome_after(alloc, Some(document), since)
@@ -465,6 +492,8 @@ impl Held {
         ensures fits { IfOk result (λ came. Fits came) }
         ensures last { IfOk result (λ came. LastHolds (outcome_of came.outcome) self.now.compiled (parameters_of self.now.parameters) (option_copied source.entry)
             (left_by came self.now.last.before self.now.last)) }
+        ensures cost { IfOk result (λ came. CostsRun self.now.compiled (parameters_of self.now.parameters) (option_copied source.entry) self.now.last.kept.records any_change came.counts) }
+        ensures keeps { IfOk result (λ came. KeepsWhere self.now.compiled (parameters_of self.now.parameters) (option_copied source.entry) came.kept) }
     {
         let compiled = self.compiled.as_ref();
         let parameters = &self.parameters;
@@ -510,6 +539,7 @@ impl Held {
         requires grows { made_of self.old ≤ next.number }
         requires below { AreBelow next.number document }
         ensures ok { IfOk result (λ ready. IsReady (with_module name.now (plain_of document)) next.number self.new ready) }
+        ensures brings { IfOk result (Brings (source_in self.new) true self.new) }
         ensures kept { IsKept self.old self.new }
     {
         if self.pending() {
@@ -532,6 +562,7 @@ impl Held {
         requires grows { made_of self.old ≤ next.number }
         requires below { AreBelow next.number document }
         ensures ok { IfOk result (λ ready. IsReady (with_module name.now (plain_of document)) next.number self.new ready) }
+        ensures brings { IfOk result (Brings (source_in self.new) true self.new) }
         ensures kept { IsKept self.old self.new }
     {
         let Ok(key) = String::from_str(alloc, name.as_str()) else {
@@ -560,6 +591,7 @@ impl Held {
     fn drop_ready(&mut self, alloc: Global, name: &Text) -> Result<Ready, Memory>
         requires { IsCurrent self.old }
         ensures ok { IfOk result (λ ready. IsReady (without_module name.now) (made_of self.new) self.new ready) }
+        ensures brings { IfOk result (Brings (source_in self.new) true self.new) }
         ensures kept { IsKept self.old self.new }
     {
         if self.pending() {
@@ -574,6 +606,7 @@ impl Held {
         requires current { IsCurrent self.old }
         requires alone { is_some (pending_of self.old) ≡ false }
         ensures ok { IfOk result (λ ready. IsReady (without_module name.now) (made_of self.new) self.new ready) }
+        ensures brings { IfOk result (Brings (source_in self.new) true self.new) }
         ensures kept { IsKept self.old self.new }
     {
         let dropped = name.copy(alloc)?;
@@ -602,6 +635,8 @@ impl Held {
         ensures fits { IfOk result (λ came. Fits came) }
         ensures last { IfOk result (λ came. LastHolds (outcome_of came.outcome) (option_copied compiled.entry) (parameters_of self.now.parameters) self.now.source
             (left_by came (before_by (option_copied compiled.entry) self.now.compiled self.now.last.before) self.now.last)) }
+        ensures cost { IfOk result (λ came. CostsRun (option_copied compiled.entry) (parameters_of self.now.parameters) self.now.source self.now.last.kept.records any_change came.counts) }
+        ensures keeps { IfOk result (λ came. KeepsWhere (option_copied compiled.entry) (parameters_of self.now.parameters) self.now.source came.kept) }
     {
         let known = last_known(&self.compiled, &self.last.before);
         let since = since_modules(alloc, known, &self.last.since, compiled)?;
@@ -615,6 +650,7 @@ impl Held {
     fn parameter_ready(&mut self, alloc: Global, name: &Text, value: &Text) -> Result<Ready, Memory>
         requires { IsCurrent self.old }
         ensures ok { IfOk result (λ ready. IsReady (with_parameter name.now value.now) (made_of self.new) self.new ready) }
+        ensures brings { IfOk result (Brings (source_in self.new) false self.new) }
         ensures kept { IsKept self.old self.new }
     {
         if self.pending() {
@@ -634,6 +670,7 @@ impl Held {
         requires current { IsCurrent self.old }
         requires alone { is_some (pending_of self.old) ≡ false }
         ensures ok { IfOk result (λ ready. IsReady (with_parameter name.now value.now) (made_of self.new) self.new ready) }
+        ensures brings { IfOk result (Brings (source_in self.new) false self.new) }
         ensures kept { IsKept self.old self.new }
     {
         let since = since_parameter(alloc, &self.last.since, name)?;

@@ -1,5 +1,5 @@
 // What the transformation of documents comes to.
-ghost use Rattle.std.specs.Prelude.{◌≡◌, IfOk, IfSome, None, Ok, Some, []};
+ghost use Rattle.std.specs.Prelude.{◌≡◌, ◌≤◌, IfOk, IfSome, None, Ok, Some, []};
 ghost use Rattle.std.specs.Option.{option_copied};
 ghost use Rattle.spec_document.specs.Forest.{Plain};
 ghost use Rattle.spec_expression.specs.declared.code.Code.TheVariants as codes;
@@ -17,12 +17,15 @@ ghost use Rattle.xt_compile.specs.View.{refusal_in};
 ghost use Rattle.xt_engine.specs.View.{refused_of};
 ghost use Rattle.xt_driver.specs.View.{whole_of};
 ghost use Rattle.xt_import.specs.View.{plain_of};
+ghost use Rattle.xt_record.specs.Asked.{marked_of};
 ghost use Rattle.xt_record.specs.Sure.{AreAnswered, IsSure};
 ghost use Rattle.xt_own.specs.View.{Carries, OwnDecides};
 ghost use Rattle.spec_run.specs.Documents.{Parameters as Values};
 ghost use Rattle.xt_world.specs.ParameterView.{parameters_of};
 ghost use Rattle.xt_world.specs.View.{truth_in};
 ghost use Rattle.xt_touch.specs.View.{since_of};
+ghost use Rattle.xt_held.specs.Complete.{Completes, KeepsWhere};
+ghost use Rattle.xt_held.specs.Cost.{Costs, CostsRun, any_change, setting_on, setting_seen};
 ghost use Rattle.xt_held.specs.OutcomeView.{Fits, no_counts, outcome_of, plain_in, since_after};
 ghost use Rattle.xt_held.specs.RunView.{Ask, HoldsWith, KeptHolds, KeptSpared, SparedIn, SparesRecords, truth_seen};
 ghost use Rattle.xt_held.specs.StylesheetView.{AnswersAs, AreCompiled, IsCompiledFrom};
@@ -102,6 +105,8 @@ pub(crate) fn outcome_of(
     ensures fits { IfOk result (λ came. Fits came) }
     ensures last { IfOk result (λ came. IfSome came.kept (KeptHolds (option_copied compiled.entry) (parameters_of parameters.now) (option_copied source.entry))) }
     ensures since { IfOk result (λ came. since_of came.since ≡ since_after came.kept (since_of since)) }
+    ensures cost { IfOk result (λ came. CostsRun (option_copied compiled.entry) (parameters_of parameters.now) (option_copied source.entry) last.now.records any_change came.counts) }
+    ensures keeps { IfOk result (λ came. KeepsWhere (option_copied compiled.entry) (parameters_of parameters.now) (option_copied source.entry) came.kept) }
 {
     match compiled {
         None => Ok(with_no_run(at_no_element(alloc, StaticCode::NoMain), since)),
@@ -156,6 +161,8 @@ fn transformed(
     ensures fits { IfOk result (λ came. Fits came) }
     ensures last { IfOk result (λ came. IfSome came.kept (KeptHolds (Some compiled.now) (parameters_of parameters.now) (Some source.now))) }
     ensures since { IfOk result (λ came. since_of came.since ≡ since_after came.kept (since_of since)) }
+    ensures cost { IfOk result (λ came. CostsRun (Some compiled.now) (parameters_of parameters.now) (Some source.now) last.now.records any_change came.counts) }
+    ensures keeps { IfOk result (λ came. KeepsWhere (Some compiled.now) (parameters_of parameters.now) (Some source.now) came.kept) }
 {
     items_change_no_outcome();
     match compiled {
@@ -185,6 +192,7 @@ fn refused(alloc: Global, refusal: &StaticRefusal, since: Since) -> Result<Came,
     ensures outcome { IfOk result (λ came. outcome_of came.outcome ≡ spec.Failed (refused_static (refusal_in refusal.now)) []) }
     ensures fits { IfOk result (λ came. Fits came) }
     ensures kept { IfOk result (λ came. came.kept ≡ None) }
+    ensures counts { IfOk result (λ came. came.counts ≡ no_counts) }
     ensures since { IfOk result (λ came. came.since ≡ since) }
 {
     let Ok(place) = copy_place(alloc, &refusal.place) else {
@@ -229,6 +237,8 @@ fn whole_of_seen(
     ensures run { (sheet : plain.Sheet) → AnswersAs stylesheet.now sheet → space_rules_of space_rules.now ≡ sheet.space_rules
         → IfOk result (λ over. whole_of over.whole ≡ run_of (setting_of sheet (parameters_of parameters.now) (seen_of sheet.space_rules.rules (document_of (plain_of source.now))))) }
     ensures kept { IfOk result (λ over. HoldsWith stylesheet.now (truth_seen stylesheet.now space_rules.now (parameters_of parameters.now) source.now) over.kept) }
+    ensures cost { IfOk result (λ over. Costs (setting_seen stylesheet.now space_rules.now (parameters_of parameters.now) source.now) last.now.records any_change over.counts) }
+    ensures complete { IfOk result (λ over. Completes (setting_seen stylesheet.now space_rules.now (parameters_of parameters.now) source.now) over.whole over.kept.records) }
 {
     labels_do_not_matter();
     let seen = seen(alloc, source, space_rules.rules.as_slice())?;
@@ -248,6 +258,8 @@ fn whole(
     ensures run { (sheet : plain.Sheet) → AnswersAs stylesheet.now sheet
         → IfOk result (λ over. whole_of over.whole ≡ run_of (setting_of sheet (parameters_of parameters.now) (document_of (plain_of source.now)))) }
     ensures kept { IfOk result (λ over. HoldsWith stylesheet.now (truth_in stylesheet.now (parameters_of parameters.now) source.now) over.kept) }
+    ensures cost { IfOk result (λ over. Costs (setting_on stylesheet.now (parameters_of parameters.now) source.now) last.now.records any_change over.counts) }
+    ensures complete { IfOk result (λ over. Completes (setting_on stylesheet.now (parameters_of parameters.now) source.now) over.whole over.kept.records) }
 {
     source.distinct_numbers();
     let prepared = last
@@ -275,6 +287,8 @@ fn run_recorded(
     ensures run { (sheet : plain.Sheet) → AnswersAs stylesheet.now sheet
         → IfOk result (λ over. whole_of over.whole ≡ run_of (setting_of sheet (parameters_of parameters.now) (document_of (plain_of source.now)))) }
     ensures records { IfOk result (λ over. AreAnswered (truth_in stylesheet.now (parameters_of parameters.now) source.now) over.records) }
+    ensures cost { IfOk result (λ over. Costs (setting_on stylesheet.now (parameters_of parameters.now) source.now) last.now (since_of spared.now.since.now) over.counts) }
+    ensures complete { IfOk result (λ over. Completes (setting_on stylesheet.now (parameters_of parameters.now) source.now) over.whole over.records) }
 {
     same_run();
     source.distinct_numbers();
@@ -300,7 +314,10 @@ fn with_records(
     did: u64,
 ) -> Result<Recorded, Memory>
     ensures run { IfOk result (λ over. whole ≡ Ok over.whole) }
+    ensures kept { IfOk result (λ over. over.records ≡ reuse.entry.kept) }
     ensures records { IfOk result (λ over. (ask : Ask) → IsSure ask reuse.entry → AreAnswered ask over.records) }
+    ensures ran { IfOk result (λ over. over.counts.ran ≡ reuse.entry.steps.ran) }
+    ensures asked { IfOk result (λ over. (ask : Ask) → IsSure ask reuse.entry → over.counts.asked ≤ marked_of (since_of reuse.entry.spared.now.since.now) reuse.entry.last.now) }
 {
     match whole {
         Ok(whole) => {
@@ -328,6 +345,7 @@ fn with_own(
 ) -> Result<Over, Memory>
     ensures run { IfOk result (λ over. over.whole ≡ recorded.whole) }
     ensures records { IfOk result (λ over. over.kept.records ≡ recorded.records) }
+    ensures counts { IfOk result (λ over. over.counts ≡ recorded.counts) }
     ensures own { (values : Values) → Carries stylesheet.now (truth_in stylesheet.now values source.now) prepared.entry
         → IfOk result (λ over. OwnDecides stylesheet.now (truth_in stylesheet.now values source.now) over.kept.own) }
 {
@@ -374,6 +392,7 @@ fn ended(alloc: Global, method: Option<Method>, over: Over, since: Since) -> Res
     ensures outcome { IfOk result (λ came. outcome_of came.outcome ≡ outcome_by method (whole_of over.whole)) }
     ensures fits { IfOk result (λ came. Fits came) }
     ensures kept { IfOk result (λ came. IfSome came.kept (λ kept. kept ≡ over.kept)) }
+    ensures counts { IfOk result (λ came. came.counts ≡ over.counts) }
     ensures since { IfOk result (λ came. since_of came.since ≡ since_after came.kept (since_of since)) }
 {
     let Over {
@@ -420,6 +439,7 @@ fn refused_in_run(why: Refused, messages: Vec<Text>, counts: Counts, since: Sinc
     ensures outcome { outcome_of result.outcome ≡ spec.Failed (refused_dynamic (refused_of why)) messages.items }
     ensures fits { Fits result }
     ensures kept { result.kept ≡ None }
+    ensures counts { result.counts ≡ counts }
     ensures since { result.since ≡ since }
 {
     Came {

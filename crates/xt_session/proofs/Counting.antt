@@ -8,8 +8,10 @@ use Rattle.spec_session.specs.Command.{Command}
 use Rattle.spec_session.specs.Reply.{Reply, reply_bytes}
 use Rattle.spec_session.specs.Machine.{State, initial, Run}
 use Rattle.spec_session.specs.Generated.{Place, behind, begins_with, changes, first_place, generated, replies_with, show_command}
+use Rattle.xt_held.specs.declared.held.Held.{Held}
 use Rattle.xt_session.specs.declared.counts.Counts.{Counts}
 use Rattle.xt_session.specs.Counting.{Counted, HasAnswered, Turns, one_more}
+use Rattle.xt_session.specs.State.{state_of}
 use Rattle.xt_session.specs.Turn.{GivesReply}
 
 -- how far the session of a size has come: the replies so far are counted, and these commands are left
@@ -50,8 +52,8 @@ bytes_with_more replies reply =
     ∙ ap (λ (bytes : List ℕ). length (flat_map reply_bytes replies) + length bytes) (append-nil (reply_bytes reply)))
 
 -- a reply of these bytes is counted as the machine's
-pub turned : {old new : State} {before now : Counts} {command : Command} {bytes : List ℕ} → GivesReply old command bytes new → Counted before bytes now
-    → Turns old before command new now
+pub turned : {old new : Held} {before now : Counts} {command : Command} {bytes : List ℕ} → GivesReply old command bytes new → Counted before bytes now
+    → Turns (state_of old) before command (state_of new) now
 turned {before = before} {now = now} gives counted = record {
   reply = gives.reply;
   step = gives.step;

@@ -11,9 +11,17 @@ use Rattle.spec_lines.specs.Lines.{lines_within, ended_lines, Reader, ahead, all
 use Rattle.spec_lines.proofs.Reading.{ended_lines-none}
 use Rattle.spec_session.specs.Command.{Command, Session, session_of, after, status_of}
 use Rattle.spec_session.specs.Reply.{Reply, reply_bytes}
+use Rattle.spec_node.specs.declared.node_ref.NodeRef.{NodeRef}
+use Rattle.spec_node.specs.declared.node_ref.Part.TheVariants as part
+use Rattle.spec_stylesheet.specs.Place.{Place}
+use Rattle.spec_cost.specs.Past.{Past, nothing_past}
+use Rattle.spec_session.specs.Costs.{Goes, PaysAlong}
 use Rattle.spec_session.specs.Machine.{State, initial, Step, Run}
 use Rattle.spec_session.specs.Served.{AreReplies, IsServed, IsCutShort, IsPrefixOfReplies, TakesAtMost, session_within}
 use Rattle.xt_session.specs.Progress.{BeginsWithLines, GivesLines, IsDone, IsCut}
+use Rattle.xt_held.specs.PastView.{IsPast}
+use Rattle.xt_held.specs.declared.held.Held.{Held}
+use Rattle.xt_session.specs.State.{state_of}
 use Rattle.xt_session.specs.Turn.{IsAnswered}
 use Rattle.xt_session.proofs.Giving.{then_given, none_given, kept_by_itself, takes_nothing, takes_then}
 use Rattle.xt_session.proofs.Taking.{EndsWith}
@@ -26,14 +34,18 @@ in_front commands session = record { commands = commands ++ session.commands; en
 abbrev pub reader_at_start : ℕ → Reader
 reader_at_start limit = record { kept = []; room = limit; at_end = false }
 
--- how far a session of these bytes has come: the commands so far, whose replies are this text
-pub record HasCome (limit : ℕ) (bytes : List ℕ) (reader : Reader) (left : Option (List ℕ)) (state : State) (text : List ℕ) : Type 0 where
+-- how far a session of these bytes has come: the commands so far, whose replies are this text, and the past of what is held
+pub record HasCome (limit : ℕ) (bytes : List ℕ) (reader : Reader) (left : Option (List ℕ)) (held : Held) (text : List ℕ) : Type 0 where
   pub lines : List (List ℕ)
   pub commands : List Command
   pub replies : List Reply
   pub given : GivesLines (reader_at_start limit) (Some bytes) lines reader left
   pub are : (rest : List (List ℕ)) → session_of (lines ++ rest) ≡ in_front commands (session_of rest)
-  pub run : Run initial commands replies state
+  pub run : Run initial commands replies (state_of held)
+  pub called : Place → NodeRef
+  pub past : Past
+  pub pays : PaysAlong initial (nothing_past called) commands replies (state_of held) past
+  pub is_past : IsPast past held
   pub bytes_are : text ≡ flat_map reply_bytes replies
   pub takes : TakesUpTo 0 (reader_at_start limit) (Some bytes) reader left
 
@@ -44,14 +56,38 @@ run_more a [] (r ∷ rs) b command reply c run step = absurd run
 run_more a (x ∷ xs) [] b command reply c run step = absurd run
 run_more a (x ∷ xs) (r ∷ rs) b command reply c run step = (run.0, run.1, run_more run.0 xs rs b command reply c run.2 step)
 
-pub come_at_start : (limit : ℕ) (bytes : List ℕ) → HasCome limit bytes (reader_at_start limit) (Some bytes) initial []
-come_at_start limit bytes = record {
+pays_more : (a : State) (p : Past) (commands : List Command) (replies : List Reply) (b : State) (q : Past) (command : Command) (reply : Reply) (c : State)
+    (r : Past) → PaysAlong a p commands replies b q → Step b command reply c → Goes b command reply q r
+    → PaysAlong a p (commands ++ command ∷ []) (replies ++ reply ∷ []) c r
+pays_more a p [] [] b q command reply c r pays step goes = (
+  c,
+  r,
+  subst (λ (d : State). Step d command reply c) pays.0 step,
+  subst (λ (d : State). Goes d command reply p r) pays.0 (subst (λ (o : Past). Goes b command reply o r) pays.1 goes),
+  (refl, refl),
+)
+pays_more a p [] (x ∷ xs) b q command reply c r pays step goes = absurd pays
+pays_more a p (x ∷ xs) [] b q command reply c r pays step goes = absurd pays
+pays_more a p (x ∷ xs) (y ∷ ys) b q command reply c r pays step goes =
+    (pays.0, pays.1, pays.2, pays.3, pays_more pays.0 pays.1 xs ys b q command reply c r pays.4 step goes)
+
+-- what nothing is called at the start; nothing is there that could be
+no_name : Place → NodeRef
+no_name place = record { node = record { number = 0 }; part = part.Itself }
+
+pub come_at_start : (limit : ℕ) (bytes : List ℕ) (held : Held) → state_of held ≡ initial
+    → ((called : Place → NodeRef) → IsPast (nothing_past called) held) → HasCome limit bytes (reader_at_start limit) (Some bytes) held []
+come_at_start limit bytes held is past = record {
   lines = [];
   commands = [];
   replies = [];
   given = none_given (kept_by_itself (reader_at_start limit) (Some bytes));
   are = λ rest. refl;
-  run = refl;
+  run = is;
+  called = no_name;
+  past = nothing_past no_name;
+  pays = (is, refl);
+  is_past = past no_name;
   bytes_are = refl;
   takes = takes_nothing (reader_at_start limit) (Some bytes);
 }
@@ -68,9 +104,9 @@ more_bytes replies reply text more e h =
     ∙ sym (flat_map-append reply_bytes replies (reply ∷ []))
 
 -- one more command, with its reply
-pub come_on : {limit : ℕ} {bytes : List ℕ} {a b : Reader} {p q : Option (List ℕ)} {state next : State} {text more : List ℕ}
-    → HasCome limit bytes a p state text → IsAnswered a p state more b q next → HasCome limit bytes b q next (text ++ more)
-come_on {state = state} {next = next} come answered = record {
+pub come_on : {limit : ℕ} {bytes : List ℕ} {a b : Reader} {p q : Option (List ℕ)} {held next : Held} {text more : List ℕ}
+    → HasCome limit bytes a p held text → IsAnswered a p held more b q next → HasCome limit bytes b q next (text ++ more)
+come_on {held = held} {next = next} come answered = record {
   lines = come.lines ++ answered.given.lines;
   commands = come.commands ++ answered.command ∷ [];
   replies = come.replies ++ answered.gives.reply ∷ [];
@@ -78,10 +114,18 @@ come_on {state = state} {next = next} come answered = record {
   are = λ rest.
       ap session_of (append_assoc come.lines answered.given.lines rest) ∙ come.are (answered.given.lines ++ rest)
       ∙ ap (in_front come.commands) (answered.given.is rest) ∙ in_front-after come.commands answered.command (session_of rest);
-  run = run_more initial come.commands come.replies state answered.command answered.gives.reply next come.run answered.gives.step;
+  run = run_more initial come.commands come.replies (state_of held) answered.command answered.gives.reply (state_of next) come.run answered.gives.step;
+  called = come.called;
+  past = gone.0;
+  pays = pays_more initial (nothing_past come.called) come.commands come.replies (state_of held) come.past answered.command answered.gives.reply
+      (state_of next) gone.0 come.pays answered.gives.step gone.1;
+  is_past = gone.2;
   bytes_are = more_bytes come.replies answered.gives.reply _ _ come.bytes_are answered.gives.bytes_are;
   takes = takes_then come.takes answered.given.takes;
 }
+  where
+    gone : (after : Past) × Goes (state_of held) answered.command answered.gives.reply come.past after × IsPast after next
+    gone = answered.gives.goes come.past come.is_past
 
 -- the lines within the limit, where those so far and those ahead are known
 abbrev IsRest : ℕ → List ℕ → List (List ℕ) → Reader → List ℕ → Type 0
@@ -105,20 +149,25 @@ all_lines limit bytes lines b q given = go (ahead b q) given.told
     go (Some rest) e = (ap (λ (n : ℕ). lines_within n bytes) (sym zero) ∙ e.0, ap (λ (n : ℕ). nat_lt n (length bytes)) (sym zero) ∙ e.1)
 
 -- where no command comes after those so far, their replies are all
-all_replies : {limit : ℕ} {bytes : List ℕ} {a : Reader} {p : Option (List ℕ)} {state : State} {text : List ℕ}
-    (come : HasCome limit bytes a p state text) (session last : Session)
+all_replies : {limit : ℕ} {bytes : List ℕ} {a : Reader} {p : Option (List ℕ)} {held : Held} {text : List ℕ}
+    (come : HasCome limit bytes a p held text) (session last : Session)
     → session ≡ in_front come.commands last → last.commands ≡ [] → AreReplies session.commands text
-all_replies {state = state} come session last all none = record {
+all_replies {held = held} come session last all none = record {
   replies = come.replies;
-  state = state;
-  run = subst (λ (cs : List Command). Run initial cs come.replies state)
-      (sym (ap (λ (s : Session). s.commands) all ∙ ap (λ (cs : List Command). come.commands ++ cs) none ∙ append-nil come.commands)) come.run;
+  state = state_of held;
+  run = subst (λ (cs : List Command). Run initial cs come.replies (state_of held)) commands come.run;
+  called = come.called;
+  past = come.past;
+  pays = subst (λ (cs : List Command). PaysAlong initial (nothing_past come.called) cs come.replies (state_of held) come.past) commands come.pays;
   bytes = come.bytes_are;
 }
+  where
+    commands : come.commands ≡ session.commands
+    commands = sym (ap (λ (s : Session). s.commands) all ∙ ap (λ (cs : List Command). come.commands ++ cs) none ∙ append-nil come.commands)
 
 -- no command is left, and the status says how the lines end
-pub come_served : {limit : ℕ} {bytes : List ℕ} {a c : Reader} {p r : Option (List ℕ)} {state : State} {text : List ℕ} {status : ℕ}
-    → HasCome limit bytes a p state text → IsDone session_of a p status c r → IsServed limit bytes status text
+pub come_served : {limit : ℕ} {bytes : List ℕ} {a c : Reader} {p r : Option (List ℕ)} {held : Held} {text : List ℕ} {status : ℕ}
+    → HasCome limit bytes a p held text → IsDone session_of a p status c r → IsServed limit bytes status text
 come_served {limit = limit} {bytes = bytes} {text = text} {status = status} come done =
     go (ahead done.reader done.between) (all_lines limit bytes (come.lines ++ done.lines) done.reader done.between (then_given come.given done.given))
     done.end
@@ -141,8 +190,8 @@ ahead-asking : (b : Reader) (q : Option (List ℕ)) → b.at_end ≡ false → a
 ahead-asking b q e = rw e refl
 
 -- the source failed: the whole commands among the bytes taken are answered, and `quit` has not ended them
-pub come_cut : {limit : ℕ} {bytes : List ℕ} {a c : Reader} {p r : Option (List ℕ)} {state : State} {text : List ℕ}
-    → HasCome limit bytes a p state text → IsCut session_of a p c r → IsSomeAnd r (λ rest. IsCutShort limit bytes rest text)
+pub come_cut : {limit : ℕ} {bytes : List ℕ} {a c : Reader} {p r : Option (List ℕ)} {held : Held} {text : List ℕ}
+    → HasCome limit bytes a p held text → IsCut session_of a p c r → IsSomeAnd r (λ rest. IsCutShort limit bytes rest text)
 come_cut {limit = limit} {bytes = bytes} {c = c} {r = r} {text = text} come cut =
     go cut.between r (subst (λ (o : Option (List ℕ)). IsSomeAnd o (BeginsWithLines bytes lines)) (ahead-asking cut.reader cut.between cut.asked) begins)
     cut.open_line (takes_then come.takes cut.takes).bytes
@@ -201,8 +250,8 @@ come_cut {limit = limit} {bytes = bytes} {c = c} {r = r} {text = text} come cut 
         short rest e.0 (subst (λ (l : List ℕ). BeginsWithLines bytes lines (cut.reader.kept ++ l)) e.1 h) e.2 few
 
 -- the sink failed in the reply to the next command: what is written is a prefix of the replies
-pub come_prefix : {limit : ℕ} {bytes : List ℕ} {a b : Reader} {p q : Option (List ℕ)} {state next : State} {text more : List ℕ} (count : ℕ)
-    → HasCome limit bytes a p state text → IsAnswered a p state more b q next → IsPrefixOfReplies limit bytes (text ++ take count more)
+pub come_prefix : {limit : ℕ} {bytes : List ℕ} {a b : Reader} {p q : Option (List ℕ)} {held next : Held} {text more : List ℕ} (count : ℕ)
+    → HasCome limit bytes a p held text → IsAnswered a p held more b q next → IsPrefixOfReplies limit bytes (text ++ take count more)
 come_prefix {limit = limit} {bytes = bytes} {b = b} {q = q} {next = next} {text = text} {more = more} count come answered =
     go (ahead b q) (all_lines limit bytes on.lines b q on.given)
   where
@@ -218,15 +267,18 @@ come_prefix {limit = limit} {bytes = bytes} {b = b} {q = q} {next = next} {text 
       unwritten = drop count more;
       answered = record {
         replies = on.replies;
-        state = next;
+        state = state_of next;
         run = on.run;
+        called = on.called;
+        past = on.past;
+        pays = on.pays;
         bytes = append_assoc text _ _ ∙ ap (λ (t : List ℕ). text ++ t) (take-append-drop count more) ∙ on.bytes_are;
       };
     }
 
 -- the bytes taken in all
-pub come_takes : {limit extra : ℕ} {bytes : List ℕ} {a c : Reader} {p r : Option (List ℕ)} {state : State} {text : List ℕ}
-    → HasCome limit bytes a p state text → TakesUpTo extra a p c r → extra ≤ 1 → IsSomeAnd r (λ rest. TakesAtMost limit bytes rest)
+pub come_takes : {limit extra : ℕ} {bytes : List ℕ} {a c : Reader} {p r : Option (List ℕ)} {held : Held} {text : List ℕ}
+    → HasCome limit bytes a p held text → TakesUpTo extra a p c r → extra ≤ 1 → IsSomeAnd r (λ rest. TakesAtMost limit bytes rest)
 come_takes {limit = limit} {extra = extra} {bytes = bytes} {c = c} {r = r} come takes few = go r (takes_then come.takes takes).bytes
   where
     go : (o : Option (List ℕ)) → IsSomeAnd o (λ rest. (taken : List ℕ) × (bytes ≡ taken ++ rest) × (length taken + c.room ≤ limit + extra))

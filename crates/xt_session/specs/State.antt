@@ -1,12 +1,14 @@
 -- What is held stands for the machine's state.
 use Rattle.std.specs.Prelude.{Bool, true, false, Option, None, Some}
 use Rattle.spec_document.specs.Name.{Expanded}
+use Rattle.spec_edit.specs.Edit as edits
+use Rattle.spec_edit.specs.Edit.{Edit}
 use Rattle.spec_stylesheet.specs.declared.method.Method.{Method}
 use Rattle.spec_stylesheet.specs.declared.method.Method.TheVariants as method
 use Rattle.spec_run.specs.Outcome.{Outcome}
 use Rattle.spec_session.specs.Machine.{State, Answer, Changes, Pends, change_reply}
 use Rattle.spec_session.specs.Reply.{Reply, OkPending}
-use Rattle.spec_session.specs.Request.{DocumentName, SourceName, ModuleName}
+use Rattle.spec_session.specs.Request.{DocumentName, SourceName, ModuleName, Request, Insert, Delete, SetText, SetAttribute, RemoveAttribute, Rename}
 use Rattle.xt_held.specs.View.{made_of, next_made, next_pending, next_present, pending_of, present_of, told_of}
 use Rattle.xt_held.specs.declared.held.Held.{Held}
 use Rattle.xt_held.specs.declared.ready.Ready.{Ready}
@@ -36,6 +38,15 @@ adopted ready held = answer_told (told_of ready) (next_state ready held)
 abbrev pub name_in : DocName → DocumentName
 name_in names.Source = SourceName
 name_in (names.Module name) = ModuleName name.now
+
+-- what is asked where a document is to be edited so
+abbrev pub request_by : DocumentName → Edit → Request
+request_by document (edits.Insert path body) = Insert document path body
+request_by document (edits.Delete path) = Delete document path
+request_by document (edits.SetText path value) = SetText document path value
+request_by document (edits.SetAttribute path name value) = SetAttribute document path name value
+request_by document (edits.RemoveAttribute path name) = RemoveAttribute document path name
+request_by document (edits.Rename path name) = Rename document path name
 
 -- whether a result is written as text
 abbrev pub is_text : Option (Method Expanded) → Bool

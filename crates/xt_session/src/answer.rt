@@ -1,13 +1,14 @@
 // Answers one command.
 ghost use Rattle.std.specs.Prelude.{◌≡◌, IfOk, OnErr};
 ghost use Rattle.std.specs.Str.{encode_utf8_all};
-ghost use Rattle.spec_session.specs.Machine.{answer_to, edited_in, shows, document_named, ShowsMessages, ShowsResult, TellsCounts, WritesResult};
+ghost use Rattle.spec_session.specs.Machine.{document_named};
+ghost use Rattle.spec_session.specs.Request.{Dump, Messages, Show, Statistics, Write};
 ghost use Rattle.xt_edit.specs.View.{edit_of};
 ghost use Rattle.xt_held.specs.OutcomeView.{plain_in};
 ghost use Rattle.xt_held.specs.View.{IsCurrent};
 ghost use Rattle.xt_wire.specs.View.{asked_of, name_of};
-ghost use Rattle.xt_session.specs.State.{state_of};
-ghost use Rattle.xt_session.specs.Turn.{GivesReply, GivesText};
+ghost use Rattle.xt_session.specs.State.{request_by, state_of};
+ghost use Rattle.xt_session.specs.Turn.{GivesReply, RepliesTo, Stays};
 
 use crate::changes::{
     abandon, begin, commit, drop_module, edit, relocate, set_module, set_parameter, set_source,
@@ -23,11 +24,12 @@ use xt_text::{Memory, Text};
 use xt_tree::Doc;
 use xt_wire::{DocumentName, Reply};
 
-/// The text of the reply to a command, whose change, if any, is made. After want of memory all is as before.
+/// The text of the reply to a command, whose change, if any, is made, and what it cost is counted. After want of memory
+/// all is as before.
 pub(crate) fn answer(alloc: Global, held: &mut Held, command: Command) -> Result<Text, Memory>
     requires { IsCurrent held.old }
-    ensures ok { IfOk result (λ text. GivesReply (state_of held.old) command (encode_utf8_all text) (state_of held.new)) }
-    ensures err { OnErr result (state_of held.new ≡ state_of held.old) }
+    ensures ok { IfOk result (λ text. GivesReply held.old command (encode_utf8_all text) held.new) }
+    ensures err { OnErr result (Stays held.old held.new) }
     ensures current { IsCurrent held.new }
 {
     let (line, body) = command.into_parts();
@@ -40,8 +42,8 @@ pub(crate) fn answer(alloc: Global, held: &mut Held, command: Command) -> Result
 // Does what is asked.
 fn carry_out(alloc: Global, held: &mut Held, asked: xt_wire::Command) -> Result<Text, Memory>
     requires { IsCurrent held.old }
-    ensures ok { IfOk result (λ text. GivesText (state_of held.old) (answer_to (state_of held.old) (asked_of asked)) text (state_of held.new)) }
-    ensures err { OnErr result (state_of held.new ≡ state_of held.old) }
+    ensures ok { IfOk result (λ text. RepliesTo held.old (asked_of asked) text held.new) }
+    ensures err { OnErr result (Stays held.old held.new) }
     ensures current { IsCurrent held.new }
 {
     match asked {
@@ -91,8 +93,8 @@ fn carry_out(alloc: Global, held: &mut Held, asked: xt_wire::Command) -> Result<
 // Edits the document of this name.
 fn change(alloc: Global, held: &mut Held, name: DocumentName, change: Edit) -> Result<Text, Memory>
     requires { IsCurrent held.old }
-    ensures ok { IfOk result (λ text. GivesText (state_of held.old) (edited_in (state_of held.old) (name_of name) (edit_of change)) text (state_of held.new)) }
-    ensures err { OnErr result (state_of held.new ≡ state_of held.old) }
+    ensures ok { IfOk result (λ text. RepliesTo held.old (request_by (name_of name) (edit_of change)) text held.new) }
+    ensures err { OnErr result (Stays held.old held.new) }
     ensures current { IsCurrent held.new }
 {
     edit(alloc, held, &name, &change)
@@ -101,7 +103,7 @@ fn change(alloc: Global, held: &mut Held, name: DocumentName, change: Edit) -> R
 // Shows the result, or why there is none.
 fn show(alloc: Global, held: &Held) -> Result<Text, Memory>
     requires { IsCurrent held.now }
-    ensures { IfOk result (λ text. GivesText (state_of held.now) ShowsResult text (state_of held.now)) }
+    ensures { IfOk result (λ text. RepliesTo held.now Show text held.now) }
 {
     let reply = result_reply(alloc, held.outcome())?;
     text_of(alloc, reply)
@@ -110,7 +112,7 @@ fn show(alloc: Global, held: &Held) -> Result<Text, Memory>
 // Writes the result, or why there is none.
 fn write(alloc: Global, held: &Held) -> Result<Text, Memory>
     requires { IsCurrent held.now }
-    ensures { IfOk result (λ text. GivesText (state_of held.now) WritesResult text (state_of held.now)) }
+    ensures { IfOk result (λ text. RepliesTo held.now Write text held.now) }
 {
     let reply = written_reply(alloc, held.outcome())?;
     text_of(alloc, reply)
@@ -119,16 +121,16 @@ fn write(alloc: Global, held: &Held) -> Result<Text, Memory>
 // Shows the messages, also where there is no result.
 fn messages(alloc: Global, held: &Held) -> Result<Text, Memory>
     requires { IsCurrent held.now }
-    ensures { IfOk result (λ text. GivesText (state_of held.now) ShowsMessages text (state_of held.now)) }
+    ensures { IfOk result (λ text. RepliesTo held.now Messages text held.now) }
 {
     let reply = messages_reply(alloc, held.outcome())?;
     text_of(alloc, reply)
 }
 
-// Tells what the last change of what is present has cost.
+// Tells what the last change of what is present has cost: so many instantiations as the past says.
 fn statistics(alloc: Global, held: &Held) -> Result<Text, Memory>
     requires { IsCurrent held.now }
-    ensures { IfOk result (λ text. GivesText (state_of held.now) TellsCounts text (state_of held.now)) }
+    ensures { IfOk result (λ text. RepliesTo held.now Statistics text held.now) }
 {
     let counts = held.stats();
     text_of(alloc, counts_reply(counts.ran, counts.asked, counts.did))
@@ -136,7 +138,7 @@ fn statistics(alloc: Global, held: &Held) -> Result<Text, Memory>
 
 // Shows the document of this name, where it is held.
 fn dump(alloc: Global, held: &Held, name: &DocumentName) -> Result<Text, Memory>
-    ensures { IfOk result (λ text. GivesText (state_of held.now) (shows (document_named (state_of held.now) (name_of name.now))) text (state_of held.now)) }
+    ensures { IfOk result (λ text. RepliesTo held.now (Dump (name_of name.now)) text held.now) }
 {
     match document(held, name) {
         Some(document) => text_of(alloc, dump_reply(alloc, document)?),

@@ -1,16 +1,13 @@
 // Changes of what is held.
 ghost use Rattle.std.specs.Prelude.{◌≡◌, IfOk, OnErr};
-ghost use Rattle.spec_document.specs.Document.{document_of};
-ghost use Rattle.spec_document.specs.Scope.{root_scope};
-ghost use Rattle.spec_run.specs.Documents.{parameter_fault, with_module, with_source};
-ghost use Rattle.spec_session.specs.Machine.{abandoned, answer_to, begun, committed, dropped_by, edited_documents, edited_in, given_by, kept_by};
 ghost use Rattle.spec_session.specs.Reply.{reply_text};
-ghost use Rattle.spec_session.specs.Request.{Move};
+ghost use Rattle.spec_session.specs.Request.{Abandon, Begin, Commit, DropModule, Move, SetModule, SetParameter, SetSource};
 ghost use Rattle.xt_edit.specs.View.{edit_of};
+ghost use Rattle.xt_held.specs.PastView.{PaysFor};
 ghost use Rattle.xt_held.specs.View.{IsCurrent, IsMadeFrom, told_of};
 ghost use Rattle.xt_wire.specs.View.{name_of};
-ghost use Rattle.xt_session.specs.State.{adopted, reply_told, state_of};
-ghost use Rattle.xt_session.specs.Turn.{GivesText};
+ghost use Rattle.xt_session.specs.State.{adopted, reply_told, request_by, state_of};
+ghost use Rattle.xt_session.specs.Turn.{BecomesBy, GivesText, RepliesTo, Stays};
 
 use crate::names::doc_name;
 use crate::replies::{change_text, text_of};
@@ -23,8 +20,8 @@ use xt_wire::{DocumentName, Reply};
 /// Makes the document of the lines the source, unless they have a fault.
 pub(crate) fn set_source(alloc: Global, held: &mut Held, body: &[Line]) -> Result<Text, Memory>
     requires { IsCurrent held.old }
-    ensures ok { IfOk result (λ text. GivesText (state_of held.old) (kept_by with_source (state_of held.old) (document_of root_scope (state_of held.old).made body.now)) text (state_of held.new)) }
-    ensures err { OnErr result (state_of held.new ≡ state_of held.old) }
+    ensures ok { IfOk result (λ text. RepliesTo held.old (SetSource body.now) text held.new) }
+    ensures err { OnErr result (Stays held.old held.new) }
     ensures current { IsCurrent held.new }
 {
     match held.set_source(alloc, body) {
@@ -42,8 +39,8 @@ pub(crate) fn set_module(
     body: &[Line],
 ) -> Result<Text, Memory>
     requires { IsCurrent held.old }
-    ensures ok { IfOk result (λ text. GivesText (state_of held.old) (kept_by (with_module name.now) (state_of held.old) (document_of root_scope (state_of held.old).made body.now)) text (state_of held.new)) }
-    ensures err { OnErr result (state_of held.new ≡ state_of held.old) }
+    ensures ok { IfOk result (λ text. RepliesTo held.old (SetModule name.now body.now) text held.new) }
+    ensures err { OnErr result (Stays held.old held.new) }
     ensures current { IsCurrent held.new }
 {
     match held.set_module(alloc, name, body) {
@@ -56,8 +53,8 @@ pub(crate) fn set_module(
 /// Drops the module of this name, unless there is none.
 pub(crate) fn drop_module(alloc: Global, held: &mut Held, name: &Text) -> Result<Text, Memory>
     requires { IsCurrent held.old }
-    ensures ok { IfOk result (λ text. GivesText (state_of held.old) (dropped_by name.now (state_of held.old) ((edited_documents (state_of held.old)).modules name.now)) text (state_of held.new)) }
-    ensures err { OnErr result (state_of held.new ≡ state_of held.old) }
+    ensures ok { IfOk result (λ text. RepliesTo held.old (DropModule name.now) text held.new) }
+    ensures err { OnErr result (Stays held.old held.new) }
     ensures current { IsCurrent held.new }
 {
     match held.drop_module(alloc, name) {
@@ -75,8 +72,8 @@ pub(crate) fn edit(
     edit: &Edit,
 ) -> Result<Text, Memory>
     requires { IsCurrent held.old }
-    ensures ok { IfOk result (λ text. GivesText (state_of held.old) (edited_in (state_of held.old) (name_of name.now) (edit_of edit.now)) text (state_of held.new)) }
-    ensures err { OnErr result (state_of held.new ≡ state_of held.old) }
+    ensures ok { IfOk result (λ text. RepliesTo held.old (request_by (name_of name.now) (edit_of edit.now)) text held.new) }
+    ensures err { OnErr result (Stays held.old held.new) }
     ensures current { IsCurrent held.new }
 {
     match held.edit(alloc, doc_name(name), edit) {
@@ -95,8 +92,8 @@ pub(crate) fn relocate(
     other: &Path,
 ) -> Result<Text, Memory>
     requires { IsCurrent held.old }
-    ensures ok { IfOk result (λ text. GivesText (state_of held.old) (answer_to (state_of held.old) (Move (name_of name.now) path.now other.now)) text (state_of held.new)) }
-    ensures err { OnErr result (state_of held.new ≡ state_of held.old) }
+    ensures ok { IfOk result (λ text. RepliesTo held.old (Move (name_of name.now) path.now other.now) text held.new) }
+    ensures err { OnErr result (Stays held.old held.new) }
     ensures current { IsCurrent held.new }
 {
     match held.relocate(alloc, doc_name(name), path, other) {
@@ -114,8 +111,8 @@ pub(crate) fn set_parameter(
     value: &Text,
 ) -> Result<Text, Memory>
     requires { IsCurrent held.old }
-    ensures ok { IfOk result (λ text. GivesText (state_of held.old) (given_by name.now value.now (state_of held.old) (parameter_fault name.now value.now)) text (state_of held.new)) }
-    ensures err { OnErr result (state_of held.new ≡ state_of held.old) }
+    ensures ok { IfOk result (λ text. RepliesTo held.old (SetParameter name.now value.now) text held.new) }
+    ensures err { OnErr result (Stays held.old held.new) }
     ensures current { IsCurrent held.new }
 {
     match held.set_param(alloc, name, value) {
@@ -128,8 +125,8 @@ pub(crate) fn set_parameter(
 /// Opens a batch, unless one is open.
 pub(crate) fn begin(alloc: Global, held: &mut Held) -> Result<Text, Memory>
     requires { IsCurrent held.old }
-    ensures ok { IfOk result (λ text. GivesText (state_of held.old) (begun (state_of held.old) (state_of held.old).pending) text (state_of held.new)) }
-    ensures err { OnErr result (state_of held.new ≡ state_of held.old) }
+    ensures ok { IfOk result (λ text. RepliesTo held.old Begin text held.new) }
+    ensures err { OnErr result (Stays held.old held.new) }
     ensures current { IsCurrent held.new }
 {
     let text = text_of(alloc, Reply::OkPending)?;
@@ -143,8 +140,8 @@ pub(crate) fn begin(alloc: Global, held: &mut Held) -> Result<Text, Memory>
 /// Makes present what the changes of the batch have made, unless none is open.
 pub(crate) fn commit(alloc: Global, held: &mut Held) -> Result<Text, Memory>
     requires { IsCurrent held.old }
-    ensures ok { IfOk result (λ text. GivesText (state_of held.old) (committed (state_of held.old) (state_of held.old).pending) text (state_of held.new)) }
-    ensures err { OnErr result (state_of held.new ≡ state_of held.old) }
+    ensures ok { IfOk result (λ text. RepliesTo held.old Commit text held.new) }
+    ensures err { OnErr result (Stays held.old held.new) }
     ensures current { IsCurrent held.new }
 {
     match held.commit(alloc) {
@@ -157,8 +154,8 @@ pub(crate) fn commit(alloc: Global, held: &mut Held) -> Result<Text, Memory>
 /// Drops what the changes of the batch have made, unless none is open.
 pub(crate) fn abandon(alloc: Global, held: &mut Held) -> Result<Text, Memory>
     requires { IsCurrent held.old }
-    ensures ok { IfOk result (λ text. GivesText (state_of held.old) (abandoned (state_of held.old) (state_of held.old).pending) text (state_of held.new)) }
-    ensures err { OnErr result (state_of held.new ≡ state_of held.old) }
+    ensures ok { IfOk result (λ text. RepliesTo held.old Abandon text held.new) }
+    ensures err { OnErr result (Stays held.old held.new) }
     ensures current { IsCurrent held.new }
 {
     let text = text_of(alloc, Reply::OkDropped)?;
@@ -174,7 +171,8 @@ fn adopt(alloc: Global, held: &mut Held, ready: Ready) -> Result<Text, Memory>
     requires made_from { IsMadeFrom held.old ready }
     requires current { IsCurrent held.old }
     ensures ok { IfOk result (λ text. GivesText (state_of held.old) (adopted ready held.old) text (state_of held.new)) }
-    ensures err { OnErr result (state_of held.new ≡ state_of held.old) }
+    ensures past { IfOk result (λ text. BecomesBy (PaysFor ready held.old) held.old held.new) }
+    ensures err { OnErr result (Stays held.old held.new) }
     ensures current { IsCurrent held.new }
 {
     let text = adopted_text(alloc, &ready)?;

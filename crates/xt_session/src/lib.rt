@@ -3,7 +3,7 @@
 //! the commands of a generated session for a demonstration.
 //!
 //! Its contract is the headline: the bytes written are the replies of a run of the session machine
-//! over the whole commands, in order, and nothing else.
+//! over the whole commands, in order, and nothing else; and what `stats` tells in them is what the changes cost.
 //!
 //! ```text
 //! let mut input = MemSource::new(alloc, b"show\n", &[])?;

@@ -79,7 +79,8 @@ fn is_text(method: &Option<Method>) -> bool
 
 /// The reply to a request for the counts, where they are these.
 pub(crate) fn counts_reply(ran: u64, asked: u64, did: u64) -> Reply
-    ensures { (outcome : run.Outcome) → machine.IsFreeFor outcome ran asked did → machine.TellsNumbers outcome (reply_of result) }
+    ensures tells { (outcome : run.Outcome) → machine.IsFreeFor outcome ran asked did → machine.TellsNumbers outcome (reply_of result) }
+    ensures is { reply_of result ≡ written.Counted ran asked did }
 {
     Reply::Counted { ran, asked, did }
 }

@@ -4,7 +4,6 @@ ghost use Rattle.spec_lines.specs.Outside.{Appends, HasRisen};
 ghost use Rattle.spec_session.specs.Served.{Serves};
 ghost use Rattle.xt_session.specs.Turn.{Turns, Writes, HasInputCause, HasOutputCause};
 ghost use Rattle.xt_held.specs.View.{IsCurrent};
-ghost use Rattle.xt_session.specs.State.{state_of};
 
 use crate::answer::answer;
 use crate::command::Taken;
@@ -29,7 +28,8 @@ pub(crate) const NO_MEMORY: &[u8] = b"no 1\n";
 /// | 4 | where the input ends inside a body |
 /// | 5 | where a line or body is not whole within `limit` bytes and the input goes on |
 pub fn serve<I: Source, O: Sink>(alloc: Global, input: &mut I, output: &mut O, limit: u64) -> u8
-    // The headline: the bytes written are the replies of a run of the machine over the whole commands.
+    // The headline: the bytes written are the replies of a run of the machine over the whole commands, and what `stats`
+    // tells in them is what the changes cost.
     ensures session { Serves limit (I.remaining input.old) (I.remaining input.new) (O.written output.old) (O.written output.new) result }
 
     // Want of memory at the start leaves source and sink as they were.
@@ -77,7 +77,7 @@ fn take_turn<I: Source, O: Sink>(
     output: &mut O,
 ) -> Turn
     requires { IsCurrent held.old }
-    ensures turns { Turns lines.old (I.remaining input.old) (state_of held.old) (O.written output.old) result lines.new (I.remaining input.new) (state_of held.new) (O.written output.new) }
+    ensures turns { Turns lines.old (I.remaining input.old) held.old (O.written output.old) result lines.new (I.remaining input.new) held.new (O.written output.new) }
     ensures current { IsCurrent held.new }
     ensures input_cause { HasInputCause (I.faults input.old) (I.faults input.new) result }
     ensures output_cause { HasOutputCause (O.faults output.old) (O.faults output.new) result }

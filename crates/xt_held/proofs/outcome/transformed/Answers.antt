@@ -9,6 +9,11 @@ use Rattle.xt_held.specs.declared.last_run.Kept.{Kept}
 use Rattle.xt_held.specs.declared.stylesheet.Compiled.{Compiled}
 use Rattle.xt_held.specs.declared.stylesheet.Compiled.TheVariants.{Stylesheet}
 use Rattle.xt_held.proofs.Coming.{ended_so, none_kept, runs_so}
+use Rattle.xt_held.specs.Complete.{KeepsWhere}
+use Rattle.xt_held.specs.Cost.{CostsRun, any_change, setting_seen}
+use Rattle.xt_held.specs.declared.counts.Counts.{Counts}
+use Rattle.xt_held.proofs.Completing.{ended_keeps}
+use Rattle.xt_held.proofs.Costing.{came_cost}
 use Rattle.xt_held.proofs.outcome.transformed.Goals as goal
 
 pub returns-in-Ok-clause-outcome : goal.returns-in-Ok-clause-outcome
@@ -34,3 +39,29 @@ returns-in-Ok-clause-last c =
 pub returns-in-Refused-clause-last : goal.returns-in-Refused-clause-last
 returns-in-Refused-clause-last c =
     none_kept c.refused.result (KeptHolds (Some c.args.compiled.now) (parameters_of c.args.parameters.now) (Some c.args.source.now)) c.refused.ensures.kept
+
+pub returns-in-Ok-clause-cost : goal.returns-in-Ok-clause-cost
+returns-in-Ok-clause-cost c =
+    let Cost : Compiled → Counts → Type 0
+    = λ compiled counts. CostsRun (Some compiled) (parameters_of c.args.parameters.now) (Some c.args.source.now) c.args.last.now.records any_change counts in
+    subst (λ (compiled : Compiled). IfOk c.ended.result (λ came. Cost compiled came.counts)) (sym c.in-Stylesheet.is)
+    (came_cost (Cost (Stylesheet c.in-Stylesheet.stylesheet c.in-Stylesheet.space_rules c.in-Stylesheet.method)) c.in_ok-over-in-Stylesheet.over.counts
+    c.ended.result c.ended.ensures.counts c.in_ok-over-in-Stylesheet.ensures.cost)
+
+pub returns-in-Refused-clause-cost : goal.returns-in-Refused-clause-cost
+returns-in-Refused-clause-cost c =
+    subst (λ (compiled : Compiled). IfOk c.refused.result (λ came. CostsRun (Some compiled) (parameters_of c.args.parameters.now) (Some c.args.source.now)
+    c.args.last.now.records any_change came.counts)) (sym c.in-Refused.is) c.refused.ensures.counts
+
+pub returns-in-Ok-clause-keeps : goal.returns-in-Ok-clause-keeps
+returns-in-Ok-clause-keeps c =
+    let given = parameters_of c.args.parameters.now in
+    let sheet = c.in-Stylesheet.stylesheet in
+    subst (λ (compiled : Compiled). IfOk c.ended.result (λ came. KeepsWhere (Some compiled) given (Some c.args.source.now) came.kept)) (sym c.in-Stylesheet.is)
+    (ended_keeps (setting_seen sheet c.in-Stylesheet.space_rules given c.args.source.now) c.in-Ok.method c.in_ok-over-in-Stylesheet.over c.ended.result
+    c.in_ok-over-in-Stylesheet.ensures.complete c.ended.ensures.outcome c.ended.ensures.fits c.ended.ensures.kept)
+
+pub returns-in-Refused-clause-keeps : goal.returns-in-Refused-clause-keeps
+returns-in-Refused-clause-keeps c =
+    subst (λ (compiled : Compiled). IfOk c.refused.result (λ came. KeepsWhere (Some compiled) (parameters_of c.args.parameters.now) (Some c.args.source.now)
+    came.kept)) (sym c.in-Refused.is) c.refused.ensures.kept

@@ -6,6 +6,8 @@ use Rattle.spec_run.specs.Outcome.{Comes}
 use Rattle.xt_touch.specs.View.{since_of}
 use Rattle.xt_held.specs.OutcomeView.{outcome_of, plain_in}
 use Rattle.xt_held.specs.RunView.{KeptHolds, KeptSpared}
+use Rattle.xt_held.specs.Complete.{KeepsWhere}
+use Rattle.xt_held.specs.Cost.{CostsRun, any_change}
 use Rattle.xt_held.proofs.parameter.outcome_with.Goals as goal
 
 pub returns-clause-outcome : goal.returns-clause-outcome
@@ -22,3 +24,13 @@ pub returns-clause-last : goal.returns-clause-last
 returns-clause-last c =
     subst (λ (parameters : Parameters). IfSome c.in_ok-came.came.kept (KeptHolds (option_copied c.args.compiled) parameters (option_copied c.args.source)))
     c.in_ok-before.ensures.given c.in_ok-came.ensures.last
+
+pub returns-clause-cost : goal.returns-clause-cost
+returns-clause-cost c =
+    subst (λ (parameters : Parameters). CostsRun (option_copied c.args.compiled) parameters (option_copied c.args.source) c.args.last.now.records any_change
+    c.in_ok-came.came.counts) c.in_ok-before.ensures.given c.in_ok-came.ensures.cost
+
+pub returns-clause-keeps : goal.returns-clause-keeps
+returns-clause-keeps c =
+    subst (λ (parameters : Parameters). KeepsWhere (option_copied c.args.compiled) parameters (option_copied c.args.source) c.in_ok-came.came.kept)
+    c.in_ok-before.ensures.given c.in_ok-came.ensures.keeps

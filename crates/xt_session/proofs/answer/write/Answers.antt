@@ -2,13 +2,12 @@ use Rattle.std.proofs.Common.{◌∙◌, ap}
 use Rattle.spec_session.specs.Machine.{written_reply}
 use Rattle.xt_held.specs.View.{outcome_in}
 use Rattle.xt_wire.specs.View.{reply_of}
-use Rattle.xt_session.specs.State.{state_of}
-use Rattle.xt_session.proofs.Answering.{if_ok_map, gives_written}
+use Rattle.xt_session.proofs.Answering.{if_ok_map, replies_written}
 use Rattle.xt_session.proofs.answer.write.Goals as goal
 
 pub returns : goal.returns
 returns c =
     let held = c.args.held.now in
     if_ok_map _ _ c.text_of.result
-    (λ text e. gives_written (state_of held) (outcome_in held) (reply_of c.in_ok-reply.reply) text c.requires.outcome
+    (λ text e. replies_written held (outcome_in held) (reply_of c.in_ok-reply.reply) c.requires.outcome
     (c.in_ok-reply.ensures ∙ ap written_reply c.outcome.ensures) e) c.text_of.ensures

@@ -1,10 +1,11 @@
-use Rattle.xt_session.proofs.Answering.{gives_abandoned, gives_not_abandoned, if_ok_map}
+use Rattle.xt_session.proofs.Answering.{if_ok_map, replies_abandoned, replies_not_abandoned}
 use Rattle.xt_session.proofs.changes.abandon.Goals as goal
 
 pub returns-in-Ok-clause-ok : goal.returns-in-Ok-clause-ok
-returns-in-Ok-clause-ok c = gives_abandoned c.in_ok-text.text c.in-Ok.ensures.answer c.in_ok-text.ensures
+returns-in-Ok-clause-ok c = replies_abandoned c.in-Ok.ensures.answer c.in-Ok.ensures.past c.in_ok-text.ensures
 
 pub returns-in-Err-Refused-clause-ok : goal.returns-in-Err-Refused-clause-ok
 returns-in-Err-Refused-clause-ok c =
     let refused = rw c.in-Err-Refused.field-0-is at c.in-Err-Refused.ensures.answer in
-    if_ok_map _ _ c.text_of-in-Err-Refused.result (λ text is. gives_not_abandoned _ text refused.0 refused.1 refused.2 is) c.text_of-in-Err-Refused.ensures
+    if_ok_map _ _ c.text_of-in-Err-Refused.result
+    (λ text e. replies_not_abandoned _ refused.0 refused.1 refused.2 c.in-Err-Refused.ensures.past e) c.text_of-in-Err-Refused.ensures

@@ -1,11 +1,13 @@
-use Rattle.xt_session.specs.State.{state_of}
-use Rattle.xt_session.proofs.Answering.{gives_committed, gives_not_committed, if_ok_map}
+use Rattle.spec_session.specs.Request.{Commit}
+use Rattle.xt_session.proofs.Answering.{commits_so, if_ok_map, replies_if_adopted, replies_not_committed, stays_itself}
 use Rattle.xt_session.proofs.changes.commit.Goals as goal
 
 pub returns-in-Ok-clause-ok : goal.returns-in-Ok-clause-ok
-returns-in-Ok-clause-ok c = if_ok_map _ _ c.adopt.result (λ text gives. gives_committed c.in-Ok.ensures gives) c.adopt.ensures.ok
+returns-in-Ok-clause-ok c =
+    replies_if_adopted _ Commit c.adopt.result (stays_itself c.args.held.now) (commits_so c.in-Ok.ensures.answer) c.in-Ok.ensures.brings
+    c.adopt.ensures.ok c.adopt.ensures.past
 
 pub returns-in-Err-Refused-clause-ok : goal.returns-in-Err-Refused-clause-ok
 returns-in-Err-Refused-clause-ok c =
-    let refused = rw c.in-Err-Refused.field-0-is at c.in-Err-Refused.ensures in
-    if_ok_map _ _ c.text_of.result (λ text is. gives_not_committed (state_of c.args.held.now) _ text refused.0 refused.1 is) c.text_of.ensures
+    let refused = rw c.in-Err-Refused.field-0-is at c.in-Err-Refused.ensures.answer in
+    if_ok_map _ _ c.text_of.result (λ text e. replies_not_committed c.args.held.now _ refused.0 refused.1 e) c.text_of.ensures

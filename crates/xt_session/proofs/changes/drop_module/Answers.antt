@@ -1,18 +1,23 @@
-use Rattle.xt_session.proofs.Answering.{accepted_so, gives_dropped, gives_not_dropped, if_ok_map, on_err_then, same_state}
+use Rattle.std.proofs.Common.{◌∙◌, ap, sym}
+use Rattle.spec_session.specs.Machine.{Refuses}
+use Rattle.spec_session.specs.Request.{DropModule}
+use Rattle.xt_session.proofs.Answering.{dropped_so, if_ok_map, not_dropped, on_err_then, replies_if_adopted, replies_refusal, stays_kept}
 use Rattle.xt_session.proofs.changes.drop_module.Goals as goal
 
 pub returns-in-Ok-clause-ok : goal.returns-in-Ok-clause-ok
 returns-in-Ok-clause-ok c =
+    let name = c.args.name.now in
     let made = c.in-Ok.ensures.answer in
-    if_ok_map _ _ c.adopt.result
-    (λ text gives. gives_dropped c.args.name.now made.0.0 c.in-Ok.ensures.kept made.0.1 gives
-    (accepted_so made.1)) c.adopt.ensures.ok
+    replies_if_adopted _ (DropModule name) c.adopt.result (stays_kept c.in-Ok.ensures.kept c.in-Ok.ensures.past) (dropped_so name made.0.0 made.0.1 made.1)
+    c.in-Ok.ensures.brings c.adopt.ensures.ok c.adopt.ensures.past
 
 pub returns-in-Ok-clause-err : goal.returns-in-Ok-clause-err
-returns-in-Ok-clause-err c = on_err_then c.adopt.result _ _ _ (same_state c.in-Ok.ensures.kept) c.adopt.ensures.err
+returns-in-Ok-clause-err c = on_err_then c.adopt.result _ (stays_kept c.in-Ok.ensures.kept c.in-Ok.ensures.past) c.adopt.ensures.err
 
 pub returns-in-Err-Refused-clause-ok : goal.returns-in-Err-Refused-clause-ok
 returns-in-Err-Refused-clause-ok c =
+    let name = c.args.name.now in
     let fault = rw c.in-Err-Refused.field-0-is at c.in-Err-Refused.ensures.answer in
     if_ok_map _ _ c.text_of.result
-    (λ text is. gives_not_dropped c.args.name.now _ c.in-Err-Refused.ensures.kept fault.0 fault.1 is) c.text_of.ensures
+    (λ text e. replies_refusal (DropModule name) _ (stays_kept c.in-Err-Refused.ensures.kept c.in-Err-Refused.ensures.past)
+    (not_dropped name c.drop_module.new.self fault.0 ∙ ap Refuses (sym fault.1)) e) c.text_of.ensures

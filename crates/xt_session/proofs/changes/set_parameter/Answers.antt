@@ -1,28 +1,26 @@
-use Rattle.std.proofs.Common.{sym, subst}
-use Rattle.spec_run.specs.Documents.{parameter_fault}
-use Rattle.spec_session.specs.Machine.{State, given_by}
+use Rattle.std.proofs.Common.{ap}
+use Rattle.spec_session.specs.Machine.{given_by}
+use Rattle.spec_session.specs.Request.{SetParameter}
 use Rattle.xt_session.specs.State.{state_of}
-use Rattle.xt_session.specs.Turn.{GivesText}
-use Rattle.xt_session.proofs.Answering.{accepted_so, if_ok_map, gives_given, gives_not_given, on_err_then, same_state}
+use Rattle.xt_session.proofs.Answering.{given_so, if_ok_map, on_err_then, replies_if_adopted, replies_refusal, stays_kept}
 use Rattle.xt_session.proofs.changes.set_parameter.Goals as goal
 
 pub returns-in-Ok-clause-ok : goal.returns-in-Ok-clause-ok
 returns-in-Ok-clause-ok c =
-    let old = state_of c.args.held.now in
+    let name = c.args.name.now in
+    let value = c.args.value.now in
     let made = c.in-Ok.ensures.answer in
-    if_ok_map _ _ c.adopt.result
-    (λ text gives. gives_given c.args.name.now c.args.value.now (parameter_fault c.args.name.now c.args.value.now) old (same_state c.in-Ok.ensures.kept)
-    made.0 gives (accepted_so made.1)) c.adopt.ensures.ok
+    replies_if_adopted _ (SetParameter name value) c.adopt.result (stays_kept c.in-Ok.ensures.kept c.in-Ok.ensures.past) (given_so name value made.0 made.1)
+    c.in-Ok.ensures.brings c.adopt.ensures.ok c.adopt.ensures.past
 
 pub returns-in-Ok-clause-err : goal.returns-in-Ok-clause-err
-returns-in-Ok-clause-err c = on_err_then c.adopt.result _ _ _ (same_state c.in-Ok.ensures.kept) c.adopt.ensures.err
+returns-in-Ok-clause-err c = on_err_then c.adopt.result _ (stays_kept c.in-Ok.ensures.kept c.in-Ok.ensures.past) c.adopt.ensures.err
 
 pub returns-in-Err-Refused-clause-ok : goal.returns-in-Err-Refused-clause-ok
 returns-in-Err-Refused-clause-ok c =
-    let old = state_of c.args.held.now in
-    let answer = parameter_fault c.args.name.now c.args.value.now in
-    let kept = same_state c.in-Err-Refused.ensures.kept in
+    let name = c.args.name.now in
+    let value = c.args.value.now in
     let fault = rw c.in-Err-Refused.field-0-is at c.in-Err-Refused.ensures.answer in
     if_ok_map _ _ c.text_of.result
-    (λ text is. subst (λ (state : State). GivesText old (given_by c.args.name.now c.args.value.now old answer) text state) (sym kept)
-    (gives_not_given c.args.name.now c.args.value.now old answer _ text fault.0 is)) c.text_of.ensures
+    (λ text e. replies_refusal (SetParameter name value) _ (stays_kept c.in-Err-Refused.ensures.kept c.in-Err-Refused.ensures.past)
+    (ap (given_by name value (state_of c.set_param.new.self)) fault.0) e) c.text_of.ensures

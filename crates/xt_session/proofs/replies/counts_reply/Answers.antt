@@ -1,8 +1,8 @@
 use Rattle.std.proofs.Common.{refl}
 use Rattle.xt_session.proofs.replies.counts_reply.Goals as goal
 
-pub returns : goal.returns
-returns c = λ outcome free.
+pub returns-clause-tells : goal.returns-clause-tells
+returns-clause-tells c = λ outcome free.
     record {
       ran = c.args.ran;
       asked = c.args.asked;

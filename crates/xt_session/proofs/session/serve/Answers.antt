@@ -5,7 +5,8 @@ use Rattle.xt_session.proofs.session.serve.Goals as goal
 pub loop-status-init : goal.loop-status-init
 loop-status-init g c = (
   serving_at_start c.args.limit (g.I.Source.remaining c.args.input.now) (g.O.Sink.written c.args.output.now) _ _ c.in-Ok.ensures
-      (λ i. record { documents = c.new-held.ensures.present i; made = c.new-held.ensures.made i; pending = c.new-held.ensures.pending i }),
+      (λ i. record { documents = c.new-held.ensures.present i; made = c.new-held.ensures.made i; pending = c.new-held.ensures.pending i })
+      c.new-held.ensures.past,
   refl,
   refl,
   c.new-held.ensures.current,

@@ -13,6 +13,9 @@ use Rattle.xt_held.specs.declared.ready.Recompiled.TheVariants.{AsBefore}
 use Rattle.xt_held.proofs.Keeping.{serves_since}
 use Rattle.xt_held.proofs.Keys.{map-copied}
 use Rattle.xt_held.proofs.Making.{told_from}
+use Rattle.xt_held.proofs.Paying.{unedited_modules}
+use Rattle.xt_held.specs.Complete.{KeepsWhere}
+use Rattle.xt_held.specs.Cost.{CostsRun, any_change}
 use Rattle.xt_held.proofs.held.Held.commit_as_before.Goals as goal
 
 pub outcome_after-requires : goal.outcome_after-requires
@@ -23,8 +26,8 @@ outcome_after-requires c =
     subst (λ (source : Option (Document ℕ)). LastServes held.compiled given source (record held.last { since = since })) (sym c.as_ref.ensures.value)
     (serves_since held.compiled given held.source held.last since c.in_ok-since.ensures c.requires.current.serves)
 
-pub returns : goal.returns
-returns c =
+pub returns-clause-ok : goal.returns-clause-ok
+returns-clause-ok c =
     let held = c.args.self.now in
     let given = parameters_of held.parameters in
     let modules = (documents_of held).modules in
@@ -44,6 +47,10 @@ returns c =
             compiled = c.requires.compiled;
             last = subst (λ (s : Option (Document ℕ)). LastHolds (outcome_of came.came.outcome) held.compiled given s
                 (left_by came.came held.last.before held.last)) c.as_ref.ensures.value came.ensures.last;
+            cost = subst (λ (s : Option (Document ℕ)). CostsRun held.compiled given s held.last.kept.records any_change came.came.counts)
+                c.as_ref.ensures.value came.ensures.cost;
+            keeps = subst (λ (s : Option (Document ℕ)). KeepsWhere held.compiled given s came.came.kept) c.as_ref.ensures.value came.ensures.keeps;
+            same = λ e. record { modules = unedited_modules held c.requires.current e; compiled = refl };
           }) tt c.requires.current.below tt;
       told = refl;
     }

@@ -13,6 +13,8 @@ use Rattle.xt_held.specs.View.{before_by}
 use Rattle.xt_held.specs.declared.stylesheet.Compiled.{Compiled}
 use Rattle.xt_held.proofs.Keys.{map-copied}
 use Rattle.xt_held.proofs.Left.{kept_stays, known_answers, known_before, left_so, run_spared}
+use Rattle.xt_held.specs.Complete.{KeepsWhere}
+use Rattle.xt_held.specs.Cost.{CostsRun, any_change}
 use Rattle.xt_held.proofs.held.Held.outcome_with_modules.Goals as goal
 
 pub outcome_of-requires : goal.outcome_of-requires
@@ -56,3 +58,15 @@ returns-clause-last c =
     (kept_stays before (last_known compiled before) given given held.source held.source (since_of held.last.since) changes stays held.last.kept known.answers answers
     known.spared))
     (subst (λ (o : Option Compiled). AnswersAsSome o) is answers) known.faultless
+
+pub returns-clause-cost : goal.returns-clause-cost
+returns-clause-cost c =
+    let held = c.args.self.now in
+    subst (λ (s : Option (Document ℕ)). IfOk c.outcome_of.result (λ came. CostsRun (option_copied c.args.compiled) (parameters_of held.parameters) s
+    held.last.kept.records any_change came.counts)) c.as_ref-source.ensures.value c.outcome_of.ensures.cost
+
+pub returns-clause-keeps : goal.returns-clause-keeps
+returns-clause-keeps c =
+    let held = c.args.self.now in
+    subst (λ (s : Option (Document ℕ)). IfOk c.outcome_of.result (λ came. KeepsWhere (option_copied c.args.compiled) (parameters_of held.parameters) s
+    came.kept)) c.as_ref-source.ensures.value c.outcome_of.ensures.keeps

@@ -8,8 +8,8 @@ use Rattle.xt_held.proofs.Keeping.{serves_since}
 use Rattle.xt_held.proofs.Making.{mapped_edit, open_edited, pending_from}
 use Rattle.xt_held.proofs.held.Held.pending_drop.Goals as goal
 
-pub returns : goal.returns
-returns c =
+pub returns-clause-ok : goal.returns-clause-ok
+returns-clause-ok c =
     let held = c.args.self.now in
     let documents = documents_of held in
     let name = c.in_ok-dropped in

@@ -9,8 +9,8 @@ use Rattle.xt_held.proofs.Left.{kept_stays}
 use Rattle.xt_held.proofs.Making.{mapped_twice, open_batch, pending_from}
 use Rattle.xt_held.proofs.held.Held.pending_source.Goals as goal
 
-pub returns : goal.returns
-returns c =
+pub returns-clause-ok : goal.returns-clause-ok
+returns-clause-ok c =
     let held = c.args.self.now in
     let documents = documents_of held in
     let what = last_known held.compiled held.last.before in

@@ -10,6 +10,8 @@ use Rattle.xt_held.proofs.Dropped.{ready_so}
 use Rattle.xt_held.proofs.Keeping.{kept_so}
 use Rattle.xt_held.proofs.Making.{none_open}
 use Rattle.xt_held.proofs.Marked.{answers_as_some, known_of}
+use Rattle.xt_held.specs.Complete.{KeepsWhere}
+use Rattle.xt_held.specs.Cost.{CostsRun, any_change}
 use Rattle.xt_held.proofs.held.Held.present_drop.Goals as goal
 
 pub returns-in_err-compiled-clause-kept : goal.returns-in_err-compiled-clause-kept
@@ -44,6 +46,10 @@ returns-clause-ok c =
     let are = subst (λ (o : Option Compiled). AreCompiled modules o) (sym c.as_ref.ensures.value) c.in_ok-compiled.ensures.compiled in
     let holds = subst (λ (o : Option Compiled). LastHolds (outcome_of came.outcome) o (parameters_of held.parameters) held.source
     (left_by came (before_by o held.compiled held.last.before) held.last)) c.as_ref.ensures.value c.in-Ok.ensures.last in
+    let cost = subst (λ (o : Option Compiled). CostsRun o (parameters_of held.parameters) held.source held.last.kept.records any_change came.counts)
+    c.as_ref.ensures.value c.in-Ok.ensures.cost in
+    let keeps = subst (λ (o : Option Compiled). KeepsWhere o (parameters_of held.parameters) held.source came.kept) c.as_ref.ensures.value
+    c.in-Ok.ensures.keeps in
     ready_so held _ (record { modules = c.in_ok-compiled.ensures.kept; source = refl; compiled = refl; parameters = refl; made = refl; outcome = refl; counts = refl; last = refl; batch = refl })
     (none_open held.batch (documents_of held) c.requires.alone) name c.in_ok-dropped.dropped c.in_ok-dropped.ensures compiled came held.next refl c.in_ok-compiled.ensures.compiled (c.in-Ok.ensures.outcome modules are)
-    c.in-Ok.ensures.fits holds c.requires.current
+    c.in-Ok.ensures.fits holds cost keeps c.requires.current

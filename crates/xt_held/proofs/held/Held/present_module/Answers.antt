@@ -13,14 +13,17 @@ use Rattle.xt_world.specs.ParameterView.{parameters_of}
 use Rattle.xt_held.specs.OutcomeView.{outcome_of}
 use Rattle.xt_held.specs.RunView.{AnswersAsSome, LastHolds}
 use Rattle.xt_held.specs.StylesheetView.{AreCompiled, with_one}
-use Rattle.xt_held.specs.View.{AreAllBelow, before_by, documents_of, left_by, made_of, with_edit}
+use Rattle.xt_held.specs.View.{AreAllBelow, before_by, documents_of, is_edited_by, left_by, made_of, with_edit}
 use Rattle.xt_held.specs.declared.stylesheet.Compiled.{Compiled}
 use Rattle.xt_held.specs.declared.held.Held.{Held}
 use Rattle.xt_held.specs.declared.ready.Change.TheVariants as changes
 use Rattle.xt_held.specs.declared.ready.Recompiled.TheVariants.{Now}
 use Rattle.xt_held.proofs.Keeping.{all_raised, kept_modules}
-use Rattle.xt_held.proofs.Making.{mapped_edit, none_open, told_from}
+use Rattle.xt_held.proofs.Making.{mapped_edit, none_open, told_from, told_ready}
+use Rattle.xt_held.proofs.Paying.{module_changes}
 use Rattle.xt_held.proofs.Marked.{answers_as_some, known_of}
+use Rattle.xt_held.specs.Complete.{KeepsWhere}
+use Rattle.xt_held.specs.Cost.{CostsRun, any_change}
 use Rattle.xt_held.proofs.held.Held.present_module.Goals as goal
 
 pub outcome_with_modules-requires-clause-known : goal.outcome_with_modules-requires-clause-known
@@ -65,6 +68,11 @@ returns-clause-ok c =
             compiled = are;
             last = subst (λ (o : Option Compiled). LastHolds (outcome_of came.came.outcome) o (parameters_of held.parameters) held.source
                 (left_by came.came (before_by o held.compiled held.last.before) held.last)) c.as_ref.ensures.value came.ensures.last;
+            cost = subst (λ (o : Option Compiled). CostsRun o (parameters_of held.parameters) held.source held.last.kept.records any_change came.came.counts)
+                c.as_ref.ensures.value came.ensures.cost;
+            keeps = subst (λ (o : Option Compiled). KeepsWhere o (parameters_of held.parameters) held.source came.came.kept) c.as_ref.ensures.value
+                came.ensures.keeps;
+            same = module_changes (told_ready change c.args.next came.came) new (is_edited_by held.batch);
           }) c.in-Ok-reserve.ensures.ok
           (subst (λ (es : List (String Global × Document ℕ)). AreAllBelow c.args.next.number held.source es) (sym entries)
           (all_raised (made_of held) c.args.next.number held c.requires.grows c.requires.current.below))

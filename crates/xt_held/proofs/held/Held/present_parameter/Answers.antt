@@ -16,6 +16,8 @@ use Rattle.xt_held.proofs.Giving.{kept_so, ready_so}
 use Rattle.xt_held.proofs.Keys.{map-copied}
 use Rattle.xt_held.proofs.Left.{kept_stays, last_so, run_spared}
 use Rattle.xt_held.proofs.Making.{compiled_alone, none_open}
+use Rattle.xt_held.specs.Complete.{KeepsWhere}
+use Rattle.xt_held.specs.Cost.{CostsRun, any_change}
 use Rattle.xt_held.proofs.held.Held.present_parameter.Goals as goal
 
 pub outcome_with-requires : goal.outcome_with-requires
@@ -51,6 +53,13 @@ returns-clause-ok c =
     let kept = subst (λ (o : Option Compiled). IfSome tried.came.kept (KeptHolds o values held.source)) c.as_ref-compiled.ensures.value
     (subst (λ (s : Option (Document ℕ)). IfSome tried.came.kept (KeptHolds (option_copied c.as_ref-compiled.result) values s)) c.as_ref-source.ensures.value
     c.in_ok-tried.ensures.last) in
+    let cost = subst (λ (o : Option Compiled). CostsRun o values held.source held.last.kept.records any_change tried.came.counts)
+    c.as_ref-compiled.ensures.value
+    (subst (λ (s : Option (Document ℕ)). CostsRun (option_copied c.as_ref-compiled.result) values s held.last.kept.records any_change tried.came.counts)
+    c.as_ref-source.ensures.value c.in_ok-tried.ensures.cost) in
+    let keeps = subst (λ (o : Option Compiled). KeepsWhere o values held.source tried.came.kept) c.as_ref-compiled.ensures.value
+    (subst (λ (s : Option (Document ℕ)). KeepsWhere (option_copied c.as_ref-compiled.result) values s tried.came.kept)
+    c.as_ref-source.ensures.value c.in_ok-tried.ensures.keeps) in
     ready_so held c.outcome_with.new.parameters c.args.name.now c.args.value.now tried.name tried.value
     c.in_ok-tried.ensures.kept c.in_ok-tried.ensures.name c.in_ok-tried.ensures.value alone tried.came are c.requires.current.below
     (subst (λ (s : Option Plain). Comes modules values (modules main_name) s (outcome_of tried.came.outcome)) source
@@ -58,7 +67,7 @@ returns-clause-ok c =
     c.in_ok-tried.ensures.fits
     (last_so held.compiled held.last.before values held.source held.last (since_of c.in_ok-since.since) tried.came c.in_ok-tried.ensures.fits kept
     c.in_ok-tried.ensures.since spared c.requires.current.serves.answers c.requires.current.serves.faultless)
-    c.in_ok-tried.ensures.room
+    cost keeps c.in_ok-tried.ensures.room
 
 pub returns-clause-kept : goal.returns-clause-kept
 returns-clause-kept c = kept_so c.args.self.now c.outcome_with.new.parameters c.in_ok-tried.ensures.kept

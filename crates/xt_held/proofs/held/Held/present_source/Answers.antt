@@ -4,13 +4,14 @@ use Rattle.xt_held.specs.declared.ready.Change.TheVariants as changes
 use Rattle.xt_held.proofs.Keeping.{all_raised}
 use Rattle.xt_held.proofs.Making.{compiled_alone, mapped_twice, none_open, told_from}
 use Rattle.xt_held.proofs.Marked.{known_of}
+use Rattle.xt_held.proofs.Paying.{present_modules}
 use Rattle.xt_held.proofs.held.Held.present_source.Goals as goal
 
 pub outcome_with_source-requires-clause-known : goal.outcome_with_source-requires-clause-known
 outcome_with_source-requires-clause-known c = known_of c.args.self.now c.requires.current
 
-pub returns : goal.returns
-returns c =
+pub returns-clause-ok : goal.returns-clause-ok
+returns-clause-ok c =
     let held = c.args.self.now in
     let documents = documents_of held in
     let change = changes.Source c.args.document in
@@ -27,5 +28,8 @@ returns c =
             fits = c.in-Ok.ensures.fits;
             compiled = compiled;
             last = c.in-Ok.ensures.last;
+            cost = c.in-Ok.ensures.cost;
+            keeps = c.in-Ok.ensures.keeps;
+            same = λ e. record { modules = present_modules held alone; compiled = refl };
           }) tt (all_raised (made_of held) c.args.next.number held c.requires.grows c.requires.current.below) c.requires.below;
     }

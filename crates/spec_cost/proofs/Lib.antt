@@ -1,0 +1,3 @@
+pub mod Some
+pub mod Enough
+pub mod Again

@@ -1,0 +1,28 @@
+// Laws of what a change costs.
+ghost use Rattle.std.specs.Prelude.{◌≡◌, ◌≤◌, ℕ, List, [], ◌∷◌, length};
+ghost use Rattle.spec_node.specs.declared.node_ref.NodeRef.{NodeRef};
+ghost use Rattle.spec_run.specs.Trail.{Kept};
+ghost use Rattle.spec_run.specs.Meaning.{Setting};
+ghost use Rattle.spec_run.specs.Hold.{GoesOn};
+ghost use Rattle.spec_reuse.specs.Among.{IsIn};
+ghost use Rattle.spec_reuse.specs.Instantiation.{Instantiation, instantiations, kept_of, own_of};
+ghost use Rattle.spec_reuse.specs.Ledger.{AllEnd, IsFound};
+ghost use Rattle.spec_cost.specs.Paying.{IsCost, KeepsRun};
+
+/// No more instantiations are counted than the new run has.
+pub fn no_more_is_run_than_there_is()
+    ensures { (s : Setting NodeRef) (before after : List (Kept NodeRef)) (ran : ℕ) → IsCost s before ran after → ran ≤ length (instantiations s) }
+{}
+
+/// Records that keep a run stand for what is kept of each of its instantiations that came to their ends: where that would be
+/// taken for an instantiation of another run, one of them would be.
+pub fn what_keeps_a_run_is_enough()
+    ensures { (s t : Setting NodeRef) (records : List (Kept NodeRef)) (i j : Instantiation NodeRef) → s.same ≡ t.same → KeepsRun s records
+        → IsIn i (instantiations s) → GoesOn (own_of s i).ending → IsFound t (kept_of s i ∷ []) j → IsFound t records j }
+{}
+
+/// Where all that a run enters comes to its end and is kept, nothing of it is run again.
+pub fn what_is_kept_is_not_run_again()
+    ensures { (s : Setting NodeRef) (before after : List (Kept NodeRef)) (ran : ℕ) → KeepsRun s before → AllEnd s (instantiations s)
+        → IsCost s before ran after → ran ≡ 0 }
+{}

@@ -1,0 +1,94 @@
+-- What the machine's steps cost, told beside it: what each makes of the past that a session remembers for `stats`. No other reply looks at that.
+--     source_after    the source with the numbers of its nodes, after a request
+--     Goes            what a step makes of the past
+--     PaysAlong       a run of the machine, with the past
+use Rattle.std.specs.Prelude.{ℕ, ◌≡◌, ◌⊎◌, Bool, true, false, List, [], ◌∷◌, Option, Result, Ok, Err}
+use Rattle.spec_document.specs.Scope.{root_scope}
+use Rattle.spec_document.specs.Forest.{Document}
+use Rattle.spec_document.specs.Document.{document_of}
+use Rattle.spec_document.specs.Fault.{Fault}
+use Rattle.spec_edit.specs.Edit as edits
+use Rattle.spec_edit.specs.Edit.{Edited, edited_nodes}
+use Rattle.spec_move.specs.Move.{moved_nodes}
+use Rattle.spec_cost.specs.Numbers.{given_source, edited_source}
+use Rattle.spec_cost.specs.Past.{Past}
+use Rattle.spec_cost.specs.Paying.{Pays, with_pending, without_pending}
+use Rattle.spec_session.specs.Command.{Command}
+use Rattle.spec_session.specs.Request.{DocumentName, SourceName, ModuleName, Request, SetSource, SetModule, DropModule, Insert, Delete, SetText, SetAttribute, RemoveAttribute, Rename, Move, request_of}
+use Rattle.spec_session.specs.Reply.{Reply, Counted, No}
+use Rattle.spec_session.specs.Machine.{State, Answer, Refuses, Changes, Pends, Drops, ShowsResult, WritesResult, ShowsMessages, ShowsDocument, TellsCounts, Step, answer_of}
+
+-- ---- What a request changes
+
+abbrev pub is_module : DocumentName → Bool
+is_module SourceName = false
+is_module (ModuleName name) = true
+
+-- whether it is a change of a module
+abbrev pub is_of_module : Request → Bool
+is_of_module (SetModule name body) = true
+is_of_module (DropModule name) = true
+is_of_module (Insert document path body) = is_module document
+is_of_module (Delete document path) = is_module document
+is_of_module (SetText document path value) = is_module document
+is_of_module (SetAttribute document path name value) = is_module document
+is_of_module (RemoveAttribute document path name) = is_module document
+is_of_module (Rename document path name) = is_module document
+is_of_module (Move document path other) = is_module document
+is_of_module _ = false
+
+-- if it is the source that is edited
+abbrev pub edited_if : DocumentName → (Document ℕ → Result (Edited ℕ) Fault) → Option (Document ℕ) → Option (Document ℕ)
+edited_if SourceName edit before = edited_source edit before
+edited_if (ModuleName name) edit before = before
+
+-- where it is accepted, and so many nodes were made before: what is made has numbers from there on
+abbrev pub source_after : (made : ℕ) → Request → Option (Document ℕ) → Option (Document ℕ)
+source_after made (SetSource body) before = given_source (document_of root_scope made body) before
+source_after made (Insert document path body) before = edited_if document (edited_nodes made (edits.Insert path body)) before
+source_after made (Delete document path) before = edited_if document (edited_nodes made (edits.Delete path)) before
+source_after made (SetText document path value) before = edited_if document (edited_nodes made (edits.SetText path value)) before
+source_after made (SetAttribute document path name value) before = edited_if document (edited_nodes made (edits.SetAttribute path name value)) before
+source_after made (RemoveAttribute document path name) before = edited_if document (edited_nodes made (edits.RemoveAttribute path name)) before
+source_after made (Rename document path name) before = edited_if document (edited_nodes made (edits.Rename path name)) before
+source_after made (Move document path other) before = edited_if document (moved_nodes made path other) before
+source_after made _ before = before
+
+-- ---- What a step makes of the past
+
+-- the first number that is told is how many instantiations were run
+abbrev pub TellsRan : ℕ → Reply → Type 0
+TellsRan ran reply = (asked : ℕ) × (did : ℕ) × (reply ≡ Counted ran asked did)
+
+-- where the request has this answer. In a batch nothing is run, and the numbered source alone changes
+abbrev pub GoesBy : State → Request → Answer → Reply → (before after : Past) → Type 0
+GoesBy old request (Refuses number) reply before after = after ≡ before
+GoesBy old request (Changes new) reply before after =
+    Pays new.documents (source_after old.made request before.edited) (is_of_module request) before after
+GoesBy old request (Pends new) reply before after = after ≡ with_pending (source_after old.made request before.edited) (is_of_module request) before
+GoesBy old request (Drops new) reply before after = after ≡ without_pending before
+GoesBy old request ShowsResult reply before after = after ≡ before
+GoesBy old request WritesResult reply before after = after ≡ before
+GoesBy old request ShowsMessages reply before after = after ≡ before
+GoesBy old request (ShowsDocument tree) reply before after = after ≡ before
+GoesBy old request TellsCounts reply before after = (after ≡ before) × TellsRan before.ran reply
+
+-- a command that asks nothing is refused
+abbrev pub GoesOf : State → Result Request ℕ → Answer → Reply → (before after : Past) → Type 0
+GoesOf old (Err number) answer reply before after = after ≡ before
+GoesOf old (Ok request) answer reply before after = GoesBy old request answer reply before after
+
+-- want of memory changes nothing
+abbrev pub Goes : State → Command → Reply → (before after : Past) → Type 0
+Goes old command reply before after = GoesOf old (request_of command) (answer_of old command) reply before after ⊎ ((reply ≡ No 1) × (after ≡ before))
+
+-- ---- What a run makes of it
+
+-- the machine may give these replies to these commands, one step after another, and this becomes of the past
+abbrev pub PaysAlong : State → Past → List Command → List Reply → State → Past → Type 0
+PaysAlong old before [] [] new after = (new ≡ old) × (after ≡ before)
+PaysAlong old before (command ∷ commands) (reply ∷ replies) new after =
+    (between : State) × (then : Past) × Step old command reply between × Goes old command reply before then
+    × PaysAlong between then commands replies new after
+PaysAlong old before [] (reply ∷ replies) new after = ⊥
+PaysAlong old before (command ∷ commands) [] new after = ⊥

@@ -1,0 +1,166 @@
+-- What a run has cost, by what it counts.
+use Rattle.std.proofs.Common.{◌≡◌, ◌≤◌, ℕ, ◌+◌, Bool, true, false, List, [], ◌∷◌, ◌++◌, length, map, min, Option, None, Some, Result, Ok, Err, arith, refl, sym, ap, subst, ◌∙◌}
+use Rattle.std.specs.Prelude.{IfOk, OnOk}
+use Rattle.std.proofs.lemmas.List.{append-nil}
+use Rattle.std.proofs.lemmas.Result.{IfOk-weaker}
+use Rattle.std.specs.declared.alloc.Global.{Global}
+use Rattle.std.specs.declared.rc.Rc.{Rc}
+use Rattle.spec_document.specs.Forest.{Document}
+use Rattle.spec_run.specs.Documents.{Parameters}
+use Rattle.spec_run.specs.Going.{Event, Asked, Saw, Entered, Held}
+use Rattle.spec_run.specs.Meaning.{Setting}
+use Rattle.spec_run.specs.Plan.{Target}
+use Rattle.spec_run.specs.Trail.{Kept}
+use Rattle.spec_reuse.specs.Among.{IsIn}
+use Rattle.spec_reuse.specs.Instantiation.{Instantiation, instantiations}
+use Rattle.spec_reuse.specs.Ledger.{AreCounted, Enters}
+use Rattle.spec_reuse.proofs.Counting.{run_counted}
+use Rattle.spec_node.specs.declared.node_ref.NodeRef.{NodeRef}
+use Rattle.spec_touch.specs.Marks.{WorldChange, any_marks}
+use Rattle.xt_text.specs.declared.memory.Memory.{Memory}
+use Rattle.xt_engine.specs.declared.global.NamedGlobal.{NamedGlobal}
+use Rattle.xt_world.specs.Numbered.{ref_to}
+use Rattle.xt_world.specs.View.{truth_in}
+use Rattle.xt_world.specs.declared.stylesheet.Stylesheet as world
+use Rattle.xt_touch.specs.View.{since_of}
+use Rattle.xt_record.specs.Asked.{marked_in, marked_among, marked_of, one_if}
+use Rattle.xt_record.specs.Sure.{IsSure}
+use Rattle.xt_record.specs.View.{kept_in}
+use Rattle.xt_record.specs.declared.pool.Pool.{Pool}
+use Rattle.xt_record.specs.declared.record.Record.{Record}
+use Rattle.xt_record.specs.declared.reuse.Reuse.{Reuse}
+use Rattle.xt_driver.specs.Counted.{CountedWhole, kept_at, most_counted, records_of}
+use Rattle.xt_driver.specs.View.{setting_in}
+use Rattle.xt_driver.specs.declared.whole.Whole.{Whole}
+use Rattle.xt_held.specs.Cost.{Costs, CostsRun, IsUnrecorded, any_change, kept_among, setting_on}
+use Rattle.xt_held.specs.OutcomeView.{no_counts}
+use Rattle.xt_held.specs.RunView.{Ask}
+use Rattle.xt_held.specs.declared.counts.Counts.{Counts}
+use Rattle.xt_held.specs.declared.outcome.Came.{Came}
+use Rattle.xt_held.specs.declared.outcome.Over.{Over}
+use Rattle.xt_held.specs.declared.outcome.Recorded.{Recorded}
+use Rattle.xt_held.specs.declared.stylesheet.Compiled.{Compiled}
+use Rattle.xt_held.specs.declared.stylesheet.Compiled.TheVariants.{Stylesheet, Refused}
+
+-- ---- Questions that are asked again
+
+one_most : (b : Bool) → one_if b ≤ 1
+one_most true = omega arith
+one_most false = omega arith
+
+sum_most : (a b c d : ℕ) → a ≤ c → b ≤ d → a + b ≤ c + d
+sum_most a b c d h k = omega (arith, h, k)
+
+-- where nothing is known of what changed, each is marked
+trace_most : (changes : List WorldChange) (es : List (Event NodeRef)) → marked_in changes es ≤ marked_in any_change es
+trace_most changes [] = omega arith
+trace_most changes (Asked question answer ∷ es) =
+    sum_most (one_if (any_marks changes question)) (marked_in changes es) 1 (marked_in any_change es) (one_most (any_marks changes question))
+    (trace_most changes es)
+trace_most changes (Saw wanted depth place supplied ∷ es) = trace_most changes es
+trace_most changes (Entered call depth ∷ es) = trace_most changes es
+trace_most changes (Held first contents ∷ es) = trace_most changes es
+
+among_most : (changes : List WorldChange) (rs : List (Rc Record Global)) → marked_among changes rs ≤ marked_among any_change rs
+among_most changes [] = omega arith
+among_most changes (r ∷ rs) =
+    sum_most (marked_in changes (kept_in r.value).trace) (marked_among changes rs) (marked_in any_change (kept_in r.value).trace) (marked_among any_change rs)
+    (trace_most changes (kept_in r.value).trace) (among_most changes rs)
+
+asked_most : (n : ℕ) (changes : List WorldChange) (records : Pool) → n ≤ marked_of changes records → n ≤ marked_of any_change records
+asked_most n changes records h = let most = among_most changes records.records.items in omega (arith, h, most)
+
+costs_most : (s : Setting NodeRef) (records : Pool) (changes : List WorldChange) (counts : Counts) → Costs s records changes counts
+    → Costs s records any_change counts
+costs_most s records changes counts h =
+    record { list = h.list; counted = h.counted; ran = h.ran; asked = asked_most counts.asked changes records h.asked }
+
+-- ---- What a run counts
+
+-- by numbers, in the setting that is held of it
+pub counted_on : (held : world.Stylesheet) (parameters : Parameters) (document : Document ℕ) (root : NodeRef) → root ≡ ref_to document.root
+    → (globals : List NamedGlobal) → globals ≡ held.globals.items → (truth : Ask) → truth ≡ truth_in held parameters document
+    → (r : Result Whole Memory) (before after : Reuse)
+    → OnOk r (CountedWhole (setting_in truth root globals) (instantiations (setting_in truth root globals)) before after)
+    → OnOk r (CountedWhole (setting_on held parameters document) (instantiations (setting_on held parameters document)) before after)
+counted_on held parameters document root is globals are truth told r before after h =
+    let same : setting_in truth root globals ≡ setting_on held parameters document = λ i. setting_in (told i) (is i) (are i) in
+    subst (λ (s : Setting NodeRef). OnOk r (CountedWhole s (instantiations s) before after)) same h
+
+-- what the records at hand are where a run begins, and what is counted until then
+pub record Begins (records : Pool) (reuse : Reuse) : Type 0 where
+  pub last : reuse.last.now ≡ records
+  pub kept : reuse.kept.records.items ≡ []
+  pub ran : reuse.steps.ran ≡ 0
+
+first_records : (records : Pool) (reuse : Reuse) → Begins records reuse → records_of reuse ≡ kept_among records
+first_records records reuse h =
+    (λ i. map kept_at (h.last i).records.items ++ map kept_at (h.kept i)) ∙ append-nil (kept_among records)
+
+ran_so : (before counted most after : ℕ) → before ≡ 0 → (before ≤ most → after ≡ min (before + counted) most) → after ≡ min counted most
+ran_so before counted most after zero h =
+    let from : 0 ≤ most → after ≡ min (0 + counted) most = subst (λ (n : ℕ). n ≤ most → after ≡ min (n + counted) most) zero h in
+    let none : 0 + counted ≡ counted = omega arith in
+    from (omega arith) ∙ ap (λ (n : ℕ). min n most) none
+
+costs_of : (s : Setting NodeRef) (records : Pool) (changes : List WorldChange) (before after : Reuse) (counts : Counts) → Begins records before
+    → CountedWhole s (instantiations s) before after → counts.ran ≡ after.steps.ran → counts.asked ≤ marked_of changes records
+    → Costs s records changes counts
+costs_of s records changes before after counts begins h ran asked = record {
+  list = h.list;
+  counted = run_counted s (kept_among records) (records_of after) (IsUnrecorded (kept_among records)) h.list (λ kept among new. new kept among refl refl)
+      (subst (λ (ks : List (Kept NodeRef)). Enters s ks h.list (instantiations s) (records_of after)) (first_records records before begins) h.enters);
+  ran = ran ∙ ran_so before.steps.ran (length h.list) most_counted after.steps.ran begins.ran h.ran;
+  asked = asked;
+}
+
+-- what comes of the run has cost so much
+pub recorded_cost : (s : Setting NodeRef) (records : Pool) (changes : List WorldChange) (ask : Ask) (before after : Reuse) (r : Result Whole Memory)
+    (t : Result Recorded Memory) → Begins records before → after.last.now ≡ records → since_of after.spared.now.since.now ≡ changes
+    → OnOk r (CountedWhole s (instantiations s) before after) → OnOk r (IsSure ask after)
+    → IfOk t (λ over. r ≡ Ok over.whole) → IfOk t (λ over. over.counts.ran ≡ after.steps.ran)
+    → IfOk t (λ over. (ask : Ask) → IsSure ask after → over.counts.asked ≤ marked_of (since_of after.spared.now.since.now) after.last.now)
+    → IfOk t (λ over. Costs s records changes over.counts)
+recorded_cost s records changes ask before after r (Err memory) begins last since counted sure is ran asked = tt
+recorded_cost s records changes ask before after r (Ok over) begins last since counted sure is ran asked =
+    let is_sure = subst (λ (x : Result Whole Memory). OnOk x (IsSure ask after)) is sure in
+    costs_of s records changes before after over.counts begins
+    (subst (λ (x : Result Whole Memory). OnOk x (CountedWhole s (instantiations s) before after)) is counted) ran
+    (subst (λ (cs : List WorldChange). over.counts.asked ≤ marked_of cs records) since
+    (subst (λ (pool : Pool). over.counts.asked ≤ marked_of (since_of after.spared.now.since.now) pool) last (asked ask is_sure)))
+
+-- units and nodes that no record is of are among those that no record is of
+pub counted_of_new : (s : Setting NodeRef) (records : List (Kept NodeRef)) (is_new : Target NodeRef → NodeRef → Bool) (list : List (Instantiation NodeRef))
+    → ((kept : Kept NodeRef) → IsIn kept records → is_new kept.call.target kept.call.node ≡ false) → AreCounted s records (IsUnrecorded records) list
+    → AreCounted s records (λ unit node. is_new unit node ≡ true) list
+counted_of_new s records is_new list old h = record {
+  of_run = h.of_run;
+  new = h.new;
+  once = h.once;
+  made = λ i at new. h.made i at (λ kept among unit node. apart (is_new kept.call.target kept.call.node) (old kept among)
+      ((λ j. is_new (unit j) (node j)) ∙ new));
+}
+  where
+    apart : (b : Bool) → b ≡ false → b ≡ true → ⊥
+    apart true e h = absurd (cc)
+    apart false e h = absurd (cc)
+
+-- ---- What comes of that
+
+-- with what else it keeps
+pub over_cost : (s : Setting NodeRef) (records : Pool) (changes : List WorldChange) (recorded : Recorded) (t : Result Over Memory)
+    → IfOk t (λ over. over.counts ≡ recorded.counts) → Costs s records changes recorded.counts → IfOk t (λ over. Costs s records any_change over.counts)
+over_cost s records changes recorded t told h =
+    IfOk-weaker t _ _ (λ over is. subst (λ (counts : Counts). Costs s records any_change counts) (sym is) (costs_most s records changes recorded.counts h)) told
+
+-- of a run of what is seen
+pub came_cost : (P : Counts → Type 0) (counts : Counts) (r : Result Came Memory) → IfOk r (λ came. came.counts ≡ counts) → P counts
+    → IfOk r (λ came. P came.counts)
+came_cost P counts r told h = IfOk-weaker r _ _ (λ came is. subst P (sym is) h) told
+
+-- where nothing is run
+pub refused_cost : (compiled : Compiled) (parameters : Parameters) (source : Option (Document ℕ)) (records : Pool) (changes : List WorldChange)
+    (counts : Counts) → counts ≡ no_counts → source ≡ None → CostsRun (Some compiled) parameters source records changes counts
+refused_cost (Refused why) parameters source records changes counts h none = h
+refused_cost (Stylesheet held rules method) parameters source records changes counts h none =
+    subst (λ (s : Option (Document ℕ)). CostsRun (Some (Stylesheet held rules method)) parameters s records changes counts) (sym none) h
