@@ -14,7 +14,7 @@ ghost use Rattle.xp_eval.specs.View.{values_in};
 ghost use Rattle.xt_questions.specs.declared.context.Focus as code;
 
 use crate::find::variable;
-use crate::pick::{arrange, keep, negate, only, root};
+use crate::pick::{add, arrange, keep, negate, only, root};
 use std::alloc::Global;
 use xp_functions::{apply, find};
 use xp_values::{combine, count, is_decided, to_boolean, to_nodes};
@@ -261,7 +261,7 @@ fn stepped<W: World>(
             supplies,
             world,
         )?;
-        done.extend_from_slice(more.as_slice())?;
+        add(&mut done, more)?;
     }
     Ok(done)
 }

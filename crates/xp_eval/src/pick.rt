@@ -35,6 +35,18 @@ pub(crate) fn only(alloc: Global, node: NodeRef) -> Result<Vec<NodeRef>, Memory>
     Ok(nodes)
 }
 
+/// Adds nodes behind others. Where there are no others they stay in their memory.
+pub(crate) fn add(nodes: &mut Vec<NodeRef>, more: Vec<NodeRef>) -> Result<(), Memory>
+    ensures { OnOk result (nodes.new.items ≡ nodes.old.items ++ more.items) }
+{
+    if nodes.is_empty() {
+        *nodes = more;
+        return Ok(());
+    }
+    nodes.extend_from_slice(more.as_slice())?;
+    Ok(())
+}
+
 /// The last node alone, and none where there is none.
 fn last(alloc: Global, nodes: &[NodeRef]) -> Result<Vec<NodeRef>, Memory>
     ensures { IfOk result (λ v. v.items ≡ last_of nodes.now) }

@@ -1,13 +1,14 @@
 // The namespaces in scope (Namespaces in XML 1.0, section 6).
 ghost use Rattle.std.specs.Prelude.{◌≡◌, IfOk, OnOk, OnErr};
 ghost use Rattle.std.specs.Bool.{Decides};
-ghost use Rattle.std.specs.Option.{option_copied};
+ghost use Rattle.std.specs.Option.{option_copied, option_map};
 ghost use Rattle.std.specs.Str.{chars};
 ghost use Rattle.spec_document.specs.Scope as spec;
 ghost use Rattle.spec_document.specs.Declaration.{namespaces_in};
-ghost use Rattle.xt_names.specs.View.{entries_of};
+ghost use Rattle.spec_document.specs.Place.{at_number};
+ghost use Rattle.xt_names.specs.View.{entries_of, entry_of};
 
-use crate::search_tree::{Link, find, push_namespaces, put, same, share};
+use crate::search_tree::{Link, find, nth_namespace, push_namespaces, put, same, share};
 use crate::{Namespace, XML_URI};
 use std::alloc::Global;
 use std::marker::Model;
@@ -102,5 +103,13 @@ impl Scope {
         let mut list = Vec::new(alloc);
         push_namespaces(&mut list, &self.root)?;
         Ok(list)
+    }
+
+    /// The one of them at this number, which counts from 1. Takes no memory.
+    pub fn namespace(&self, number: u64) -> Option<&Namespace>
+        ensures { option_map (λ n. entry_of n.now) result ≡ at_number number (namespaces_in self.now) }
+    {
+        let mut left = number;
+        nth_namespace(&self.root, &mut left)
     }
 }

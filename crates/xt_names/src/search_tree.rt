@@ -2,12 +2,13 @@
 // tree, which has all nodes but those on the way to it in common with the old one.
 ghost use Rattle.std.specs.Prelude.{◌≡◌, ◌&&◌, ◌++◌, [], ◌∷◌, List, IfOk, OnOk};
 ghost use Rattle.std.specs.List.{filter, list_all};
-ghost use Rattle.std.specs.Option.{option_copied};
+ghost use Rattle.std.specs.Option.{option_copied, option_map};
 ghost use Rattle.std.specs.Ordering.{nat_cmp};
 ghost use Rattle.std.specs.Cmp.Lexicographic.{slice_cmp};
 ghost use Rattle.std.specs.FinMap.Entries.{put, find};
 ghost use Rattle.std.specs.Str.{chars};
 ghost use Rattle.spec_document.specs.Declaration.{is_there};
+ghost use Rattle.xt_names.specs.Nth.{IsNth};
 ghost use Rattle.xt_names.specs.View.{entry_of, entries_of};
 ghost use Rattle.xt_names.specs.SearchTree.{node_entries, link_entries, has_entry, IsOrdered};
 
@@ -126,6 +127,37 @@ pub(crate) fn push_namespaces(list: &mut Vec<Rc<Namespace>>, link: &Link) -> Res
     push_namespaces(list, &node.before)?;
     push_namespace(list, &node.namespace)?;
     push_namespaces(list, &node.after)
+}
+
+/// The namespace at this number among those that have a URI, in order. Where there are not so many, so many fewer are
+/// left.
+pub(crate) fn nth_namespace<'a>(link: &'a Link, left: &mut u64) -> Option<&'a Namespace>
+    ensures { IsNth left.old left.new (filter (λ n. is_there n.1) (link_entries link.now)) (option_map (λ n. entry_of n.now) result) }
+{
+    let Some(node) = link else {
+        return None;
+    };
+    if let Some(found) = nth_namespace(&node.before, left) {
+        return Some(found);
+    }
+    if let Some(found) = own_nth(&node.namespace, left) {
+        return Some(found);
+    }
+    nth_namespace(&node.after, left)
+}
+
+// The same of this namespace alone.
+fn own_nth<'a>(namespace: &'a Namespace, left: &mut u64) -> Option<&'a Namespace>
+    ensures { IsNth left.old left.new (filter (λ n. is_there n.1) (entry_of namespace.now ∷ [])) (option_map (λ n. entry_of n.now) result) }
+{
+    if namespace.uri.is_empty() {
+        return None;
+    }
+    if *left == 1 {
+        return Some(namespace);
+    }
+    *left = left.saturating_sub(1);
+    None
 }
 
 // Adds the namespace to the list, if it has a URI.

@@ -1,6 +1,6 @@
 // What a run did so far.
-ghost use Rattle.std.specs.Prelude.{◌≡◌, IfOk};
-ghost use Rattle.xt_tree.specs.StreamView.{streams_of};
+ghost use Rattle.std.specs.Prelude.{◌≡◌, IfOk, IfSome};
+ghost use Rattle.xt_tree.specs.StreamView.{stream_of, streams_of};
 
 use crate::wrapped::{nameless_attribute, wrapped};
 use std::alloc::Global;
@@ -193,7 +193,7 @@ impl Going {
             self.top.push(wrapped(nameless_attribute(alloc), content))?;
         }
         let whole = mem::replace(&mut self.top, Items::new(alloc));
-        Ok(Rc::new(alloc, whole)?)
+        shared(alloc, whole)
     }
 
     /// Ends all sinks: all that was written, its holes filled.
@@ -202,6 +202,30 @@ impl Going {
     {
         let whole = self.close(alloc)?;
         fill(alloc, &whole, self.streams.as_slice())
+    }
+}
+
+// The same stream, shared. One that is nothing but a shared part, as the copy of a node is, takes no memory of its own.
+fn shared(alloc: Global, items: Items) -> Result<Rc<Items>, Memory>
+    ensures { IfOk result (λ s. stream_of s.value ≡ stream_of items) }
+{
+    if let Some(part) = only_part(&items) {
+        return Ok(part.clone()?);
+    }
+    Ok(Rc::new(alloc, items)?)
+}
+
+// The shared part that a stream is nothing but.
+fn only_part(items: &Items) -> Option<&Rc<Items>>
+    ensures { IfSome result (λ part. stream_of part.now.value ≡ stream_of items.now) }
+{
+    let list = items.list();
+    if list.len() != 1 {
+        return None;
+    }
+    match &list[0] {
+        Item::Part(part) => Some(part),
+        _ => None,
     }
 }
 

@@ -496,7 +496,7 @@ fn go_on_own<W: World>(
                 next: 0,
                 here,
             };
-            leave_nothing(alloc, run);
+            leave_nothing(run);
             go_on_body(alloc, run, body, world)
         }
     }

@@ -64,7 +64,7 @@ fn begin_unit<W: World>(
     ensures name { W.name world.new ≡ W.name world.old }
 {
     let answer = run.going.ask(alloc, world, Question::Unit(element))?;
-    leave_nothing(alloc, run);
+    leave_nothing(run);
     begin_answered(alloc, run, answer, node, parameters, world)
 }
 
@@ -266,12 +266,12 @@ fn begin_own(run: &mut Run, here: Standing) -> Result<Next, Memory>
     Ok(Next::Went)
 }
 
-/// Leaves nothing of a run.
-pub(crate) fn leave_nothing(alloc: Global, run: &mut Run)
+/// Leaves nothing of a run. The memory of its frames stays for those that come.
+pub(crate) fn leave_nothing(run: &mut Run)
     ensures begun { Begun plan.End run.old run.new }
     ensures none { run.new.frames.items ≡ [] }
 {
-    run.frames = Vec::new(alloc);
+    run.frames.clear();
 }
 
 /// Begins a built-in rule (XSLT 1.0, section 5.8).
@@ -289,7 +289,7 @@ fn begin_built_in<W: World>(
     let answer = run.going.ask(alloc, world, Question::Name(node))?;
     let kind = kind_in(&answer);
     drop(answer);
-    leave_nothing(alloc, run);
+    leave_nothing(run);
     match kind {
         Kind::Root => apply_to_children(alloc, run, mode, node, world),
         Kind::Element => apply_to_children(alloc, run, mode, node, world),

@@ -5,14 +5,15 @@ use Rattle.std.specs.Option.{option_map, option_and_then, option_or, ForSome}
 use Rattle.spec_document.specs.Declaration.{within, scope_of}
 use Rattle.spec_document.specs.Forest as spec
 use Rattle.spec_document.specs.Forest.{Forest, Content, Document, labels, height, tree_at}
-use Rattle.spec_document.specs.Name.{Expanded}
 use Rattle.spec_document.specs.NodeFaults.{greatest_depth}
-use Rattle.spec_document.specs.Place.{Found, found_in, child_at, node_from, root_of, first_in, name_by, scope_at}
-use Rattle.spec_document.specs.Scope.{root_scope}
+use Rattle.spec_document.specs.Place.{Found, found_in, child_at, node_from, root_of, first_in, scope_at}
+use Rattle.spec_document.specs.Scope.{Scope, root_scope}
 use Rattle.spec_edit.specs.Depth.{ElementsFit}
+use Rattle.spec_edit.specs.Edit.{is_element}
 use Rattle.spec_edit.specs.Splice.{children_changed, below_changed, content_replaced}
 use Rattle.xt_tree.specs.Edit.{KeepsNames, content_below}
-use Rattle.xt_tree.specs.Kept.{AreNames}
+use Rattle.xt_tree.specs.declared.names.Called.{Called}
+use Rattle.xt_tree.specs.Kept.{AreNames, called_by, scope_by}
 use Rattle.xt_tree.specs.Keys.{Rises, last_key, key_limit}
 use Rattle.xt_tree.specs.Numbers.{IsDocument, are_numbers}
 use Rattle.xt_tree.specs.View.{numbered_node}
@@ -55,10 +56,34 @@ rises_same key low (same {i} l k a b) r =
 
 -- ---- The names of nodes
 
-abbrev pub name_of : Found ℕ → Option Expanded
-name_of node = name_by node.content (scope_at node)
+scope_same : (old new : Content) (scope : Scope) → is_element new ≡ is_element old → scope_by (Some new) scope ≡ scope_by (Some old) scope
+scope_same (spec.Element n a) (spec.Element m b) scope h = refl
+scope_same (spec.Element n a) (spec.Text t) scope h = absurd (cc)
+scope_same (spec.Element n a) (spec.Comment t) scope h = absurd (cc)
+scope_same (spec.Element n a) (spec.Instruction m t) scope h = absurd (cc)
+scope_same (spec.Text t) (spec.Element m b) scope h = absurd (cc)
+scope_same (spec.Text t) (spec.Text u) scope h = refl
+scope_same (spec.Text t) (spec.Comment u) scope h = refl
+scope_same (spec.Text t) (spec.Instruction m u) scope h = refl
+scope_same (spec.Comment t) (spec.Element m b) scope h = absurd (cc)
+scope_same (spec.Comment t) (spec.Text u) scope h = refl
+scope_same (spec.Comment t) (spec.Comment u) scope h = refl
+scope_same (spec.Comment t) (spec.Instruction m u) scope h = refl
+scope_same (spec.Instruction n t) (spec.Element m b) scope h = absurd (cc)
+scope_same (spec.Instruction n t) (spec.Text u) scope h = refl
+scope_same (spec.Instruction n t) (spec.Comment u) scope h = refl
+scope_same (spec.Instruction n t) (spec.Instruction m u) scope h = refl
 
-abbrev first_name : ℕ → List Content → Forest ℕ → Option (Option Expanded)
+called_same : {old new : Content} → KeepsNames old new → (scope : Scope) → called_by (Some new) scope ≡ called_by (Some old) scope
+called_same {old} {new} k scope =
+    let name = k.own scope in
+    let inside = scope_same old new scope k.kind in
+    λ i. record { name = name i; scope = inside i }
+
+abbrev pub name_of : Found ℕ → Called
+name_of node = called_by node.content (scope_at node)
+
+abbrev first_name : ℕ → List Content → Forest ℕ → Option Called
 first_name number above f = option_map name_of (first_in (λ l. l == number) above f)
 
 either : {A B : Type 0} (m : A → B) (a b : Option A) → option_map m (option_or a b) ≡ option_or (option_map m a) (option_map m b)
@@ -74,7 +99,7 @@ names_same number above below here (same {old} {new} {f} {g} {h} {i} l k a b) =
     let inner = names_same number (old ∷ above) (new ∷ below) scope a in
     let after = names_same number above below here b in
     let own : name_of (found_in below l new g) ≡ name_of (found_in above l old f) =
-    k.own (scope_of root_scope (new ∷ below)) ∙ ap (name_by (Some old)) scope in
+    called_same k (scope_of root_scope (new ∷ below)) ∙ ap (called_by (Some old)) scope in
     elim (l == number) as (λ t. option_map name_of (cond t (Some (found_in below l new g))
     (option_or (first_in (λ m. m == number) (new ∷ below) g) (first_in (λ m. m == number) below i)))
     ≡ option_map name_of (cond t (Some (found_in above l old f))
@@ -95,17 +120,17 @@ named_node root number {f} {g} a =
       | false ↦ names_same number [] [] refl a
     ]
 
-named_so : (name : Option Expanded) (x : Found ℕ) (old : Option (Found ℕ)) → option_map name_of (Some x) ≡ option_map name_of old
+named_so : (name : Called) (x : Found ℕ) (old : Option (Found ℕ)) → option_map name_of (Some x) ≡ option_map name_of old
     → ForSome old (λ y. name ≡ name_of y) → name ≡ name_of x
 named_so name x None e h = absurd (cc)
 named_so name x (Some y) e h = h y refl ∙ sym (some_same (name_of x) (name_of y) e)
 
-kept_same : (kept : ℕ → Option (Option Expanded)) (root : ℕ) {f g : Forest ℕ} → Alike f g → AreNames kept (record { root = root; nodes = f })
+kept_same : (kept : ℕ → Option Called) (root : ℕ) {f g : Forest ℕ} → Alike f g → AreNames kept (record { root = root; nodes = f })
     → AreNames kept (record { root = root; nodes = g })
 kept_same kept root a names number name known x e =
     named_so name x _ (sym (ap (option_map name_of) e) ∙ named_node root number a) (names number name known)
 
-pub document_same : (key : ℕ → ℕ) (kept : ℕ → Option (Option Expanded)) (root : ℕ) {f g : Forest ℕ} → Alike f g
+pub document_same : (key : ℕ → ℕ) (kept : ℕ → Option Called) (root : ℕ) {f g : Forest ℕ} → Alike f g
     → IsDocument key kept (record { root = root; nodes = f }) → IsDocument key kept (record { root = root; nodes = g })
 document_same key kept root {f} {g} a d =
     record {

@@ -1,5 +1,5 @@
 -- The nodes of a forest in document order, with what stands above them, and their names.
-use Rattle.std.proofs.Common.{◌≡◌, ℕ, ◌==◌, true, false, cond, List, [], ◌∷◌, ◌++◌, map, Option, Some, None, refl, sym, ap, ◌∙◌}
+use Rattle.std.proofs.Common.{◌≡◌, ℕ, ◌==◌, true, false, cond, List, [], ◌∷◌, ◌++◌, map, Option, Some, None, is_some, not, refl, sym, ap, ◌∙◌}
 use Rattle.std.proofs.Common.{eq-eqb, append_assoc}
 use Rattle.std.specs.Prelude.{◌&&◌}
 use Rattle.std.specs.Option.{option_or}
@@ -8,12 +8,12 @@ use Rattle.std.proofs.lemmas.Bool.{eqb-true, and_parts}
 use Rattle.spec_document.specs.Declaration.{scope_of}
 use Rattle.spec_document.specs.Forest as spec
 use Rattle.spec_document.specs.Forest.{Content, Document, Forest, followed, labels}
-use Rattle.spec_document.specs.Name.{Expanded}
-use Rattle.spec_document.specs.Place.{Found, found_in, first_in, root_of, name_by, scope_at}
+use Rattle.spec_document.specs.Place.{Found, found_in, first_in, root_of, scope_at}
 use Rattle.spec_document.specs.Scope.{Scope, root_scope}
 use Rattle.xt_tree.specs.Keys.{AreApart, has_number}
-use Rattle.xt_tree.specs.Kept.{AreNames}
-use Rattle.xt_tree.specs.Room.{all_suit, suits}
+use Rattle.xt_tree.specs.declared.names.Called.{Called}
+use Rattle.xt_tree.specs.Kept.{AreNames, called_by}
+use Rattle.xt_tree.specs.Room.{all_suit, is_nameless, is_nothing, suits}
 use Rattle.xt_tree.proofs.Apart.{has-among}
 use Rattle.xt_tree.proofs.Bools.{not_true}
 use Rattle.xt_tree.proofs.Distinct.{none_some, not_found, some_same}
@@ -50,10 +50,10 @@ entries-followed above (spec.Node l c f h) g =
 -- ---- Names
 
 abbrev pub Kept : Type 0
-Kept = ℕ → Option (Option Expanded)
+Kept = ℕ → Option Called
 
 abbrev pub IsNamed : Kept → Entry → Type 0
-IsNamed kept e = (name : Option Expanded) → kept e.number ≡ Some name → name ≡ name_by (Some e.content) (scope_of root_scope e.above)
+IsNamed kept e = (name : Called) → kept e.number ≡ Some name → name ≡ called_by (Some e.content) (scope_of root_scope e.above)
 
 abbrev pub AllNamed : Kept → List Entry → Type 0
 AllNamed kept [] = Unit {0}
@@ -67,15 +67,33 @@ pub named-parts : (kept : Kept) (xs ys : List Entry) → AllNamed kept (xs ++ ys
 named-parts kept [] ys h = (tt, h)
 named-parts kept (x ∷ xs) ys h = let rest = named-parts kept xs ys h.1 in ((h.0, rest.0), rest.1)
 
--- what is kept for a node that suits it is its name in any scope
-suited : (c : Content) (o : Option (Option Expanded)) (name : Option Expanded) (scope : Scope) → suits c o ≡ true → o ≡ Some name
-    → name ≡ name_by (Some c) scope
+-- what is kept of a text or a comment in any scope
+abbrev nothing : Called
+nothing = record { name = None; scope = None }
+
+no_more : {A : Type 0} (o : Option A) → not (is_some o) ≡ true → o ≡ None
+no_more None h = refl
+no_more (Some x) h = absurd (cc)
+
+is-nothing : (called : Called) → is_nothing called ≡ true → called ≡ nothing
+is-nothing called h =
+    let parts = and_parts (not (is_some called.name)) (not (is_some called.scope)) h in
+    let name = no_more called.name parts.0 in
+    let scope = no_more called.scope parts.1 in
+    λ i. record { name = name i; scope = scope i }
+
+nameless : (c : Content) (scope : Scope) → is_nameless c ≡ true → nothing ≡ called_by (Some c) scope
+nameless (spec.Element n attributes) scope h = absurd (cc)
+nameless (spec.Text t) scope h = refl
+nameless (spec.Comment t) scope h = refl
+nameless (spec.Instruction n t) scope h = absurd (cc)
+
+-- what is kept for a node that suits it is right in any scope
+suited : (c : Content) (o : Option Called) (name : Called) (scope : Scope) → suits c o ≡ true → o ≡ Some name → name ≡ called_by (Some c) scope
 suited c None name scope h e = absurd (none_some name e)
-suited c (Some (Some own)) name scope h e = absurd (cc)
-suited (spec.Element n attributes) (Some None) name scope h e = absurd (cc)
-suited (spec.Text t) (Some None) name scope h e = sym (some_same None name e)
-suited (spec.Comment t) (Some None) name scope h e = sym (some_same None name e)
-suited (spec.Instruction n t) (Some None) name scope h e = absurd (cc)
+suited c (Some own) name scope h e =
+    let parts = and_parts (is_nameless c) (is_nothing own) h in
+    sym (some_same own name e) ∙ is-nothing own parts.1 ∙ nameless c scope parts.0
 
 pub suit-named : (kept : Kept) (above : List Content) (f : Forest ℕ) → all_suit kept f ≡ true → AllNamed kept (entries above f)
 suit-named kept above spec.Empty h = tt
@@ -89,8 +107,8 @@ suit-named kept above (spec.Node l c f g) h =
 -- the names of the nodes that numbers lead to
 abbrev pub FindsNames : Kept → List Content → Forest ℕ → Type 0
 FindsNames kept above f =
-    (number : ℕ) (x : Found ℕ) (name : Option Expanded) → first_in (λ l. l == number) above f ≡ Some x → kept number ≡ Some name
-    → name ≡ name_by x.content (scope_at x)
+    (number : ℕ) (x : Found ℕ) (name : Called) → first_in (λ l. l == number) above f ≡ Some x → kept number ≡ Some name
+    → name ≡ called_by x.content (scope_at x)
 
 pub found-named : (kept : Kept) (above : List Content) (f : Forest ℕ) → AllNamed kept (entries above f) → FindsNames kept above f
 found-named kept above spec.Empty h number x name there e = absurd (none_some x there)
@@ -98,10 +116,10 @@ found-named kept above (spec.Node l c f g) h number x name there e =
     let both = named-parts kept (entries (c ∷ above) f) (entries above g) h.1 in
     elim (l == number) as (λ b. (l == number) ≡ b
     → cond b (Some (found_in above l c f)) (option_or (first_in (λ l. l == number) (c ∷ above) f) (first_in (λ l. l == number) above g)) ≡ Some x
-    → name ≡ name_by x.content (scope_at x)) [
+    → name ≡ called_by x.content (scope_at x)) [
       | true ↦ λ own there.
           let is : found_in above l c f ≡ x = some_same (found_in above l c f) x there in
-          h.0 name (ap kept (eqb-true l number own) ∙ e) ∙ ap (λ y. name_by y.content (scope_at y)) is
+          h.0 name (ap kept (eqb-true l number own) ∙ e) ∙ ap (λ y. called_by y.content (scope_at y)) is
       | false ↦ λ _ there. split (first_in (λ l. l == number) (c ∷ above) f) (first_in (λ l. l == number) above g) x there
           (λ there. found-named kept (c ∷ above) f both.0 number x name there e)
           (λ there. found-named kept above g both.1 number x name there e)
@@ -153,9 +171,9 @@ names-below kept root f h names number x name there e =
     names number name e x
     (ap (λ b. cond b (Some (root_of (record { root = root; nodes = f }))) (first_in (λ k. k == number) [] f)) other ∙ there)
 
--- the root has no name
-root-name : (kept : Kept) (root : ℕ) (f : Forest ℕ) (name : Option Expanded) → AreNames kept (record { root = root; nodes = f })
-    → kept root ≡ Some name → name ≡ None
+-- what is kept of the root
+root-name : (kept : Kept) (root : ℕ) (f : Forest ℕ) (name : Called) → AreNames kept (record { root = root; nodes = f })
+    → kept root ≡ Some name → name ≡ nothing
 root-name kept root f name names e =
     let document : Document ℕ = record { root = root; nodes = f } in
     names root name e (root_of document) (ap (λ b. cond b (Some (root_of document)) (first_in (λ k. k == root) [] f)) (eq-eqb root root refl))
@@ -165,9 +183,9 @@ pub names-of : (kept : Kept) (root : ℕ) (old f : Forest ℕ) → AreNames kept
 names-of kept root old f names below number name e x there =
     let document : Document ℕ = record { root = root; nodes = f } in
     elim (root == number) as (λ b. (root == number) ≡ b → cond b (Some (root_of document)) (first_in (λ k. k == number) [] f) ≡ Some x
-    → name ≡ name_by x.content (scope_at x)) [
+    → name ≡ called_by x.content (scope_at x)) [
       | true ↦ λ own there.
           let is : root_of document ≡ x = some_same (root_of document) x there in
-          root-name kept root old name names (ap kept (eqb-true root number own) ∙ e) ∙ ap (λ y. name_by y.content (scope_at y)) is
+          root-name kept root old name names (ap kept (eqb-true root number own) ∙ e) ∙ ap (λ y. called_by y.content (scope_at y)) is
       | false ↦ λ _ there. below number x name there e
     ] refl there

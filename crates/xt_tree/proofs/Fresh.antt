@@ -6,7 +6,7 @@ use Rattle.spec_document.specs.Numbering.{number_limit}
 use Rattle.spec_document.specs.NodeFaults.{greatest_depth}
 use Rattle.spec_edit.specs.Depth.{ElementsFit}
 use Rattle.xt_tree.specs.Keys.{last_key, Rises, own_key, key_limit}
-use Rattle.spec_document.specs.Name.{Expanded}
+use Rattle.xt_tree.specs.declared.names.Called.{Called}
 use Rattle.xt_tree.specs.Kept.{AreNames}
 use Rattle.xt_tree.specs.Numbers.{IsDocument}
 use Rattle.std.proofs.Common.{Option}
@@ -37,7 +37,7 @@ fresh key n low (spec.Node l c f g) same e h =
     ((omega arith, below.0, behind.0), rw whole at behind.1)
 
 -- a document as it is read
-pub fresh_document : (key : ℕ → ℕ) (kept : ℕ → Option (Option Expanded)) (root : ℕ) (f : Forest ℕ) → ((m : ℕ) → key m ≡ own_key m)
+pub fresh_document : (key : ℕ → ℕ) (kept : ℕ → Option Called) (root : ℕ) (f : Forest ℕ) → ((m : ℕ) → key m ≡ own_key m)
     → numbered (root + 1) f ≡ f → root + size f < number_limit → height f ≤ greatest_depth + 1
     → ElementsFit 1 f → AreNames kept (record { root = root; nodes = f }) → IsDocument key kept (record { root = root; nodes = f })
 fresh_document key kept root f same order limit depth fits names =

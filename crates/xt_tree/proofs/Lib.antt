@@ -1,5 +1,6 @@
 pub mod Alike
 pub mod Bools
+pub mod ByNumber
 pub mod Changed
 pub mod Declared
 pub mod Joined

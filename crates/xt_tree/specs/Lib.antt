@@ -1,3 +1,4 @@
+pub mod ByNumber
 pub mod Code
 pub mod Edit
 pub mod Indexed

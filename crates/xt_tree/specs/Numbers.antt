@@ -5,9 +5,11 @@ use Rattle.std.specs.Prelude.{◌==◌}
 use Rattle.spec_document.specs.Forest.{Document, labels, height}
 use Rattle.spec_document.specs.NodeFaults.{greatest_depth}
 use Rattle.spec_document.specs.Numbering.{number_limit}
-use Rattle.spec_document.specs.Name.{Expanded}
 use Rattle.spec_edit.specs.Depth.{ElementsFit}
+use Rattle.xt_tree.specs.ByNumber.{FindsAll}
 use Rattle.xt_tree.specs.Kept.{AreNames}
+use Rattle.xt_tree.specs.declared.by_number.ByNumber.{ByNumber}
+use Rattle.xt_tree.specs.declared.names.Called.{Called}
 use Rattle.xt_tree.specs.Keys.{Rises, last_key, key_limit}
 
 -- none stands twice
@@ -23,11 +25,16 @@ abbrev pub IsNumbered : Document ℕ → Type 0
 IsNumbered document = IsTrue (are_numbers (document.root ∷ labels document.nodes))
 
 -- the numbers of a document's nodes are so, and its elements stand at depths of at most 256, with other nodes below the deepest; nodes are
--- found by keys of their numbers, which rise in document order; names that are kept are theirs
-pub record IsDocument (key : ℕ → ℕ) (kept : ℕ → Option (Option Expanded)) (document : Document ℕ) : Type 0 where
+-- found by keys of their numbers, which rise in document order; names and scopes that are kept are theirs
+pub record IsDocument (key : ℕ → ℕ) (kept : ℕ → Option Called) (document : Document ℕ) : Type 0 where
   pub numbers : IsNumbered document
   pub depth : height document.nodes ≤ greatest_depth + 1
   pub fits : ElementsFit 1 document.nodes
   pub rises : Rises key 0 document.nodes
   pub limit : last_key key 0 document.nodes < key_limit
   pub names : AreNames kept document
+
+-- and nodes that are kept by their numbers are its own
+pub record IsWhole (key : ℕ → ℕ) (kept : ℕ → Option Called) (by_number : ByNumber) (document : Document ℕ) : Type 0 where
+  pub sound : IsDocument key kept document
+  pub found : FindsAll by_number document.nodes

@@ -1,9 +1,9 @@
 -- The room for keys at a place in a document, and what they make of the keys of all.
-use Rattle.std.specs.Prelude.{ℕ, ◌≡◌, ◌⊎◌, ◌-◌, ◌<◌, ◌≤◌, ◌==◌, Bool, true, false, ◌&&◌, List, [], ◌∷◌, Option, None, Some, if◌then◌else◌}
+use Rattle.std.specs.Prelude.{ℕ, ◌≡◌, ◌⊎◌, ◌-◌, ◌<◌, ◌≤◌, ◌==◌, Bool, true, false, not, is_some, ◌&&◌, List, [], ◌∷◌, Option, None, Some, if◌then◌else◌}
 use Rattle.spec_document.specs.Forest.{Content, Element, Text, Comment, Instruction, Forest, Empty, Node, size}
-use Rattle.spec_document.specs.Name.{Expanded}
 use Rattle.spec_document.specs.Numbering.{number_limit}
 use Rattle.spec_edit.specs.Splice.{first_siblings, later_siblings}
+use Rattle.xt_tree.specs.declared.names.Called.{Called}
 use Rattle.xt_tree.specs.Keys.{AreApart, Rises, has_number, key_limit, last_key}
 
 -- the key of the first sibling; this one where there is none
@@ -46,22 +46,29 @@ pub record IsRoom (key : ℕ → ℕ) (low high : ℕ) (new all : Forest ℕ) : 
   pub keyed : (own : ℕ → ℕ) → ((number : ℕ) → has_number number new ≡ false → own number ≡ key number) → Rises own low new → last_key own low new < high
       → AreKeyed own all
 
--- ---- Names that are kept
+-- ---- Names and scopes that are kept
+
+-- whether a node with this content has no name, and no scope is kept of it, wherever it stands
+abbrev pub is_nameless : Content → Bool
+is_nameless (Element name attributes) = false
+is_nameless (Text text) = true
+is_nameless (Comment text) = true
+is_nameless (Instruction target text) = false
+
+-- whether that is what is kept
+abbrev pub is_nothing : Called → Bool
+is_nothing called = not (is_some called.name) && not (is_some called.scope)
 
 -- whether what is kept for the number of a node with this content is right wherever the node stands
-abbrev pub suits : Content → Option (Option Expanded) → Bool
+abbrev pub suits : Content → Option Called → Bool
 suits content None = true
-suits content (Some (Some name)) = false
-suits (Element name attributes) (Some None) = false
-suits (Text text) (Some None) = true
-suits (Comment text) (Some None) = true
-suits (Instruction target text) (Some None) = false
+suits content (Some called) = is_nameless content && is_nothing called
 
-abbrev pub all_suit : (ℕ → Option (Option Expanded)) → Forest ℕ → Bool
+abbrev pub all_suit : (ℕ → Option Called) → Forest ℕ → Bool
 all_suit kept Empty = true
 all_suit kept (Node label content children siblings) = suits content (kept label) && all_suit kept children && all_suit kept siblings
 
--- no name is kept, or the same as before, where all of these nodes suit them
-abbrev pub AreBeside : (before now : ℕ → Option (Option Expanded)) → Forest ℕ → Type 0
+-- nothing is kept, or the same as before, where all of these nodes suit that
+abbrev pub AreBeside : (before now : ℕ → Option Called) → Forest ℕ → Type 0
 AreBeside before now nodes =
     ((number : ℕ) → now number ≡ None) ⊎ (((number : ℕ) → now number ≡ before number) × (all_suit before nodes ≡ true))

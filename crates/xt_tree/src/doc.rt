@@ -10,6 +10,7 @@ ghost use Rattle.xt_tree.specs.View.{itself, item_of, numbered_node, content_of,
 ghost use Rattle.xt_tree.specs.Numbers.{IsNumbered};
 ghost use Rattle.spec_document.specs.Forest as spec;
 
+use crate::by_number::ByNumber;
 use crate::find::{find, sibling_at};
 use crate::indexed::Indexed;
 use crate::keys::new_keys;
@@ -29,6 +30,8 @@ pub struct Doc {
     pub(crate) root: NodeId,
     pub(crate) keys: Table,
     pub(crate) names: Rc<Names>,
+    // As long as they are as they were when the document was read.
+    pub(crate) by_number: Rc<ByNumber>,
     pub(crate) children: Vec<Rc<Node>>,
 }
 
@@ -42,13 +45,13 @@ impl Model for Doc {
     ghost coded = { document_code };
 
     ghost use Rattle.xt_tree.specs.View.{forest_of};
-    ghost use Rattle.xt_tree.specs.Numbers.{IsDocument};
+    ghost use Rattle.xt_tree.specs.Numbers.{IsWhole};
     ghost use Rattle.xt_tree.specs.Keys.{key_by};
     ghost use Rattle.xt_tree.specs.Kept.{kept_at};
 
     ghost view = { λ d. record { root = d.root.number; nodes = forest_of d.children.items } };
 
-    ghost invariant = { λ d. IsDocument (key_by d.keys) (kept_at d.names.value) (record { root = d.root.number; nodes = forest_of d.children.items }) };
+    ghost invariant = { λ d. IsWhole (key_by d.keys) (kept_at d.names.value) d.by_number.value (record { root = d.root.number; nodes = forest_of d.children.items }) };
 }
 
 /// Siblings in their order, with what is below them. Contracts see the forest with the numbers as labels.
@@ -149,16 +152,19 @@ impl Doc {
     {
         let keys = new_keys(alloc, nodes.list())?;
         let names = Rc::new(alloc, Names::none(alloc))?;
+        let unknown = ByNumber::none(alloc);
+        let by_number = Rc::new(alloc, unknown)?;
         Ok(Doc {
             root,
             keys,
             names,
+            by_number,
             children: nodes.into_list(),
         })
     }
 
-    /// The document whose nodes are numbered in document order, the root first. Their expanded names are
-    /// resolved here, once.
+    /// The document whose nodes are numbered in document order, the root first. Their expanded names, and the scopes
+    /// inside its elements, are resolved here, once.
     pub fn numbered(alloc: Global, root: NodeId, nodes: Nodes) -> Result<Doc, Memory>
         requires order { numbered (root.number + 1) nodes ≡ nodes }
         requires limit { root.number + size nodes < number_limit }
@@ -168,13 +174,17 @@ impl Doc {
     {
         let keys = Table::new();
         let first = root.number + 1;
-        let named = Names::of(alloc, first, nodes.list())?;
+        let siblings = nodes.list();
+        let named = Names::of(alloc, first, siblings)?;
         let names = Rc::new(alloc, named)?;
+        let found = ByNumber::of(alloc, first, siblings)?;
+        let by_number = Rc::new(alloc, found)?;
         let children = nodes.into_list();
         Ok(Doc {
             root,
             keys,
             names,
+            by_number,
             children,
         })
     }
@@ -224,10 +234,14 @@ impl Doc {
         Some(NodeRef::of(id))
     }
 
-    /// The node of this number below the root. None for the root, and where there is no such node. Takes no memory.
+    /// The node of this number below the root. None for the root, and where there is no such node. Takes no memory, and no
+    /// walk where the document is as it was read.
     pub fn node(&self, id: NodeId) -> Option<&Node>
         ensures { option_map (λ node. tree_of node.now) result ≡ first_tree id.number self.now.nodes }
     {
+        if self.by_number.is_whole() {
+            return self.by_number.get(id);
+        }
         find(&self.keys, self.children.as_slice(), id)
     }
 

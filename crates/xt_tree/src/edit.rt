@@ -9,6 +9,7 @@ ghost use Rattle.spec_edit.specs.Splice.{children_changed, content_replaced, met
 ghost use Rattle.xt_tree.specs.Edit.{IsNodeAt, KeepsNames, content_below};
 ghost use Rattle.xt_tree.specs.View.{content_of, forest_of};
 
+use crate::by_number::ByNumber;
 use crate::find::sibling_at;
 use crate::indexed::Indexed;
 use crate::part::enter;
@@ -124,10 +125,13 @@ impl Doc {
         let children = with_content(alloc, self.children.as_slice(), parent, position, &content)?;
         let keys = self.keys.copy()?;
         let names = self.names.clone()?;
+        let unknown = ByNumber::none(alloc);
+        let by_number = Rc::new(alloc, unknown)?;
         Ok(Doc {
             root: self.root,
             keys,
             names,
+            by_number,
             children,
         })
     }

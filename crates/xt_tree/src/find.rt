@@ -13,6 +13,7 @@ ghost use Rattle.xt_tree.specs.View.{forest_of, tree_of, content_of, first_tree,
 use crate::keys::{GAP, key_of};
 use crate::table::Table;
 use crate::{Content, Node, NodeId};
+use std::alloc::Global;
 use std::rc::Rc;
 use xt_text::{Memory, Path, Text};
 
@@ -180,14 +181,23 @@ fn push_own_text(text: &mut Text, content: &Content) -> Result<(), Memory>
     }
 }
 
-/// Adds the string-value of a node.
-pub fn push_value(text: &mut Text, node: &Node) -> Result<(), Memory>
-    ensures { OnOk result (text.new ≡ text.old ++ string_value_by (Some (tree_of node.now).content) (tree_of node.now).children) }
+/// The texts of these siblings and of what is below them.
+pub fn texts_of(alloc: Global, siblings: &[Rc<Node>]) -> Result<Text, Memory>
+    ensures { IfOk result (λ text. text ≡ texts_in (forest_of siblings.now)) }
+{
+    let mut text = Text::new(alloc);
+    push_texts(&mut text, siblings)?;
+    Ok(text)
+}
+
+/// The string-value of a node. But for an element it is in the memory of the node's content.
+pub fn value_of(alloc: Global, node: &Node) -> Result<Text, Memory>
+    ensures { IfOk result (λ text. text ≡ string_value_by (Some (tree_of node.now).content) (tree_of node.now).children) }
 {
     match node.content() {
-        Content::Element { .. } => push_texts(text, node.children.as_slice()),
-        Content::Text { text: own }
-        | Content::Comment { text: own }
-        | Content::Instruction { text: own, .. } => text.push_str(own.as_str()),
+        Content::Element { .. } => texts_of(alloc, node.children.as_slice()),
+        Content::Text { text } | Content::Comment { text } | Content::Instruction { text, .. } => {
+            text.copy(alloc)
+        }
     }
 }

@@ -8,6 +8,7 @@
 //! ```
 #![tactic(auto)]
 
+mod by_number;
 mod declarations;
 mod doc;
 mod edit;

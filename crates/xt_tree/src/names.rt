@@ -1,13 +1,13 @@
-// The expanded names that a document keeps, so that they are resolved once.
+// The expanded names that a document keeps of its nodes, and the scopes inside its elements, so that they are resolved once.
 ghost use Rattle.std.specs.Prelude.{ℕ, ◌≡◌, ◌++◌, [], None, Some, IfOk, OnOk};
 ghost use Rattle.std.specs.List.{slice_get};
 ghost use Rattle.std.specs.Option.{option_map};
 ghost use Rattle.std.specs.Str.{chars};
 ghost use Rattle.spec_document.specs.Name.{qname_of, same_expanded, same_name};
 ghost use Rattle.spec_document.specs.Scope.{root_scope};
-ghost use Rattle.xt_tree.specs.Kept.{kept_at, names_in};
+ghost use Rattle.xt_tree.specs.Kept.{called_by, kept_at, names_in, scope_by, scope_kept};
 ghost use Rattle.xt_tree.specs.Local.{has_local, is_local};
-ghost use Rattle.xt_tree.specs.Room.{all_suit, suits};
+ghost use Rattle.xt_tree.specs.Room.{all_suit, is_nameless, is_nothing, suits};
 ghost use Rattle.xt_tree.specs.View.{content_of, forest_of};
 
 use crate::part::{content_name, enter};
@@ -17,16 +17,23 @@ use std::rc::Rc;
 use xt_names::{Expanded, QName, Scope};
 use xt_text::{Memory, Text};
 
-/// Expanded names of nodes whose numbers follow one another.
+/// What is kept of a node: its expanded name, if it has one, and of an element the scope inside it.
+#[derive(Drop)]
+pub struct Called {
+    pub name: Option<Expanded>,
+    pub scope: Option<Scope>,
+}
+
+/// What is kept of nodes whose numbers follow one another.
 #[derive(Drop)]
 pub struct Names {
-    // The number that the first name belongs to.
+    // The number that the first of them has.
     first: u64,
-    list: Vec<Option<Expanded>>,
+    list: Vec<Called>,
 }
 
 impl Names {
-    /// No names. Takes no memory.
+    /// Of no node. Takes no memory.
     pub fn none(alloc: Global) -> Names
         ensures { (number : ℕ) → kept_at result number ≡ None }
     {
@@ -36,8 +43,7 @@ impl Names {
         }
     }
 
-    /// The names of these siblings below a root and of all below them, which are numbered in document order
-    /// from `first` on.
+    /// Of these siblings below a root and of all below them, which are numbered in document order from `first` on.
     pub fn of(alloc: Global, first: u64, siblings: &[Rc<Node>]) -> Result<Names, Memory>
         ensures first { IfOk result (λ names. names.first ≡ first) }
         ensures names { IfOk result (λ names. names.list.items ≡ names_in root_scope (forest_of siblings.now)) }
@@ -48,14 +54,24 @@ impl Names {
         Ok(Names { first, list })
     }
 
-    /// The name that is kept for this number, if there is one; it is None where the node has none.
-    pub fn get(&self, id: NodeId) -> Option<&Option<Expanded>>
-        ensures { option_map (λ name. name.now) result ≡ kept_at self.now id.number }
+    /// What is kept for this number.
+    pub fn get(&self, id: NodeId) -> Option<&Called>
+        ensures { option_map (λ called. called.now) result ≡ kept_at self.now id.number }
     {
         if id.number < self.first {
             return None;
         }
-        name_at(self.list.as_slice(), id.number - self.first)
+        called_at(self.list.as_slice(), id.number - self.first)
+    }
+
+    /// The scope that is kept for this number.
+    pub fn scope(&self, id: NodeId) -> Option<&Scope>
+        ensures { option_map (λ scope. scope.now) result ≡ scope_kept self.now id.number }
+    {
+        match self.get(id) {
+            None => None,
+            Some(called) => scope_in(called),
+        }
     }
 
     /// Whether what is kept for the numbers of these siblings and of all below them is right wherever they stand.
@@ -75,33 +91,55 @@ impl Names {
 }
 
 // Whether a node with this content may have any place where this is kept for its number.
-fn suits(content: &Content, name: Option<&Option<Expanded>>) -> bool
-    ensures { result ≡ suits (content_of content.now) (option_map (λ name. name.now) name.entry) }
+fn suits(content: &Content, called: Option<&Called>) -> bool
+    ensures { result ≡ suits (content_of content.now) (option_map (λ called. called.now) called.entry) }
 {
-    match name {
+    match called {
         None => true,
-        Some(Some(_)) => false,
-        Some(None) => match content {
-            Content::Text { .. } | Content::Comment { .. } => true,
-            Content::Element { .. } | Content::Instruction { .. } => false,
-        },
+        Some(called) => is_nameless(content) && is_nothing(called),
     }
 }
 
-// The name at this index, from 0.
-fn name_at(names: &[Option<Expanded>], index: u64) -> Option<&Option<Expanded>>
-    ensures { option_map (λ name. name.now) result ≡ slice_get names.now index }
+// Whether a node with this content has no name, and no scope is kept of it, wherever it stands.
+fn is_nameless(content: &Content) -> bool
+    ensures { result ≡ is_nameless (content_of content.now) }
 {
-    if index >= names.len() as u64 {
+    match content {
+        Content::Text { .. } | Content::Comment { .. } => true,
+        Content::Element { .. } | Content::Instruction { .. } => false,
+    }
+}
+
+// Whether that is what is kept.
+fn is_nothing(called: &Called) -> bool
+    ensures { result ≡ is_nothing called.now }
+{
+    called.name.is_none() && called.scope.is_none()
+}
+
+fn scope_in(called: &Called) -> Option<&Scope>
+    ensures { option_map (λ scope. scope.now) result ≡ called.now.scope }
+{
+    match &called.scope {
+        None => None,
+        Some(scope) => Some(scope),
+    }
+}
+
+// What stands at this index, from 0.
+fn called_at(list: &[Called], index: u64) -> Option<&Called>
+    ensures { option_map (λ called. called.now) result ≡ slice_get list.now index }
+{
+    if index >= list.len() as u64 {
         return None;
     }
-    Some(&names[index as usize])
+    Some(&list[index as usize])
 }
 
-// Adds the names of these siblings, which stand in this scope, and of all below them.
+// Adds what is kept of these siblings, which stand in this scope, and of all below them.
 fn push_names(
     alloc: Global,
-    list: &mut Vec<Option<Expanded>>,
+    list: &mut Vec<Called>,
     siblings: &[Rc<Node>],
     scope: &Scope,
 ) -> Result<(), Memory>
@@ -110,11 +148,33 @@ fn push_names(
     for sibling in siblings {
         let mut inner = scope.copy()?;
         enter(alloc, &mut inner, sibling.content())?;
-        let name = content_name(alloc, sibling.content(), &inner)?;
-        list.push(name)?;
+        let called = called_by(alloc, sibling.content(), &inner)?;
+        list.push(called)?;
         push_names(alloc, list, sibling.children.as_slice(), &inner)?;
     }
     Ok(())
+}
+
+// What is kept of a node with this content, inside which this scope is.
+fn called_by(alloc: Global, content: &Content, scope: &Scope) -> Result<Called, Memory>
+    ensures { IfOk result (λ called. called ≡ called_by (Some (content_of content.now)) scope.now) }
+{
+    let name = content_name(alloc, content, scope)?;
+    let Ok(scope) = scope_by(content, scope) else {
+        drop(name);
+        return Err(Memory);
+    };
+    Ok(Called { name, scope })
+}
+
+// The scope inside an element; it is kept of no other node.
+fn scope_by(content: &Content, scope: &Scope) -> Result<Option<Scope>, Memory>
+    ensures { IfOk result (λ own. own ≡ scope_by (Some (content_of content.now)) scope.now) }
+{
+    match content {
+        Content::Element { .. } => Ok(Some(scope.copy()?)),
+        Content::Text { .. } | Content::Comment { .. } | Content::Instruction { .. } => Ok(None),
+    }
 }
 
 /// Whether a name that may be none is this one.

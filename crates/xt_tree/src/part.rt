@@ -1,4 +1,4 @@
-// Parts of nodes: their attributes, and the namespaces in scope at them.
+// Parts of nodes: their attributes, and what their declarations and names mean.
 ghost use Rattle.std.specs.Prelude.{◌≡◌, Some, map, not, IfOk, OnOk};
 ghost use Rattle.std.specs.Option.{option_map, option_and_then};
 ghost use Rattle.std.specs.Str.{chars};
@@ -6,14 +6,13 @@ ghost use Rattle.spec_document.specs.Name.{qname_of};
 ghost use Rattle.spec_document.specs.Declaration as spec;
 ghost use Rattle.std.specs.List.{filter};
 ghost use Rattle.spec_document.specs.Declaration.{is_declaration, declared_all, within};
-ghost use Rattle.spec_document.specs.Place.{at_number, attributes_in, name_by, written_by};
-ghost use Rattle.xt_names.specs.View.{entry_of, entries_of};
+ghost use Rattle.spec_document.specs.Place.{attributes_in, name_by, written_by};
 ghost use Rattle.xt_tree.specs.View.{written_of, content_of};
 
 use crate::{Content, Written};
 use std::alloc::Global;
 use std::rc::Rc;
-use xt_names::{Expanded, Namespace, QName, Scope, is_declaration};
+use xt_names::{Expanded, QName, Scope, is_declaration};
 use xt_text::{Memory, Text};
 
 /// The attributes of an element in their order. Other nodes have none.
@@ -58,20 +57,6 @@ fn declare_all(alloc: Global, scope: &mut Scope, attributes: &[Written]) -> Resu
         scope.declare(alloc, attribute.name.as_str(), attribute.value.as_str())?;
     }
     Ok(())
-}
-
-/// The namespace of this number, from 1.
-pub fn namespace_at(namespaces: &[Rc<Namespace>], number: u64) -> Option<&Namespace>
-    ensures { option_map (λ n. entry_of n.now) result ≡ at_number number (entries_of namespaces.now) }
-{
-    let mut left = number;
-    for namespace in namespaces {
-        if left == 1 {
-            return Some(namespace);
-        }
-        left = left.saturating_sub(1);
-    }
-    None
 }
 
 /// The name of a node of the tree with this content as it is written; empty where it has none.

@@ -5,7 +5,6 @@ ghost use Rattle.spec_document.specs.Place.{node_at, scope_at, attributes_of, na
 ghost use Rattle.xt_tree.specs.View.{IsPlaceOf, IsWayTo, item_of, numbered_node};
 
 use crate::find::lead;
-use crate::part::namespace_at;
 use crate::{Doc, NodeId, NodeRef, Part};
 use spec_document::Kind;
 use std::alloc::Global;
@@ -95,15 +94,25 @@ impl Doc {
     {
         match self.own_kind(node.node) {
             Kind::Element => {
-                let namespaces = self.scope_of(alloc, node)?.namespaces(alloc)?;
-                Ok(namespace_at(namespaces.as_slice(), number).is_some())
+                let scope = self.scope_of(alloc, node)?;
+                Ok(scope.namespace(number).is_some())
             }
             _ => Ok(false),
         }
     }
 
-    // The scope at the node of this number, where there is one.
+    // The scope at the node of this number, where there is one. One that is kept is shared.
     pub(crate) fn scope_of(&self, alloc: Global, node: &NodeRef) -> Result<Scope, Memory>
+        ensures { IfOk result (λ scope. ForSome (numbered_node self.now node.now.node.number) (λ node. scope ≡ scope_at node)) }
+    {
+        match self.names.scope(node.node) {
+            Some(scope) => scope.copy(),
+            None => self.scope_by_way(alloc, node),
+        }
+    }
+
+    // The same by what is declared on the way from the root.
+    fn scope_by_way(&self, alloc: Global, node: &NodeRef) -> Result<Scope, Memory>
         ensures { IfOk result (λ scope. ForSome (numbered_node self.now node.now.node.number) (λ node. scope ≡ scope_at node)) }
     {
         match self.way(alloc, node.node)? {

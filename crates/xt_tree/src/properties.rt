@@ -8,9 +8,9 @@ ghost use Rattle.spec_document.specs.Place.{expanded_name, name_by, scope_at, ki
 ghost use Rattle.xt_names.specs.View.{entries_of};
 ghost use Rattle.xt_tree.specs.View.{content_of, item_of, numbered_node, written_of};
 
-use crate::find::{push_texts, push_value};
+use crate::find::{texts_of, value_of};
 use crate::names::{has_local, is_local, is_name, is_plain_name};
-use crate::part::{attribute_name, attributes_in, content_name, content_written, namespace_at};
+use crate::part::{attribute_name, attributes_in, content_name, content_written};
 use crate::{Content, Doc, NodeId, NodeRef, Part, Written};
 use spec_document::Kind;
 use std::alloc::Global;
@@ -57,17 +57,12 @@ impl Doc {
     fn own_value(&self, alloc: Global, id: NodeId) -> Result<Text, Memory>
         ensures { IfOk result (λ text. ForSome (numbered_node self.now id.number) (λ node. text ≡ string_value_by node.content node.children)) }
     {
-        let mut text = Text::new(alloc);
         if self.root == id {
-            push_texts(&mut text, self.children.as_slice())?;
-            return Ok(text);
+            return texts_of(alloc, self.children.as_slice());
         }
         match self.node(id) {
-            None => Ok(text),
-            Some(node) => {
-                push_value(&mut text, node)?;
-                Ok(text)
-            }
+            None => Ok(Text::new(alloc)),
+            Some(node) => value_of(alloc, node),
         }
     }
 
@@ -84,8 +79,8 @@ impl Doc {
     fn namespace_uri(&self, alloc: Global, node: &NodeRef, number: u64) -> Result<Text, Memory>
         ensures { IfOk result (λ text. ForSome (numbered_node self.now node.now.node.number) (λ found. ForSome (at_number number (namespaces_in (scope_at found))) (λ n. text ≡ n.1))) }
     {
-        let namespaces = self.scope_of(alloc, node)?.namespaces(alloc)?;
-        match namespace_at(namespaces.as_slice(), number) {
+        let scope = self.scope_of(alloc, node)?;
+        match scope.namespace(number) {
             None => Ok(Text::new(alloc)),
             Some(namespace) => namespace.uri.copy(alloc),
         }
@@ -161,8 +156,8 @@ impl Doc {
     fn namespace_prefix(&self, alloc: Global, node: &NodeRef, number: u64) -> Result<Text, Memory>
         ensures { IfOk result (λ text. ForSome (numbered_node self.now node.now.node.number) (λ found. ForSome (at_number number (namespaces_in (scope_at found))) (λ n. text ≡ n.0))) }
     {
-        let namespaces = self.scope_of(alloc, node)?.namespaces(alloc)?;
-        match namespace_at(namespaces.as_slice(), number) {
+        let scope = self.scope_of(alloc, node)?;
+        match scope.namespace(number) {
             None => Ok(Text::new(alloc)),
             Some(namespace) => namespace.prefix.copy(alloc),
         }
@@ -186,7 +181,7 @@ impl Doc {
         ensures { IfOk result (λ name. ForSome (numbered_node self.now node.now.node.number) (λ found. name ≡ name_by found.content (scope_at found))) }
     {
         match self.names.get(node.node) {
-            Some(name) => copy_name_if(alloc, name),
+            Some(called) => copy_name_if(alloc, &called.name),
             None => self.resolved_name(alloc, node),
         }
     }
@@ -262,8 +257,8 @@ impl Doc {
         ensures { IfOk result (λ name. ForSome (numbered_node self.now node.now.node.number) (λ found. ForSome (at_number number (namespaces_in (scope_at found)))
             (λ n. name ≡ Some (record { uri = []; local = n.0 })))) }
     {
-        let namespaces = self.scope_of(alloc, node)?.namespaces(alloc)?;
-        match namespace_at(namespaces.as_slice(), number) {
+        let scope = self.scope_of(alloc, node)?;
+        match scope.namespace(number) {
             None => Ok(None),
             Some(namespace) => Ok(Some(Expanded::new(
                 Text::new(alloc),
@@ -290,7 +285,7 @@ impl Doc {
             (λ found. is ≡ same_expanded (Some wanted.now) (name_by found.content (scope_at found)))) }
     {
         match self.names.get(node.node) {
-            Some(name) => Ok(is_name(name, wanted)),
+            Some(called) => Ok(is_name(&called.name, wanted)),
             None => self.resolves_to(alloc, node, wanted),
         }
     }

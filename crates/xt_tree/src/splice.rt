@@ -11,6 +11,7 @@ ghost use Rattle.xt_tree.specs.Numbers.{IsNumbered};
 ghost use Rattle.xt_tree.specs.Room.{AreBeside, AreKeyed, IsRoom};
 ghost use Rattle.xt_tree.specs.View.{forest_of};
 
+use crate::by_number::ByNumber;
 use crate::doc::node;
 use crate::find::sibling_at;
 use crate::keys::{give_keys, new_keys};
@@ -49,10 +50,13 @@ impl Doc {
                 let children = changed(alloc, siblings, parent, from, to, new)?;
                 let keys = keys_in(alloc, &self.keys, room, new, children.as_slice())?;
                 let names = names_beside(alloc, &self.names, new)?;
+                let unknown = ByNumber::none(alloc);
+                let by_number = Rc::new(alloc, unknown)?;
                 Ok(Doc {
                     root: self.root,
                     keys,
                     names,
+                    by_number,
                     children,
                 })
             }
@@ -65,11 +69,13 @@ impl Doc {
     {
         let keys = self.keys.copy()?;
         let names = self.names.clone()?;
+        let by_number = self.by_number.clone()?;
         let children = shared(alloc, self.children.as_slice())?;
         Ok(Doc {
             root: self.root,
             keys,
             names,
+            by_number,
             children,
         })
     }
@@ -174,9 +180,9 @@ fn next_limit(keys: &Table, siblings: &[Rc<Node>]) -> Option<u64>
     Some(keys.limit())
 }
 
-// ---- Names
+// ---- Names and scopes
 
-// The names that stay right where these nodes come in: all or none.
+// The names and scopes that stay right where these nodes come in: all or none.
 fn names_beside(alloc: Global, names: &Rc<Names>, new: &[Rc<Node>]) -> Result<Rc<Names>, Memory>
     ensures { IfOk result (λ own. AreBeside (kept_at names.now.value) (kept_at own.value) (forest_of new.now)) }
 {

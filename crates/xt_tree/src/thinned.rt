@@ -5,8 +5,10 @@ ghost use Rattle.spec_document.specs.Forest.{followed};
 ghost use Rattle.xt_tree.specs.Thinned.{LosesNodes};
 ghost use Rattle.xt_tree.specs.View.{tree_of};
 
+use crate::by_number::ByNumber;
 use crate::{Doc, Node, Nodes};
 use std::alloc::Global;
+use std::rc::Rc;
 use xt_text::Memory;
 
 impl Nodes {
@@ -29,11 +31,15 @@ impl Doc {
     {
         let keys = self.keys.copy()?;
         let names = self.names.clone()?;
+        let alloc = *self.children.allocator();
+        let unknown = ByNumber::none(alloc);
+        let by_number = Rc::new(alloc, unknown)?;
         let children = nodes.into_list();
         Ok(Doc {
             root: self.root,
             keys,
             names,
+            by_number,
             children,
         })
     }

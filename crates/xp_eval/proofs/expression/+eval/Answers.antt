@@ -251,9 +251,9 @@ stepped-returns-in_err-more-clause-runs g t c f =
           c.args.step.now,
     ) at (c.in_err-more.ensures.runs f)))))
 
-pub stepped-returns-in_err-extend_from_slice-clause-runs : goal.stepped-returns-in_err-extend_from_slice-clause-runs
-stepped-returns-in_err-extend_from_slice-clause-runs g t c f =
-    exits _ c.from_residual-in_err-extend_from_slice.ensures.1 (runs_from (step_turn (kept_by (step_of c.args.step.now).predicates (context_of f
+pub stepped-returns-in_err-add-clause-runs : goal.stepped-returns-in_err-add-clause-runs
+stepped-returns-in_err-add-clause-runs g t c f =
+    exits _ c.from_residual-in_err-add.ensures.1 (runs_from (step_turn (kept_by (step_of c.args.step.now).predicates (context_of f
     c.args.context.now)) (step_of c.args.step.now).axis (step_of c.args.step.now).test c.loop-node.done.items (drop (c.loop-node.node-index + 1)
     c.args.nodes.now) _ (next_turn (stepped (kept_by (step_of c.args.step.now).predicates (context_of f c.args.context.now)) (step_of
     c.args.step.now).axis (step_of c.args.step.now).test c.loop-node.done.items) c.args.nodes.now c.loop-node.node-index _ (omega arith)
@@ -272,7 +272,7 @@ stepped-returns-in_err-extend_from_slice-clause-runs g t c f =
 pub stepped-loop-node-preserved : goal.stepped-loop-node-preserved
 stepped-loop-node-preserved g t c =
     record {
-      same = λ f. rw (c.in_ok-extend_from_slice.ensures.items, c.as_slice-in-loop-node.ensures.value) (goes_on _ (goes_on _ (step_turn
+      same = λ f. rw (c.in_ok-add.ensures) (goes_on _ (goes_on _ (step_turn
           (kept_by (step_of c.args.step.now).predicates (context_of f c.args.context.now)) (step_of c.args.step.now).axis (step_of c.args.step.now).test
           c.loop-node.done.items (drop (c.loop-node.node-index + 1) c.args.nodes.now) _ (next_turn (stepped (kept_by (step_of
           c.args.step.now).predicates (context_of f c.args.context.now)) (step_of c.args.step.now).axis (step_of c.args.step.now).test

@@ -1,8 +1,8 @@
-use Rattle.std.proofs.Common.{◌≡◌, List, ℕ, [], true, Option, None, Some, refl, sym, ap, ◌∙◌}
+use Rattle.std.proofs.Common.{◌≡◌, List, ℕ, [], true, None, Some, refl, sym, ap, ◌∙◌}
 use Rattle.std.proofs.lemmas.Str.{chars-nil}
 use Rattle.spec_document.specs.declared.usage.AttributeUse.TheVariants.{Declares}
 use Rattle.spec_document.specs.Name.{QName, qname_of}
-use Rattle.spec_document.specs.Declaration.{is_xmlns, use_of, use_of_qname}
+use Rattle.spec_document.specs.Declaration.{is_xmlns, use_of}
 use Rattle.xt_names.proofs.declaration.use_of.Goals as goal
 
 default_declared : (written : List ℕ) (n : QName) → Some n ≡ qname_of written → None ≡ n.prefix → is_xmlns n.local ≡ true → Declares [] ≡ use_of written

@@ -20,7 +20,7 @@ returns-in_err-node c =
     record {
       number = number;
       item = ap (option_and_then (item_of c.args.self.now)) number
-          ∙ item_at_number c.args.self.now c.args.path.now (subst IsNumbered c.self.view_is c.self.invariant.numbers);
+          ∙ item_at_number c.args.self.now c.args.path.now (subst IsNumbered c.self.view_is c.self.invariant.sound.numbers);
     }
 
 pub loop-position-preserved : goal.loop-position-preserved
@@ -44,5 +44,5 @@ returns c =
     record {
       number = number;
       item = ap (option_and_then (item_of c.args.self.now)) number
-          ∙ item_at_number c.args.self.now c.args.path.now (subst IsNumbered c.self.view_is c.self.invariant.numbers);
+          ∙ item_at_number c.args.self.now c.args.path.now (subst IsNumbered c.self.view_is c.self.invariant.sound.numbers);
     }

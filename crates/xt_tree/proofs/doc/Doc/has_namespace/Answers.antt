@@ -1,18 +1,16 @@
 use Rattle.std.proofs.Common.{◌∙◌, sym, ap, is_some}
 use Rattle.spec_document.specs.Declaration.{namespaces_in}
 use Rattle.spec_document.specs.Place.{at_number, scope_at}
-use Rattle.xt_names.specs.View.{entry_of, entries_of}
+use Rattle.xt_names.specs.View.{entry_of}
 use Rattle.xt_tree.proofs.Ways.{some_mapped, in_element, in_no_element}
 use Rattle.xt_tree.proofs.doc.Doc.has_namespace.Goals as goal
 
-pub returns-in_ok-namespaces-in-Element : goal.returns-in_ok-namespaces-in-Element
-returns-in_ok-namespaces-in-Element c x e =
+pub returns-in_ok-scope-in-Element : goal.returns-in_ok-scope-in-Element
+returns-in_ok-scope-in-Element c x e =
     let is = sym (c.own_kind.ensures x e) ∙ c.in-Element.is in
-    let list = c.in_ok-namespaces-in-Element.ensures ∙ ap namespaces_in (c.in_ok-scope_of-in-Element.ensures x e)
-    ∙ sym (in_element x.content (scope_at x) is) in
-    c.is_some.ensures ∙ sym (some_mapped (λ n. entry_of n.now) c.namespace_at.result)
-    ∙ ap is_some (c.namespace_at.ensures ∙ ap (λ xs. at_number c.args.number (entries_of xs)) c.as_slice.ensures.value
-    ∙ ap (at_number c.args.number) list)
+    let list = ap namespaces_in (c.in_ok-scope-in-Element.ensures x e) ∙ sym (in_element x.content (scope_at x) is) in
+    c.is_some.ensures ∙ sym (some_mapped (λ n. entry_of n.now) c.namespace.result)
+    ∙ ap is_some (c.namespace.ensures ∙ ap (at_number c.args.number) list)
 
 pub returns-in_default : goal.returns-in_default
 returns-in_default c x e =

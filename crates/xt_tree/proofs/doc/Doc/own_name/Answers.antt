@@ -12,6 +12,6 @@ returns-in-Some c =
     let number = c.args.node.now.node.number in
     more_known _ _ c.copy_name_if.result
     (λ name known x e.
-    known ∙ c.self.invariant.names number c.in-Some.name.now (sym (c.in-Some.ensures ∙ ap (λ names. kept_at names number) c.deref.ensures)) x
-    (ap (λ d. numbered_node d number) c.self.view_is ∙ e))
+    known ∙ ap (λ called. called.name) (c.self.invariant.sound.names number c.in-Some.called.now
+    (sym (c.in-Some.ensures ∙ ap (λ names. kept_at names number) c.deref.ensures)) x (ap (λ d. numbered_node d number) c.self.view_is ∙ e)))
     c.copy_name_if.ensures

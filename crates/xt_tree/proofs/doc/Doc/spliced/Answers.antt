@@ -10,6 +10,7 @@ use Rattle.xt_tree.specs.Numbers.{IsDocument, IsNumbered}
 use Rattle.xt_tree.specs.Room.{IsRoom, between, room_of}
 use Rattle.xt_tree.specs.View.{forest_of}
 use Rattle.xt_tree.proofs.Apart.{are_few}
+use Rattle.xt_tree.proofs.ByNumber.{no_nodes}
 use Rattle.xt_tree.proofs.Parted.{names_stay, nothing_changed, room_is}
 use Rattle.xt_tree.proofs.doc.Doc.spliced.Goals as goal
 use Rattle.xt_tree.proofs.doc.Doc.spliced.Goals.{After-as_slice}
@@ -60,7 +61,7 @@ room c =
     let i = c.self.inside in
     room_is (key_by i.keys) (kept_at i.names.value) i.root.number c.args.from c.args.to (forest_of c.list-new.result.now) c.args.parent.now
     (forest_of i.children.items) (forest_of c.as_slice.result.now) (between c.in-Some.room.low c.in-Some.room.high)
-    c.self.invariant (numbers c) (placed c) c.requires.order (there c)
+    c.self.invariant.sound (numbers c) (placed c) c.requires.order (there c)
 
 pub keys_in-requires-clause-room : goal.keys_in-requires-clause-room
 keys_in-requires-clause-room c = room (goal.at.keys_in-requires-clause-room c).After-as_slice
@@ -83,7 +84,7 @@ invariant_of-result c =
     let kept = kept_at c.in_ok-names-in-Some.names.value in
     let made = forest_of c.as_slice.result.now in
     let keyed = c.in_ok-keys-in-Some.ensures in
-    subst (λ xs. IsDocument own kept (record { root = i.root.number; nodes = forest_of xs })) c.as_slice.ensures.value
+    let whole = subst (λ xs. IsDocument own kept (record { root = i.root.number; nodes = forest_of xs })) c.as_slice.ensures.value
     (record {
       numbers = numbers at;
       depth = subst (λ f. height f ≤ greatest_depth + 1) (sym (whole at)) c.requires.depth;
@@ -91,9 +92,10 @@ invariant_of-result c =
       rises = keyed.rises;
       limit = keyed.limit;
       names = names_stay (key_by i.keys) (kept_at i.names.value) kept i.root.number c.args.from c.args.to (forest_of c.list-new.result.now)
-          c.args.parent.now (forest_of i.children.items) made (between c.in-Some.room.low c.in-Some.room.high) c.self.invariant (placed at) c.requires.order
+          c.args.parent.now (forest_of i.children.items) made (between c.in-Some.room.low c.in-Some.room.high) c.self.invariant.sound (placed at) c.requires.order
           (there at) c.in_ok-names-in-Some.ensures;
-    })
+    }) in
+    record { sound = whole; found = no_nodes c.in_ok-by_number-in-Some.by_number.value _ (ap (λ n. n.is_whole) c.in_ok-by_number-in-Some.ensures.ok ∙ c.none-unknown.ensures) }
 
 pub returns : goal.returns
 returns c =

@@ -12,7 +12,7 @@ returns-then-eq-clause-only c =
     let number = c.args.id.number in
     let same : (d.root == number) ≡ true = ap (λ e. e.root == number) (sym c.self.view_is) ∙ sym c.eq.ensures ∙ c.if-eq.true in
     let way = subst (λ p. IsWayTo d number (Some p)) (sym c.new-path.ensures) (root_way d number same) in
-    only_way d number (Some c.new-path.result) (subst IsNumbered c.self.view_is c.self.invariant.numbers) way
+    only_way d number (Some c.new-path.result) (subst IsNumbered c.self.view_is c.self.invariant.sound.numbers) way
 
 pub returns-then-branch : goal.returns-then-branch
 returns-then-branch c =
@@ -25,7 +25,7 @@ returns-then-branch c =
     sym same ∙ from_nothing _ _ (ap (λ p. option_map (λ w. p ++ w) (way_to number 1 (forest_of c.as_slice.result.now))) (sym c.new-path.ensures)
     ∙ c.in_ok-lead.ensures ∙ ap (λ b. if b then Some c.lead.new.path else None) c.if-branch.true) in
     let way = way_is d number (Some c.lead.new.path) apart led in
-    record { way = way; only = only_way d number (Some c.lead.new.path) (subst IsNumbered c.self.view_is c.self.invariant.numbers) way }
+    record { way = way; only = only_way d number (Some c.lead.new.path) (subst IsNumbered c.self.view_is c.self.invariant.sound.numbers) way }
 
 pub returns : goal.returns
 returns c =
@@ -38,4 +38,4 @@ returns c =
     sym same ∙ nothing_on _ (ap (λ p. option_map (λ w. p ++ w) (way_to number 1 (forest_of c.as_slice.result.now))) (sym c.new-path.ensures)
     ∙ c.in_ok-lead.ensures ∙ ap (λ b. if b then Some c.lead.new.path else None) c.if-branch.false) in
     let way = way_is d number None apart led in
-    record { way = way; only = only_way d number None (subst IsNumbered c.self.view_is c.self.invariant.numbers) way }
+    record { way = way; only = only_way d number None (subst IsNumbered c.self.view_is c.self.invariant.sound.numbers) way }

@@ -1,6 +1,0 @@
-use Rattle.xt_tree.proofs.Views.{view-Node}
-use Rattle.xt_tree.proofs.find.push_value.Goals as goal
-
-pub returns-in-Element : goal.returns-in-Element
-returns-in-Element c =
-    rw (← c.content.ensures, c.in-Element.is) (rw (view-Node c.args.node.now, ← c.as_slice.ensures.value) c.push_texts.ensures)
