@@ -1,5 +1,5 @@
 -- Where all that a run enters is kept, nothing of it is run again.
-use Rattle.std.proofs.Common.{◌≡◌, ℕ, false, List, [], ◌∷◌, refl, inl, inr, arith}
+use Rattle.std.proofs.Common.{◌≡◌, ℕ, List, [], ◌∷◌, refl, inl, inr, arith}
 use Rattle.std.specs.Prelude.{length}
 use Rattle.spec_run.specs.Trail.{Kept}
 use Rattle.spec_run.specs.Meaning.{Setting}
@@ -19,12 +19,11 @@ none_new : (s : Setting NodeRef) (before : List (Kept NodeRef)) (list : List (In
     → AreSomeOf list (instantiations s) → ((i : Instantiation NodeRef) → IsIn i list → ¬ (IsFound s before i)) → length list ≡ 0
 none_new s before [] keeps ends some new = refl
 none_new s before (i ∷ is) keeps ends some new =
-    let among = is_in_all i some (inl refl) in absurd (new i (inl refl) (keeps i among (ends i among)))
+    let among = is_in_all i some (inl refl) in absurd (new i (inl refl) (keeps.all i among (ends i among)))
 
-pub none_again : (s : Setting NodeRef) (before after : List (Kept NodeRef)) (ran : ℕ) → KeepsRun s before → AllEnd s (instantiations s)
-    → IsCost s before ran after → ran ≡ 0
-none_again s before after ran keeps ends cost =
-    let counted = cost.counted (λ target node. false) (λ kept among. refl) in
-    let none = none_new s before cost.list keeps ends counted.of_run counted.new in
+pub none_again : (s : Setting NodeRef) (before after : List (Kept NodeRef)) (ran asked : ℕ) → KeepsRun s before → AllEnd s (instantiations s)
+    → IsCost s before ran asked after → ran ≡ 0
+none_again s before after ran asked keeps ends cost =
+    let none = none_new s before cost.list keeps ends cost.counted.of_run cost.counted.new in
     let told = cost.told in
     omega (arith, none, told)

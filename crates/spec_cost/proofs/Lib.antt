@@ -1,3 +1,4 @@
 pub mod Some
 pub mod Enough
 pub mod Again
+pub mod Fresh

@@ -1,5 +1,5 @@
 -- Some of a list are no more than all.
-use Rattle.std.proofs.Common.{ℕ, false, List, refl, arith}
+use Rattle.std.proofs.Common.{ℕ, List, arith}
 use Rattle.std.specs.Prelude.{◌≤◌, length}
 use Rattle.spec_node.specs.declared.node_ref.NodeRef.{NodeRef}
 use Rattle.spec_run.specs.Trail.{Kept}
@@ -13,8 +13,8 @@ some_are_no_more no_more = omega arith
 some_are_no_more (taken more) = let fewer = some_are_no_more more in omega (arith, fewer)
 some_are_no_more (left_out more) = let fewer = some_are_no_more more in omega (arith, fewer)
 
-pub no_more_is_run : (s : Setting NodeRef) (before after : List (Kept NodeRef)) (ran : ℕ) → IsCost s before ran after → ran ≤ length (instantiations s)
-no_more_is_run s before after ran cost =
-    let fewer = some_are_no_more (cost.counted (λ target node. false) (λ kept among. refl)).of_run in
+pub no_more_is_run : (s : Setting NodeRef) (before after : List (Kept NodeRef)) (ran asked : ℕ) → IsCost s before ran asked after → ran ≤ length (instantiations s)
+no_more_is_run s before after ran asked cost =
+    let fewer = some_are_no_more cost.counted.of_run in
     let told = cost.told in
     omega (arith, fewer, told)

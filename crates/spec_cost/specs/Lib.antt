@@ -1,3 +1,5 @@
 pub mod Numbers
+pub mod Naming
 pub mod Past
 pub mod Paying
+pub mod Fresh

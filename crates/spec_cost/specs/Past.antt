@@ -1,23 +1,25 @@
 -- What a session remembers besides the documents, so that it is said what a change costs. Nothing that is told but the numbers of `stats` depends on it.
-use Rattle.std.specs.Prelude.{ℕ, Bool, false, List, [], Option, None}
-use Rattle.spec_document.specs.Forest.{Document}
+use Rattle.std.specs.Prelude.{ℕ, Bool, false, List, []}
 use Rattle.spec_stylesheet.specs.Place.{Place}
 use Rattle.spec_run.specs.Trail.{Kept}
 use Rattle.spec_node.specs.declared.node_ref.NodeRef.{NodeRef}
+use Rattle.spec_cost.specs.Numbers.{NumberedDocuments, no_numbers}
 
 pub record Past : Type 0 where
-  -- the source with the numbers of its nodes, as it is present and as changes speak of it
-  pub present : Option (Document ℕ)
-  pub edited : Option (Document ℕ)
+  -- the documents with the numbers of their nodes, as they are present and as changes speak of them
+  pub present : NumberedDocuments
+  pub edited : NumberedDocuments
   -- whether a change of the batch that is open was one of a module
   pub is_edited : Bool
   -- what the element at each place of the present modules is called
   pub called : Place → NodeRef
   -- what was kept of the last run that ended with a result
   pub records : List (Kept NodeRef)
-  -- how many instantiations the last change outside a batch, or commit, has run
+  -- how many instantiations the last change outside a batch, or commit, has run, and how many questions it has asked again
   pub ran : ℕ
+  pub asked : ℕ
 
--- at the start there is no source, nothing is kept and nothing was run
+-- at the start there is no document, nothing is kept, and nothing was run or asked
 abbrev pub nothing_past : (Place → NodeRef) → Past
-nothing_past called = record { present = None; edited = None; is_edited = false; called = called; records = []; ran = 0 }
+nothing_past called =
+    record { present = no_numbers; edited = no_numbers; is_edited = false; called = called; records = []; ran = 0; asked = 0 }

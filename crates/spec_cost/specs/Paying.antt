@@ -1,10 +1,11 @@
 -- What a change costs: which instantiations of the new run are counted, where some are served by what was kept of the last run that ended with a result,
--- and what is kept of the new one.
+-- how many of the questions of that are asked again, and what is kept of the new one.
 --     run_setting   the run of a stylesheet on a source whose nodes have numbers
+--     KeepsRun      what is kept of a run
 --     IsCost        what a run costs
 --     CostsOn       what a change costs, where there may be nothing to run
 --     Pays          what a change makes of the past
-use Rattle.std.specs.Prelude.{ℕ, ◌≡◌, ◌-◌, ◌^◌, List, length, min, Bool, true, false, ◌||◌, Option, None, Some, Result, Ok, Err}
+use Rattle.std.specs.Prelude.{ℕ, ◌≡◌, ◌≤◌, ◌+◌, ◌-◌, ◌^◌, List, [], ◌∷◌, length, min, Bool, true, false, ◌||◌, Option, None, Some, Result, Ok, Err}
 use Rattle.spec_document.specs.Forest.{Plain, Document}
 use Rattle.spec_document.specs.Order.{entries_of}
 use Rattle.spec_node.specs.declared.node_ref.NodeRef.{NodeRef}
@@ -17,6 +18,7 @@ use Rattle.spec_compile.specs.Sheet as compile
 use Rattle.spec_compile.specs.Sheet.{IsSheet}
 use Rattle.spec_seen.specs.Seen.{seen}
 use Rattle.spec_run.specs.Plan.{Refused, Target}
+use Rattle.spec_run.specs.Going.{Event, Asked, Saw, Entered, Held}
 use Rattle.spec_run.specs.Hold.{GoesOn}
 use Rattle.spec_run.specs.Trail.{Kept}
 use Rattle.spec_run.specs.Meaning.{Setting, run_of}
@@ -25,7 +27,9 @@ use Rattle.spec_run.specs.Documents.{Documents, Parameters, main_name}
 use Rattle.spec_items.specs.Liftable.{with_items}
 use Rattle.spec_reuse.specs.Among.{IsIn}
 use Rattle.spec_reuse.specs.Instantiation.{Instantiation, own_of, instantiations}
-use Rattle.spec_reuse.specs.Ledger.{AreCounted, IsFound}
+use Rattle.spec_reuse.specs.Ledger.{AreCounted, HasLike, IsFound}
+use Rattle.spec_cost.specs.Naming.{IsNamed}
+use Rattle.spec_cost.specs.Numbers.{NumberedDocuments}
 use Rattle.spec_cost.specs.Past.{Past}
 
 -- ---- The run
@@ -51,58 +55,79 @@ run_setting called sheet parameters source =
 abbrev pub most_told : ℕ
 most_told = 2 ^ 64 - 1
 
--- for each instantiation of the run that comes to its end one of these is a record that would be taken
-abbrev pub KeepsRun : Setting NodeRef → List (Kept NodeRef) → Type 0
-KeepsRun s records = (i : Instantiation NodeRef) → IsIn i (instantiations s) → GoesOn (own_of s i).ending → IsFound s records i
+-- for each instantiation of the run that comes to its end one of these is a record that would be taken; and each is of the unit and the node of one
+-- that the run has
+pub record KeepsRun (s : Setting NodeRef) (records : List (Kept NodeRef)) : Type 0 where
+  pub all : (i : Instantiation NodeRef) → IsIn i (instantiations s) → GoesOn (own_of s i).ending → IsFound s records i
+  pub only : (kept : Kept NodeRef) → IsIn kept records → HasLike (instantiations s) kept.call
 
 -- where the run is refused, what was kept before stays
 abbrev pub KeepsBy : Option Refused → Setting NodeRef → (before after : List (Kept NodeRef)) → Type 0
 KeepsBy None s before after = KeepsRun s after
 KeepsBy (Some why) s before after = after ≡ before
 
+-- none of these records is of this unit and this node
+abbrev pub IsUnrecorded : List (Kept NodeRef) → Target NodeRef → NodeRef → Type 0
+IsUnrecorded records unit node = (kept : Kept NodeRef) → IsIn kept records → kept.call.target ≡ unit → kept.call.node ≡ node → ⊥
+
+-- the questions that were asked among what was done, and of all of these records
+abbrev pub asked_in : List (Event NodeRef) → ℕ
+asked_in [] = 0
+asked_in (Asked question answer ∷ es) = 1 + asked_in es
+asked_in (Saw wanted depth place supplied ∷ es) = asked_in es
+asked_in (Entered call depth ∷ es) = asked_in es
+asked_in (Held first contents ∷ es) = asked_in es
+
+abbrev pub asked_among : List (Kept NodeRef) → ℕ
+asked_among [] = 0
+asked_among (kept ∷ records) = asked_in kept.trace + asked_among records
+
 -- So many instantiations of the run are counted, or the most that can be told: none for which one of the records before would be taken, of one call
--- that comes to its end one; and one of each unit and node that is new, if those that are new are such that no record is of one. And this is kept
-pub record IsCost (s : Setting NodeRef) (before : List (Kept NodeRef)) (ran : ℕ) (after : List (Kept NodeRef)) : Type 0 where
+-- that comes to its end one; and one of each unit and node that no record is of. No more questions are asked again than those records asked. And
+-- this is kept
+pub record IsCost (s : Setting NodeRef) (before : List (Kept NodeRef)) (ran asked : ℕ) (after : List (Kept NodeRef)) : Type 0 where
   pub list : List (Instantiation NodeRef)
-  pub counted : (is_new : Target NodeRef → NodeRef → Bool)
-      → ((kept : Kept NodeRef) → IsIn kept before → is_new kept.call.target kept.call.node ≡ false)
-      → AreCounted s before (λ target node. is_new target node ≡ true) list
+  pub counted : AreCounted s before (IsUnrecorded before) list
   pub told : ran ≡ min (length list) most_told
+  pub again : asked ≤ asked_among before
   pub keeps : KeepsBy (run_of s).refusal s before after
 
--- nothing is run, and what was kept stays
-pub record IsFree (before : List (Kept NodeRef)) (ran : ℕ) (after : List (Kept NodeRef)) : Type 0 where
+-- nothing is run, nothing is asked, and what was kept stays
+pub record IsFree (before : List (Kept NodeRef)) (ran asked : ℕ) (after : List (Kept NodeRef)) : Type 0 where
   pub told : ran ≡ 0
+  pub again : asked ≡ 0
   pub keeps : after ≡ before
 
 -- ---- What a change costs
 
 -- the modules are this stylesheet, or have this refusal
-abbrev pub CostsBy : (Place → NodeRef) → Parameters → Document ℕ → Result Sheet compile.Refusal → (before : List (Kept NodeRef)) → ℕ
+abbrev pub CostsBy : (Place → NodeRef) → Parameters → Document ℕ → Result Sheet compile.Refusal → (before : List (Kept NodeRef)) → (ran asked : ℕ)
     → (after : List (Kept NodeRef)) → Type 0
-CostsBy called parameters source (Err why) before ran after = IsFree before ran after
-CostsBy called parameters source (Ok sheet) before ran after = IsCost (run_setting called sheet parameters source) before ran after
+CostsBy called parameters source (Err why) before ran asked after = IsFree before ran asked after
+CostsBy called parameters source (Ok sheet) before ran asked after = IsCost (run_setting called sheet parameters source) before ran asked after
 
 -- where there is a principal module and a source
-abbrev pub CostsOn : (Place → NodeRef) → Modules → Parameters → Option Plain → Option (Document ℕ) → (before : List (Kept NodeRef)) → ℕ
+abbrev pub CostsOn : (Place → NodeRef) → Modules → Parameters → Option Plain → Option (Document ℕ) → (before : List (Kept NodeRef)) → (ran asked : ℕ)
     → (after : List (Kept NodeRef)) → Type 0
-CostsOn called modules parameters None source before ran after = IsFree before ran after
-CostsOn called modules parameters (Some main) None before ran after = IsFree before ran after
-CostsOn called modules parameters (Some main) (Some source) before ran after =
-    (result : Result Sheet compile.Refusal) × IsSheet modules main_name result × CostsBy called parameters source result before ran after
+CostsOn called modules parameters None source before ran asked after = IsFree before ran asked after
+CostsOn called modules parameters (Some main) None before ran asked after = IsFree before ran asked after
+CostsOn called modules parameters (Some main) (Some source) before ran asked after =
+    (result : Result Sheet compile.Refusal) × IsSheet modules main_name result × CostsBy called parameters source result before ran asked after
 
--- A change that is present at once, or a commit, by which these documents are present, and this is the source with its numbers. Where it is not one of
--- a module, and no change of the batch was, all units are called as before
-pub record Pays (documents : Documents) (source : Option (Document ℕ)) (is_of_module : Bool) (before after : Past) : Type 0 where
-  pub present : after.present ≡ source
-  pub edited : after.edited ≡ source
+-- A change that is present at once, or a commit, by which these documents are present, and these are their numbers. Where it is one of a module, or a
+-- change of the batch was, units are called by the numbers that the modules have then, and else as before
+pub record Pays (documents : Documents) (numbered : NumberedDocuments) (is_of_module : Bool) (before after : Past) : Type 0 where
+  pub present : after.present ≡ numbered
+  pub edited : after.edited ≡ numbered
   pub closed : after.is_edited ≡ false
   pub called : (before.is_edited || is_of_module) ≡ false → after.called ≡ before.called
-  pub costs : CostsOn after.called documents.modules documents.parameters (documents.modules main_name) source before.records after.ran after.records
+  pub named : (before.is_edited || is_of_module) ≡ true → IsNamed after.called documents.modules numbered.modules
+  pub costs : CostsOn after.called documents.modules documents.parameters (documents.modules main_name) numbered.source before.records after.ran after.asked
+      after.records
 
--- a change in a batch, which makes this of the numbered source. Nothing is run
-abbrev pub with_pending : Option (Document ℕ) → (is_of_module : Bool) → Past → Past
-with_pending source is_of_module before = record before { edited = source; is_edited = before.is_edited || is_of_module }
+-- a change in a batch, which makes this of the numbered documents. Nothing is run
+abbrev pub with_pending : NumberedDocuments → (is_of_module : Bool) → Past → Past
+with_pending numbered is_of_module before = record before { edited = numbered; is_edited = before.is_edited || is_of_module }
 
 -- a batch that is dropped
 abbrev pub without_pending : Past → Past

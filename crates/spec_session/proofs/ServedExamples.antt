@@ -71,7 +71,7 @@ counts_are_answered = record {
   run = (initial, inl ((Failed no_main [], refl, zeros_are_told), refl), refl);
   called = called_so;
   past = at_first;
-  pays = (initial, at_first, inl ((Failed no_main [], refl, zeros_are_told), refl), inl (refl, (0, 0, refl)), (refl, refl));
+  pays = (initial, at_first, inl ((Failed no_main [], refl, zeros_are_told), refl), inl (refl, (0, refl)), (refl, refl));
   bytes = refl;
 }
 

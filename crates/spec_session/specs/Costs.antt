@@ -1,8 +1,8 @@
 -- What the machine's steps cost, told beside it: what each makes of the past that a session remembers for `stats`. No other reply looks at that.
---     source_after    the source with the numbers of its nodes, after a request
+--     numbered_after  the documents with the numbers of their nodes, after a request
 --     Goes            what a step makes of the past
 --     PaysAlong       a run of the machine, with the past
-use Rattle.std.specs.Prelude.{ℕ, ◌≡◌, ◌⊎◌, Bool, true, false, List, [], ◌∷◌, Option, Result, Ok, Err}
+use Rattle.std.specs.Prelude.{ℕ, ◌≡◌, ◌⊎◌, Bool, true, false, List, [], ◌∷◌, Result, Ok, Err}
 use Rattle.spec_document.specs.Scope.{root_scope}
 use Rattle.spec_document.specs.Forest.{Document}
 use Rattle.spec_document.specs.Document.{document_of}
@@ -10,7 +10,7 @@ use Rattle.spec_document.specs.Fault.{Fault}
 use Rattle.spec_edit.specs.Edit as edits
 use Rattle.spec_edit.specs.Edit.{Edited, edited_nodes}
 use Rattle.spec_move.specs.Move.{moved_nodes}
-use Rattle.spec_cost.specs.Numbers.{given_source, edited_source}
+use Rattle.spec_cost.specs.Numbers.{NumberedDocuments, given_source, given_module, dropped_module, edited_source, edited_module}
 use Rattle.spec_cost.specs.Past.{Past}
 use Rattle.spec_cost.specs.Paying.{Pays, with_pending, without_pending}
 use Rattle.spec_session.specs.Command.{Command}
@@ -37,41 +37,43 @@ is_of_module (Rename document path name) = is_module document
 is_of_module (Move document path other) = is_module document
 is_of_module _ = false
 
--- if it is the source that is edited
-abbrev pub edited_if : DocumentName → (Document ℕ → Result (Edited ℕ) Fault) → Option (Document ℕ) → Option (Document ℕ)
-edited_if SourceName edit before = edited_source edit before
-edited_if (ModuleName name) edit before = before
+-- the document of this name is edited so
+abbrev pub edited_as : DocumentName → (Document ℕ → Result (Edited ℕ) Fault) → NumberedDocuments → NumberedDocuments
+edited_as SourceName edit = edited_source edit
+edited_as (ModuleName name) edit = edited_module name edit
 
 -- where it is accepted, and so many nodes were made before: what is made has numbers from there on
-abbrev pub source_after : (made : ℕ) → Request → Option (Document ℕ) → Option (Document ℕ)
-source_after made (SetSource body) before = given_source (document_of root_scope made body) before
-source_after made (Insert document path body) before = edited_if document (edited_nodes made (edits.Insert path body)) before
-source_after made (Delete document path) before = edited_if document (edited_nodes made (edits.Delete path)) before
-source_after made (SetText document path value) before = edited_if document (edited_nodes made (edits.SetText path value)) before
-source_after made (SetAttribute document path name value) before = edited_if document (edited_nodes made (edits.SetAttribute path name value)) before
-source_after made (RemoveAttribute document path name) before = edited_if document (edited_nodes made (edits.RemoveAttribute path name)) before
-source_after made (Rename document path name) before = edited_if document (edited_nodes made (edits.Rename path name)) before
-source_after made (Move document path other) before = edited_if document (moved_nodes made path other) before
-source_after made _ before = before
+abbrev pub numbered_after : (made : ℕ) → Request → NumberedDocuments → NumberedDocuments
+numbered_after made (SetSource body) before = given_source (document_of root_scope made body) before
+numbered_after made (SetModule name body) before = given_module name (document_of root_scope made body) before
+numbered_after made (DropModule name) before = dropped_module name before
+numbered_after made (Insert document path body) before = edited_as document (edited_nodes made (edits.Insert path body)) before
+numbered_after made (Delete document path) before = edited_as document (edited_nodes made (edits.Delete path)) before
+numbered_after made (SetText document path value) before = edited_as document (edited_nodes made (edits.SetText path value)) before
+numbered_after made (SetAttribute document path name value) before = edited_as document (edited_nodes made (edits.SetAttribute path name value)) before
+numbered_after made (RemoveAttribute document path name) before = edited_as document (edited_nodes made (edits.RemoveAttribute path name)) before
+numbered_after made (Rename document path name) before = edited_as document (edited_nodes made (edits.Rename path name)) before
+numbered_after made (Move document path other) before = edited_as document (moved_nodes made path other) before
+numbered_after made _ before = before
 
 -- ---- What a step makes of the past
 
--- the first number that is told is how many instantiations were run
-abbrev pub TellsRan : ℕ → Reply → Type 0
-TellsRan ran reply = (asked : ℕ) × (did : ℕ) × (reply ≡ Counted ran asked did)
+-- the first number that is told is how many instantiations were run, the second how many questions were asked again
+abbrev pub TellsCost : (ran asked : ℕ) → Reply → Type 0
+TellsCost ran asked reply = (did : ℕ) × (reply ≡ Counted ran asked did)
 
--- where the request has this answer. In a batch nothing is run, and the numbered source alone changes
+-- where the request has this answer. In a batch nothing is run, and the numbered documents alone change
 abbrev pub GoesBy : State → Request → Answer → Reply → (before after : Past) → Type 0
 GoesBy old request (Refuses number) reply before after = after ≡ before
 GoesBy old request (Changes new) reply before after =
-    Pays new.documents (source_after old.made request before.edited) (is_of_module request) before after
-GoesBy old request (Pends new) reply before after = after ≡ with_pending (source_after old.made request before.edited) (is_of_module request) before
+    Pays new.documents (numbered_after old.made request before.edited) (is_of_module request) before after
+GoesBy old request (Pends new) reply before after = after ≡ with_pending (numbered_after old.made request before.edited) (is_of_module request) before
 GoesBy old request (Drops new) reply before after = after ≡ without_pending before
 GoesBy old request ShowsResult reply before after = after ≡ before
 GoesBy old request WritesResult reply before after = after ≡ before
 GoesBy old request ShowsMessages reply before after = after ≡ before
 GoesBy old request (ShowsDocument tree) reply before after = after ≡ before
-GoesBy old request TellsCounts reply before after = (after ≡ before) × TellsRan before.ran reply
+GoesBy old request TellsCounts reply before after = (after ≡ before) × TellsCost before.ran before.asked reply
 
 -- a command that asks nothing is refused
 abbrev pub GoesOf : State → Result Request ℕ → Answer → Reply → (before after : Past) → Type 0

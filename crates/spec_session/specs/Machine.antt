@@ -187,8 +187,8 @@ abbrev pub IsFreeFor : Outcome → (ran asked did : ℕ) → Type 0
 IsFreeFor (Done result method messages) ran asked did = Unit {0}
 IsFreeFor (Failed why messages) ran asked did = IsFreeAt why.code ran asked did
 
--- With this outcome the reply tells three numbers of 64 bits, which are 0 where nothing was run. Where something was, any three are allowed for now:
--- nothing is said here of what was run, asked or done
+-- With this outcome the reply tells three numbers of 64 bits, which are 0 where nothing was run. What the first of them counts where something was
+-- run is said of a run of the machine that pays (`PaysAlong`), since the machine itself remembers nothing of what was run before
 pub record TellsNumbers (outcome : Outcome) (reply : Reply) : Type 0 where
   pub ran : ℕ
   pub asked : ℕ

@@ -1,4 +1,4 @@
--- That of all that comes to its end there is a record among those that this run kept.
+-- That of all that comes to its end there is a record among those that this run kept, and that these are of what the run has.
 use Rattle.std.proofs.Common.{◌≡◌, ◌⊎◌, inl, inr, ℕ, zero, suc, ◌≤◌, List, [], ◌∷◌, ◌++◌, map, Some, slice_get, refl, sym, ap, subst, ◌∙◌, arith}
 use Rattle.std.proofs.lemmas.List.{map-append}
 use Rattle.std.specs.declared.alloc.Global.{Global as Allocator}
@@ -7,8 +7,8 @@ use Rattle.spec_run.specs.Hold.{GoesOn}
 use Rattle.spec_run.specs.Trail.{Kept}
 use Rattle.spec_run.specs.Meaning.{Setting}
 use Rattle.spec_reuse.specs.Among.{IsIn}
-use Rattle.spec_reuse.specs.Instantiation.{Instantiation, own_of}
-use Rattle.spec_reuse.specs.Ledger.{AllFound, IsFound}
+use Rattle.spec_reuse.specs.Instantiation.{Instantiation, own_of, instantiations}
+use Rattle.spec_reuse.specs.Ledger.{AllFound, HasLike, IsFound}
 use Rattle.spec_reuse.proofs.Again.{in_append}
 use Rattle.spec_reuse.proofs.Within.{in_right}
 use Rattle.spec_node.specs.declared.node_ref.NodeRef.{NodeRef}
@@ -18,7 +18,7 @@ use Rattle.xt_record.specs.declared.record.Record.{Record}
 use Rattle.xt_record.specs.declared.reuse.Reuse.{Reuse}
 use Rattle.xt_record.proofs.Chaining.{none_some, some_is, within}
 use Rattle.xt_record.proofs.Passing.{at_most}
-use Rattle.xt_driver.specs.Counted.{kept_at, kept_by, records_of, KeepsAll}
+use Rattle.xt_driver.specs.Counted.{kept_at, kept_by, records_of, KeepsAll, AreLikeRun, StaysLikeRun}
 
 -- ---- Records and their places
 
@@ -121,3 +121,31 @@ keeps_one s i reuse found = record { found = λ j m ends. go j ends m }
         let F : Instantiation NodeRef → Type 0 = λ x. IsFound s (kept_by reuse) x in
         subst F (sym e) (found (subst G e ends))
     go j ends (inr e) = absurd e
+
+-- ---- What is kept is of the run
+
+-- where nothing is kept
+pub likes_same : (s : Setting NodeRef) (before after : Reuse) → after.kept.records.items ≡ before.kept.records.items → StaysLikeRun s before after
+likes_same s before after e h =
+    let P : List (Rc Record Allocator) → Type 0 = λ rs. AreLikeRun s (map kept_at rs) in
+    subst P (sym e) h
+
+-- with these behind them
+pub likes_more : (s : Setting NodeRef) (before after : Reuse) (more : List (Rc Record Allocator))
+    → after.kept.records.items ≡ before.kept.records.items ++ more → AreLikeRun s (map kept_at more) → StaysLikeRun s before after
+likes_more s before after more e like h k m =
+    let P : List (Kept NodeRef) → Type 0 = λ ks. IsIn k ks in
+    go (in_append k (kept_by before) (map kept_at more) (subst P (kept_more before after more e) m))
+  where
+    go : IsIn k (kept_by before) ⊎ IsIn k (map kept_at more) → HasLike (instantiations s) k.call
+    go (inl x) = h k x
+    go (inr x) = like k x
+
+-- and with one
+pub likes_one : (s : Setting NodeRef) (before after : Reuse) (r : Rc Record Allocator)
+    → after.kept.records.items ≡ before.kept.records.items ++ r ∷ [] → HasLike (instantiations s) (kept_at r).call → StaysLikeRun s before after
+likes_one s before after r e like = likes_more s before after (r ∷ []) e go
+  where
+    go : (k : Kept NodeRef) → IsIn k (kept_at r ∷ []) → HasLike (instantiations s) k.call
+    go k (inl same) = let P : Kept NodeRef → Type 0 = λ x. HasLike (instantiations s) x.call in subst P (sym same) like
+    go k (inr none) = absurd none

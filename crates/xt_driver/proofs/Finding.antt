@@ -309,6 +309,7 @@ module _ (s : Setting NodeRef) (past : Past NodeRef) (name : Expanded) (element 
         enters = y.enters;
         ran = y.ran;
         stands = y.stands;
+        only = y.only;
         keeps = y.keeps;
         ready = subst A (sym result.remembered) all;
       })

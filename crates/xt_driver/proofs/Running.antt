@@ -69,12 +69,12 @@ use Rattle.xt_driver.specs.declared.lost.Lost.{Lost}
 use Rattle.xt_driver.specs.Lost.{is_lost, is_to, IsLost}
 use Rattle.xt_driver.specs.Stands.{Level, supply_of, nested_of, Agrees, Stands, StandsSo}
 use Rattle.xt_driver.specs.Counted.{Hand, kept_by, records_of, KeepsAll, IsReady, most_counted, IsCounted, Counted, CountsFor, CountsOver, CountedRun}
-use Rattle.xt_driver.specs.Counted.{known_by}
+use Rattle.xt_driver.specs.Counted.{known_by, StaysLikeRun}
 use Rattle.xt_driver.proofs.Given.{equal_names, hand_more, found_last}
 use Rattle.xt_driver.proofs.Owns.{own_passes}
 use Rattle.xt_driver.proofs.Less.{referred_at, referred_less}
 use Rattle.xt_driver.proofs.Standing.{in_room, own_ends, stands_halt}
-use Rattle.xt_driver.proofs.Completing.{found_at_hand, all_found_on, keeps_none, keeps_found, keeps_of, keeps_both}
+use Rattle.xt_driver.proofs.Completing.{found_at_hand, all_found_on, keeps_none, keeps_found, keeps_of, keeps_both, likes_same}
 use Rattle.xt_driver.proofs.Tallying.{ready_on, more_counted, records_same, stand_same}
 
 abbrev pub at_level : Level → Instantiation NodeRef
@@ -108,6 +108,7 @@ pub record Running (l : Level) (lo : Lost) (left : Plan NodeRef) (start : Start 
   pub known : KnownSo l (kept_by b.reuse) start
   pub ran : IsCounted (suc (length list)) a b
   pub stands : StandOn a.reuse b.reuse
+  pub only : StaysLikeRun l.setting a.reuse b.reuse
   pub keeps : KeepsAll l.setting (nested_but l.setting (at_level l) (known_by lo l.below) done) b.reuse
   pub ready : IsReady l.setting l.past.values b
 
@@ -193,15 +194,16 @@ module _ (l : Level) where
   -- what it does in all, where it comes to its end
   pub ran_whole : (lo : Lost) (a b : Hand) (done : Trace) (list : List (Instantiation NodeRef))
       → IsRun l.setting (at_level l) (known_by lo l.below) done (records_of a.reuse) list (records_of b.reuse)
-      → (own_of l.setting (at_level l)).going.trace ≡ done → IsCounted (suc (length list)) a b → StandOn a.reuse b.reuse
+      → (own_of l.setting (at_level l)).going.trace ≡ done → IsCounted (suc (length list)) a b → StandOn a.reuse b.reuse → StaysLikeRun l.setting a.reuse b.reuse
       → KeepsAll l.setting (nested_but l.setting (at_level l) (known_by lo l.below) done) b.reuse
       → IsReady l.setting l.past.values b → CountedRun l.setting (at_level l) lo a b
-  ran_whole lo a b done list run trace ran stands keeps ready = record {
+  ran_whole lo a b done list run trace ran stands only keeps ready = record {
     list = list;
     enters = let E : Trace → Type 0 = λ es. Enters l.setting (records_of a.reuse) list (nested_but l.setting (at_level l) (known_by lo l.below) es) (records_of b.reuse) in
         subst E (sym trace) run.enters;
     ran = ran;
     stands = stands;
+    only = only;
     keeps = let K : Trace → Type 0 = λ es. KeepsAll l.setting (nested_but l.setting (at_level l) (known_by lo l.below) es) b.reuse in
         subst K (sym trace) keeps;
     ready = ready;
@@ -228,6 +230,7 @@ running_begun l lo p gift a reuse begun none h ready last kept counted =
       known = λ name depth place y e. absurd (cc);
       ran = λ low. counted;
       stands = on;
+      only = λ m. likes_same l.setting a.reuse reuse (ap (λ (x : Pool). x.records.items) kept) m;
       keeps = keeps_none l.setting reuse;
       ready = ready_on l.setting l.past.values a.entries a.reuse reuse on ready;
     } in
@@ -272,6 +275,7 @@ module _ (l : Level) (lo : Lost) (a b c : Hand) (q : Progress) (k : Call NodeRef
     ran = more_counted a b c (suc (length x.list)) (length inside.list) (suc (length (x.list ++ inside.list)))
         (let m = length-append x.list inside.list in omega (arith, m)) x.ran inside.ran;
     stands = λ at r m. inside.stands at r (x.stands at r m);
+    only = λ m. inside.only (x.only m);
     keeps = keeps_of l.setting
         (nested_but l.setting (at_level l) (known_by lo l.below) q.going.trace ++ entered l.setting l.below l.past d (settled l.call k))
         (nested_but l.setting (at_level l) (known_by lo l.below) (q.going.trace ++ Entered k d ∷ [])) c.reuse
@@ -424,6 +428,7 @@ module _ (l : Level) (lo : Lost) (a b c : Hand) (q : Progress) (n : Expanded) (d
     ran = more_counted a b c (suc (length x.list)) (length gone.list) (suc (length (x.list ++ gone.list)))
         (let m = length-append x.list gone.list in omega (arith, m)) x.ran gone.ran;
     stands = λ at r m. gone.stands at r (x.stands at r m);
+    only = λ m. gone.only (x.only m);
     keeps = keeps_of l.setting
         (nested_but l.setting (at_level l) (known_by lo l.below) last.trace
         ++ unless_known (known_by lo l.below) (for_reference l.setting (entered l.setting l.below) l.past) n d place)
@@ -567,7 +572,7 @@ module _ (l : Level) (lo : Lost) (a b : Hand) (left : Plan NodeRef) (g last : Go
   comes_to_end =
       let trace = ap (λ (o : Owned NodeRef). o.going.trace) (sym all ∙ own_passes l.setting.ask (supply_of l) (nested_of l) l.below agrees passes ∙ own_ends l e last) in
       let reached = reach l lo a b left (ends e) g last s x agrees all passes (stuck_end (at_hand s) e) in
-      ran_whole l lo a b last.trace x.list reached.0 trace x.ran x.stands reached.1 x.ready
+      ran_whole l lo a b last.trace x.list reached.0 trace x.ran x.stands x.only reached.1 x.ready
 
 pub running_done : (l : Level) (lo : Lost) (a b : Hand) (p q : Progress) (gift : Option (Gift NodeRef)) (ss : List Stream) (ran : Ran)
     → Stands l p gift ss → Advances l.setting.ask gift p q (Ok (Done ran)) → Running l lo p.left (received p.waits p.going p.supplies gift) a b
@@ -586,7 +591,7 @@ running_failed l lo a b p q gift ss fault o h adv refused x = by_fault fault adv
   where
     go : (why : CodeRefused) (t : Rc Items Allocator) (st : Start NodeRef) → StandsSo l p.left ss st
         → AdvancesSo l.setting.ask p st q (Err (faults.Refused why t)) → Running l lo p.left st a b → CountedRun l.setting (at_level l) lo a b
-    go why t (Halts w g) so to y = ran_whole l lo a b y.done y.list y.run y.reached y.ran y.stands y.keeps y.ready
+    go why t (Halts w g) so to y = ran_whole l lo a b y.done y.list y.run y.reached y.ran y.stands y.only y.keeps y.ready
     go why t (Goes g s) so to y = comes_to_end l lo a b p.left g to.last s (Halted (refused_of why)) y so.1 so.0 (in_room h.room to.passes)
 
     by_fault : (f : RunFault) → AdvancesSo l.setting.ask p (received p.waits p.going p.supplies gift) q (Err f) → IsRefusedSo f o

@@ -16,7 +16,7 @@ use Rattle.spec_reuse.specs.Among.{IsIn}
 use Rattle.spec_reuse.specs.Instantiation.{Instantiation, own_of, kept_of, for_reference, entered, instantiations}
 use Rattle.spec_reuse.specs.Serving.{Serves}
 use Rattle.spec_reuse.specs.Cost.{Repeats}
-use Rattle.spec_reuse.specs.Ledger.{nested_in, nested_but, AllFound, AreOfRun, Enters, EntersFront, IsFound}
+use Rattle.spec_reuse.specs.Ledger.{nested_in, nested_but, AllFound, AreOfRun, Enters, EntersFront, HasLike, IsFound}
 use Rattle.spec_reuse.proofs.Again.{agrees_self, serves}
 use Rattle.spec_reuse.proofs.Counting.{served_asks, one_after_another, some_gone_over, front_then_all, front_then_front, nothing_entered}
 use Rattle.spec_reuse.proofs.Counting.{call_counted, record_kept, nested_some}
@@ -33,9 +33,9 @@ use Rattle.xt_driver.specs.declared.drive.Served.TheVariants as served
 use Rattle.xt_driver.specs.Lost.{is_lost}
 use Rattle.xt_driver.specs.Remembered.{Entry}
 use Rattle.xt_driver.specs.Counted.{Hand, kept_at, kept_by, records_of, KeepsAll, IsMadeToo, IsMadeOf, IsRecorded, AreRecorded, IsReady, IsCounted, Counted}
-use Rattle.xt_driver.specs.Counted.{CountedFront, CountsFor, CountsOver}
+use Rattle.xt_driver.specs.Counted.{CountedFront, CountsFor, CountsOver, StaysLikeRun}
 use Rattle.xt_driver.specs.Counted.{known_by, CountsServed, CountedRun}
-use Rattle.xt_driver.proofs.Completing.{kept_still, kept_more, found_at_hand, keeps_both, keeps_found, keeps_on, keeps_one}
+use Rattle.xt_driver.proofs.Completing.{kept_still, kept_more, found_at_hand, keeps_both, keeps_found, keeps_on, keeps_one, likes_same, likes_more, likes_one}
 
 -- ---- What is remembered
 
@@ -107,6 +107,7 @@ counted_then s values is js a b c of_run x y = record {
   enters = one_after_another s (records_of a.reuse) (records_of b.reuse) (records_of c.reuse) x.list y.list is js of_run x.enters y.enters;
   ran = more_counted a b c (length x.list) (length y.list) (length (x.list ++ y.list)) (length-append x.list y.list) x.ran y.ran;
   stands = λ at r h. y.stands at r (x.stands at r h);
+  only = λ h. y.only (x.only h);
   keeps = keeps_both s is js b.reuse c.reuse y.stands x.keeps y.keeps;
   ready = y.ready;
 }
@@ -118,6 +119,7 @@ front_then s values is a b c of_run x y = record {
   enters = front_then_all s (records_of a.reuse) (records_of b.reuse) (records_of c.reuse) x.list y.list is of_run x.enters y.enters;
   ran = more_counted a b c (length x.list) (length y.list) (length (x.list ++ y.list)) (length-append x.list y.list) x.ran y.ran;
   stands = λ at r h. y.stands at r (x.stands at r h);
+  only = λ h. y.only (x.only h);
   keeps = y.keeps;
   ready = y.ready;
 }
@@ -129,6 +131,7 @@ fronts s values is a b c of_run x y = record {
   enters = front_then_front s (records_of a.reuse) (records_of b.reuse) (records_of c.reuse) x.list y.list is of_run x.enters y.enters;
   ran = more_counted a b c (length x.list) (length y.list) (length (x.list ++ y.list)) (length-append x.list y.list) x.ran y.ran;
   stands = λ at r h. y.stands at r (x.stands at r h);
+  only = λ h. y.only (x.only h);
   ready = y.ready;
 }
 
@@ -141,6 +144,7 @@ counted_none s values is reuse old new found ready = record {
   enters = nothing_entered s (records_of reuse) is (found_at_hand s reuse is found);
   ran = none_counted (record { reuse = reuse; entries = old }) (record { reuse = reuse; entries = new }) refl;
   stands = λ at r h. h;
+  only = λ h. h;
   keeps = keeps_found s is reuse found;
   ready = ready;
 }
@@ -159,16 +163,18 @@ front_none s values is a ready = record {
   };
   ran = none_counted a a refl;
   stands = λ at r h. h;
+  only = λ h. h;
   ready = ready;
 }
 
 -- ---- A record is kept that was at hand
 
 pub kept_on : (s : Setting NodeRef) (values : List (Bound NodeRef)) (is : List (Instantiation NodeRef)) (a b : Hand) (after : Reuse)
-    (r : Rc Record Allocator) → Counted s values is a b → IsIn (kept_at r) (records_of b.reuse) → after.last ≡ b.reuse.last
+    (r : Rc Record Allocator) → Counted s values is a b → IsIn (kept_at r) (records_of b.reuse) → HasLike (instantiations s) (kept_at r).call
+    → after.last ≡ b.reuse.last
     → after.kept.records.items ≡ b.reuse.kept.records.items ++ r ∷ [] → after.steps ≡ b.reuse.steps
     → Counted s values is a (record { reuse = after; entries = b.entries })
-kept_on s values is a b after r x at_hand last kept steps =
+kept_on s values is a b after r x at_hand like last kept steps =
     let same = records_more b.reuse after (r ∷ []) last kept in
     let E : List (Kept NodeRef) → Type 0 = λ ks. Enters s (records_of a.reuse) x.list is ks in
     let on = stand_on b.reuse after (r ∷ []) last kept in
@@ -177,6 +183,7 @@ kept_on s values is a b after r x at_hand last kept steps =
       enters = subst E (sym same) (record_kept s (records_of a.reuse) (records_of b.reuse) x.list is (kept_at r) x.enters at_hand);
       ran = λ low. let l = x.ran low in ap (λ t. t.ran) steps ∙ l;
       stands = λ at y h. on at y (x.stands at y h);
+      only = λ h. likes_one s b.reuse after r kept like (x.only h);
       keeps = keeps_on s is b.reuse after on x.keeps;
       ready = ready_on s values b.entries b.reuse after on x.ready;
     }
@@ -195,6 +202,7 @@ same_on s values is a b after x last kept steps =
       enters = subst E (sym same) x.enters;
       ran = λ low. steps ∙ x.ran low;
       stands = λ at y h. on at y (x.stands at y h);
+      only = λ h. likes_same s b.reuse after kept (x.only h);
       keeps = keeps_on s is b.reuse after on x.keeps;
       ready = ready_on s values b.entries b.reuse after on x.ready;
     }
@@ -212,6 +220,7 @@ front_on s values is a b after x last kept steps =
       enters = subst E (sym same) x.enters;
       ran = λ low. steps ∙ x.ran low;
       stands = λ at y h. on at y (x.stands at y h);
+      only = λ h. likes_same s b.reuse after kept (x.only h);
       ready = ready_on s values b.entries b.reuse after on x.ready;
     }
 
@@ -222,6 +231,7 @@ run_whole : (s : Setting NodeRef) (i : Instantiation NodeRef) (l : Lost) (a b c 
     → CountsServed (served.Not l) s i a b → CountedRun s i l b c
     → (list : List (Instantiation NodeRef)) × Enters s (records_of a.reuse) list (nested_in s i) (records_of c.reuse)
     × IsCounted (suc (length list)) a c × StandOn a.reuse c.reuse × (¬ (IsFound s (records_of a.reuse) i)) × KeepsAll s (nested_in s i) c.reuse
+    × StaysLikeRun s a.reuse c.reuse
 run_whole s i lost.Nothing a b c h x y =
     let first = x.0.list in (
       first ++ y.list,
@@ -232,6 +242,7 @@ run_whole s i lost.Nothing a b c h x y =
       λ at r k. y.stands at r (x.0.stands at r k),
       x.1,
       y.keeps,
+      λ m. y.only (x.0.only m),
     )
 run_whole s i (lost.Reference l) a b c h x y =
     let first = x.counted.list in (
@@ -244,6 +255,7 @@ run_whole s i (lost.Reference l) a b c h x y =
       λ at r k. y.stands at r (x.counted.stands at r k),
       λ k. x.none k.0 k.2,
       keeps_on s (nested_in s i) b.reuse c.reuse y.stands x.counted.keeps,
+      λ m. y.only (x.counted.only m),
     )
 
 -- what was made of it serves it
@@ -264,6 +276,7 @@ run_counted s i l a b c after ran h x y of made last steps = go ran of made
   where
     went : (list : List (Instantiation NodeRef)) × Enters s (records_of a.reuse) list (nested_in s i) (records_of c.reuse)
         × IsCounted (suc (length list)) a c × StandOn a.reuse c.reuse × (¬ (IsFound s (records_of a.reuse) i)) × KeepsAll s (nested_in s i) c.reuse
+        × StaysLikeRun s a.reuse c.reuse
     went = run_whole s i l a b c h x y
 
     by : (more : List (Rc Record Allocator)) → after.kept.records.items ≡ c.reuse.kept.records.items ++ more
@@ -287,6 +300,9 @@ run_counted s i l a b c after ran h x y of made last steps = go ran of made
               let e = ap (λ t. t.ran) steps in
               omega (arith, n, m, e);
           stands = λ at r k. on at r (went.3 at r k);
+          only = λ k. likes_more s c.reuse after more kept (λ y m.
+              let same = like y m in
+              (i, h, sym same.0, sym same.1)) (went.6 k);
           keeps = keeps_both s (nested_in s i) (i ∷ []) c.reuse after on went.5 one;
           ready = ready_on s i.past.values c.entries c.reuse after on y.ready;
         }

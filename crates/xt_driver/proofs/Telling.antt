@@ -125,6 +125,7 @@ along_begun s i k ss a h f asks none ready = record {
   asks = asks;
   ran = λ low. omega (arith, low);
   stands = λ at r m. m;
+  only = λ m. m;
   keeps = keeps_none s a.reuse;
   ready = ready;
 }
@@ -155,6 +156,7 @@ tells_held s i k done rest ss a b (Asked question answer) n x = record {
   asks = x.asks.1;
   ran = x.ran;
   stands = x.stands;
+  only = x.only;
   keeps = keeps_still s i done (Asked question answer) b.reuse refl x.keeps;
   ready = x.ready;
 }
@@ -165,6 +167,7 @@ tells_held s i k done rest ss a b (Saw Position d p v) n x = record {
   asks = x.asks;
   ran = x.ran;
   stands = x.stands;
+  only = x.only;
   keeps = keeps_still s i done (Saw Position d p v) b.reuse refl x.keeps;
   ready = x.ready;
 }
@@ -175,6 +178,7 @@ tells_held s i k done rest ss a b (Saw Size d p v) n x = record {
   asks = x.asks;
   ran = x.ran;
   stands = x.stands;
+  only = x.only;
   keeps = keeps_still s i done (Saw Size d p v) b.reuse refl x.keeps;
   ready = x.ready;
 }
@@ -185,6 +189,7 @@ tells_held s i k done rest ss a b (Saw Rule d p v) n x = record {
   asks = x.asks;
   ran = x.ran;
   stands = x.stands;
+  only = x.only;
   keeps = keeps_still s i done (Saw Rule d p v) b.reuse refl x.keeps;
   ready = x.ready;
 }
@@ -197,6 +202,7 @@ tells_held s i k done rest ss a b (Held first contents) n x = record {
   asks = x.asks;
   ran = x.ran;
   stands = x.stands;
+  only = x.only;
   keeps = keeps_still s i done (Held first contents) b.reuse refl x.keeps;
   ready = x.ready;
 }
@@ -212,7 +218,7 @@ differs : (s : Setting NodeRef) (i : Instantiation NodeRef) (k : Kept NodeRef) (
     → CountsLost s i k lost.Nothing a b
 differs s i k done rest ss a b e read never x =
     let h = event_differs s i k done rest e (records_of a.reuse) (records_of b.reuse) x.list x.along read never in
-    (record { list = x.list; enters = h.0; ran = x.ran; stands = x.stands; ready = x.ready }, h.1)
+    (record { list = x.list; enters = h.0; ran = x.ran; stands = x.stands; only = x.only; ready = x.ready }, h.1)
 
 tells_other : (s : Setting NodeRef) (i : Instantiation NodeRef) (k : Kept NodeRef) (done rest : List (Event NodeRef)) (ss : List Stream) (a b : Hand)
     (e : Event NodeRef) → IsNext next.Differs i.call i.below ss e → CountedAlong s i k done (e ∷ rest) ss a b
@@ -252,6 +258,7 @@ tells_entered s i k done rest ss us a b c call depth o is on more over x =
       asks = x.asks;
       ran = more_counted a b c (length x.list) (length y.list) (length (x.list ++ y.list)) (length-append x.list y.list) x.ran y.ran;
       stands = λ at r m. y.stands at r (x.stands at r m);
+      only = λ m. y.only (x.only m);
       keeps = keeps_of s (nested_along s i done ++ entered s i.below i.past depth (settled i.call call)) (nested_along s i (done ++ Entered call depth ∷ []))
           c.reuse (sym (nested_entered s i done call depth))
           (keeps_both s (nested_along s i done) (entered s i.below i.past depth (settled i.call call)) b.reuse c.reuse y.stands x.keeps y.keeps);
@@ -276,6 +283,7 @@ tells_refused s i k done rest ss a b c call depth o is stops over x =
         enters = h.0;
         ran = more_counted a b c (length x.list) (length y.list) (length (x.list ++ y.list)) (length-append x.list y.list) x.ran y.ran;
         stands = λ at r m. y.stands at r (x.stands at r m);
+        only = λ m. y.only (x.only m);
         keeps = keeps_of s (nested_along s i done ++ entered s i.below i.past depth (settled i.call call)) (nested_in s i) c.reuse
             (sym (ap (nested_along s i) own ∙ nested_entered s i done call depth))
             (keeps_both s (nested_along s i done) (entered s i.below i.past depth (settled i.call call)) b.reuse c.reuse y.stands x.keeps y.keeps);
@@ -391,6 +399,7 @@ module _ (s : Setting NodeRef) (i : Instantiation NodeRef) (k : Kept NodeRef) (d
     asks = z.asks;
     ran = in_all;
     stands = λ at r m. there.stands at r (z.stands at r m);
+    only = λ m. there.only (z.only m);
     keeps = keeps_of s (nested_along s i done ++ for_reference s (entered s i.below) i.past name depth place)
         (nested_along s i (done ++ Saw (Global name) depth place x ∷ [])) c.reuse (sym (nested_referred s i done name depth place x)) both_kept;
     ready = there.ready;
@@ -400,8 +409,17 @@ module _ (s : Setting NodeRef) (i : Instantiation NodeRef) (k : Kept NodeRef) (d
   refers_other : (y : program.Given NodeRef) → given_to s i (Global name) depth place ≡ Known y → ¬ (Known y ≡ x) → CountsLost s i k lost.Nothing a c
   refers_other y same never =
       let h = reference_differs s i k done rest name depth place x y (records_of a.reuse) (records_of b.reuse) (records_of c.reuse) z.list there.list z.along
-      same never there.enters in
-      (record { list = z.list ++ there.list; enters = h.0; ran = in_all; stands = λ at r m. there.stands at r (z.stands at r m); ready = there.ready }, h.1)
+      same never there.enters in (
+        record {
+          list = z.list ++ there.list;
+          enters = h.0;
+          ran = in_all;
+          stands = λ at r m. there.stands at r (z.stands at r m);
+          only = λ m. there.only (z.only m);
+          ready = there.ready;
+        },
+        h.1,
+      )
 
   -- it needs itself
   refers_round : given_to s i (Global name) depth place ≡ needs_itself place → for_reference s (entered s i.below) i.past name depth place ≡ []
@@ -424,6 +442,7 @@ module _ (s : Setting NodeRef) (i : Instantiation NodeRef) (k : Kept NodeRef) (d
               (nested_of_run s i z.along.of_run) h.0 front;
           ran = in_all;
           stands = λ at r m. there.stands at r (z.stands at r m);
+          only = λ m. there.only (z.only m);
           ready = there.ready;
         },
         h.1,
@@ -446,6 +465,7 @@ module _ (s : Setting NodeRef) (i : Instantiation NodeRef) (k : Kept NodeRef) (d
           enters = h.0;
           ran = in_all;
           stands = λ at r m. there.stands at r (z.stands at r m);
+          only = λ m. there.only (z.only m);
           keeps = keeps_of s (nested_along s i done ++ for_reference s (entered s i.below) i.past name depth place) (nested_in s i) c.reuse
               (sym (ap (nested_along s i) own ∙ nested_referred s i done name depth place (given_to s i (Global name) depth place))) both_kept;
           ready = there.ready;
@@ -556,6 +576,7 @@ along_whole s i k done rest ss a b none x =
         enters = h.0;
         ran = x.ran;
         stands = x.stands;
+        only = x.only;
         keeps = keeps_of s (nested_along s i done) (nested_in s i) b.reuse (sym (ap (nested_along s i) own)) x.keeps;
         ready = x.ready;
       },

@@ -155,6 +155,11 @@ tried_all s i a b from passed t = λ m.
     none x serves asks (inl e) = t.passed x.at x.r x.stands e serves asks
     none x serves asks (inr e) = passed x.at x.r (t.counted.stands x.at x.r x.stands) e tt (may_serve s i (kept_in x.r) serves asks)
 
+-- what serves it is of its unit and its node
+like_served : (s : Setting NodeRef) (i : Instantiation NodeRef) (k : Kept NodeRef) → IsIn i (instantiations s) → Serves s i k
+    → ledger.HasLike (instantiations s) k.call
+like_served s i k h serves = (i, h, sym serves.fits.of_call.target, sym serves.fits.of_call.node)
+
 -- with the call itself, which one of these records serves
 with_served : (s : Setting NodeRef) (i : Instantiation NodeRef) (a b : Hand) (k : Kept NodeRef) → Counted s i.past.values (nested_in s i) a b
     → IsIn k (kept_by b.reuse) → Serves s i k → ledger.AsksHold s.ask k.trace → Counted s i.past.values (nested_in s i ++ i ∷ []) a b
@@ -164,6 +169,7 @@ with_served s i a b k x there serves asks = record {
       (in_right k (map kept_at b.reuse.last.now.records.items) (kept_by b.reuse) there) serves asks;
   ran = x.ran;
   stands = x.stands;
+  only = x.only;
   keeps = keeps_both s (nested_in s i) (i ∷ []) b.reuse b.reuse (λ at r h. h) x.keeps (keeps_one s i b.reuse (λ ends. (k, there, serves, asks)));
   ready = x.ready;
 }
@@ -195,7 +201,7 @@ tried_served s i a b after reuse last from f o j stands h t x asks kept same ste
     go (kept_now e) =
         let K : List (Kept NodeRef) → Type 0 = λ ks. IsIn (kept_at f.record) ks in
         with_served s i a (record { reuse = last; entries = after.entries }) (kept_at f.record)
-        (kept_on s i.past.values (nested_in s i) a after last f.record all there same e steps)
+        (kept_on s i.past.values (nested_in s i) a after last f.record all there (like_served s i (kept_at f.record) h x.1) same e steps)
         (subst K (sym (kept_more after.reuse last (f.record ∷ []) e)) (in_right (kept_at f.record) (kept_by after.reuse) (kept_at f.record ∷ []) (inl refl)))
         x.1 (asks_there s.ask (kept_in f.record.value).trace asks)
 

@@ -1,5 +1,5 @@
 -- What is counted of a whole run, turn by turn.
-use Rattle.std.proofs.Common.{◌≡◌, ℕ, ◌+◌, ◌<◌, ◌≤◌, List, [], ◌∷◌, ◌++◌, length, get_or, map, drop, Option, Some, None, Result, sym, ap, subst}
+use Rattle.std.proofs.Common.{◌≡◌, ℕ, ◌+◌, ◌<◌, ◌≤◌, List, [], ◌∷◌, ◌++◌, length, get_or, map, drop, Option, Some, None, Result, Ok, Err, sym, ap, subst}
 use Rattle.std.proofs.Common.{◌∙◌, append_assoc}
 use Rattle.std.specs.Prelude.{OnOk}
 use Rattle.std.proofs.lemmas.List.{append-nil, at_drop_more, at_drop_all}
@@ -34,6 +34,7 @@ use Rattle.xt_driver.specs.Remembered.{Entry, Forgets}
 use Rattle.xt_driver.specs.Referring.{entry_of}
 use Rattle.xt_driver.specs.Turning.{HeldAs, IsHeldAs, IsTurnedAs, meant_in}
 use Rattle.xt_driver.specs.Counted.{Hand, kept_by, records_of, KeepsAll, IsRecorded, AreRecorded, Counted, CountsOver, IsOfTurn, for_turn, CountedWhole}
+use Rattle.xt_driver.specs.Counted.{KeepsOnly, StaysLikeRun}
 use Rattle.xt_driver.proofs.Finding.{recorded_at, entry_in, evaluated_found, aside_ready, held_goes}
 use Rattle.xt_driver.proofs.Completing.{keeps_of}
 use Rattle.xt_driver.proofs.Tallying.{counted_none, counted_then}
@@ -69,7 +70,7 @@ pub turn_forgot : (s : Setting NodeRef) (past : Past NodeRef) (g : means.NamedGl
     → CountsOver s past.values (for_turn s past g levels) (record { reuse = reuse; entries = old }) after
 turn_forgot s past g levels name old new reuse after forgets over = λ of_run ready.
     let y = over of_run (aside_ready s past.values (kept_by reuse) forgets.is ready).1 in
-    record { list = y.list; enters = y.enters; ran = y.ran; stands = y.stands; keeps = y.keeps; ready = y.ready }
+    record { list = y.list; enters = y.enters; ran = y.ran; stands = y.stands; only = y.only; keeps = y.keeps; ready = y.ready }
 
 pub turn_with : (s : Setting NodeRef) (past : Past NodeRef) (g : means.NamedGlobal NodeRef) (levels : ℕ) (under : List Expanded) (call : Call NodeRef)
     (a b : Hand) → under ≡ g.name ∷ past.under → call ≡ global_call s.root g.element nowhere
@@ -161,6 +162,7 @@ turns_on s levels g gs values all c (held.Value v) None is a b d of_run same e a
         enters = m.1.enters;
         ran = m.1.ran;
         stands = m.1.stands;
+        only = m.1.only;
         keeps = m.1.keeps;
         ready = recorded_turn s values (kept_by d.reuse) new d.entries m.1.ready;
       };
@@ -172,7 +174,7 @@ pub turns_refused : (s : Setting NodeRef) (levels : ℕ) (g : means.NamedGlobal 
     (values all : List (Bound NodeRef)) (c : Call NodeRef) (h : Held) (r : Option Refused) (why : Refused) (is : List (Instantiation NodeRef)) (a b d : Hand)
     → AreOfRun s is → supplied_of h ≡ held_by (meant_in s (at_turn values) g levels) → r ≡ Some why → IsHeldAs r h g.name values all
     → CountedTurns s levels (g ∷ gs) values c is a b → CountsOver s values (for_turn s (at_turn values) g levels) b d
-    → CountedWhole s is a.reuse d.reuse × KeepsAll s is d.reuse
+    → CountedWhole s is a.reuse d.reuse × KeepsAll s is d.reuse × StaysLikeRun s a.reuse d.reuse
 turns_refused s levels g gs values all c (held.Value v) None why is a b d of_run same e as_refused x over = absurd (cc)
 turns_refused s levels g gs values all c (held.Value v) (Some reason) why is a b d of_run same e as_refused x over = absurd as_refused
 turns_refused s levels g gs values all c (held.Refused because content) None why is a b d of_run same e as_refused x over = absurd as_refused
@@ -183,20 +185,24 @@ turns_refused s levels g gs values all c (held.Refused because content) (Some re
     let all : (x.done ++ for_turn s (at_turn values) g levels) ≡ is = sym (m.0 ∙ append-nil (x.done ++ for_turn s (at_turn values) g levels)) in (
       record { list = m.1.list; enters = subst E all m.1.enters; ran = m.1.ran },
       keeps_of s (x.done ++ for_turn s (at_turn values) g levels) is d.reuse all m.1.keeps,
+      m.1.only,
     )
 
 -- the root, behind all turns
 pub turns_ended : (s : Setting NodeRef) (levels : ℕ) (values : List (Bound NodeRef)) (c : Call NodeRef) (is : List (Instantiation NodeRef)) (a b d : Hand)
     → AreOfRun s is → CountedTurns s levels [] values c is a b → CountsOver s values (entered s levels (at_turn values) 0 c) b d
-    → CountedWhole s is a.reuse d.reuse × KeepsAll s is d.reuse
+    → CountedWhole s is a.reuse d.reuse × KeepsAll s is d.reuse × StaysLikeRun s a.reuse d.reuse
 turns_ended s levels values c is a b d of_run x over =
     let last = entered s levels (at_turn values) 0 c in
     let R : List (Instantiation NodeRef) → Type 0 = λ l. AreOfRun s l in
     let both : AreOfRun s (x.done ++ last) = subst R x.parts of_run in
     let y = over (λ i m. both i (in_right i x.done last m)) x.counted.ready in
     let m = counted_then s values x.done last a b d both x.counted y in
-    let F : List (Instantiation NodeRef) → Type 0 = λ l. Enters s (records_of a.reuse) m.list l (records_of d.reuse) in
-    (record { list = m.list; enters = subst F (sym x.parts) m.enters; ran = m.ran }, keeps_of s (x.done ++ last) is d.reuse (sym x.parts) m.keeps)
+    let F : List (Instantiation NodeRef) → Type 0 = λ l. Enters s (records_of a.reuse) m.list l (records_of d.reuse) in (
+      record { list = m.list; enters = subst F (sym x.parts) m.enters; ran = m.ran },
+      keeps_of s (x.done ++ last) is d.reuse (sym x.parts) m.keeps,
+      m.only,
+    )
 
 -- what is so of all that is entered with the levels of a run is so of all that a run enters
 pub whole_at : (Says : List (Instantiation NodeRef) → Type 0) (s : Setting NodeRef) (levels : ℕ) → levels ≡ levels_of_a_run
@@ -205,6 +211,12 @@ pub whole_at : (Says : List (Instantiation NodeRef) → Type 0) (s : Setting Nod
 whole_at Says s levels e h =
     let P : ℕ → Type 0 = λ n. AreOfRun s (entered_by_run s n s.globals [] (root_call s)) → Says (entered_by_run s n s.globals [] (root_call s)) in
     (subst P e h) (λ i m. m)
+
+-- a fact of its own
+pub only_so : {T : Type 0} (s : Setting NodeRef) (before after : Reuse) (r : Result T Memory) → OnOk r (StaysLikeRun s before after)
+    → OnOk r (KeepsOnly s before after)
+only_so s before after (Ok whole) h = record { so = h }
+only_so s before after (Err memory) h = tt
 
 -- ---- In a world with the same truth
 

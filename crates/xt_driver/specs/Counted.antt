@@ -1,6 +1,7 @@
 -- What a run counts as it goes on, and what it keeps.
 --     Hand            the records that a run may reuse, how many instantiations it counted, and what it remembers
 --     KeepsAll        of these that come to their ends there are records among those that this run kept
+--     KeepsOnly       each record that this run kept is of the unit and the node of one that it has
 --     Counted         going over these, so many more are counted
 --     CountedFront    going over a front of these, which comes to its end
 --     CountedAlong    going along a record
@@ -22,7 +23,7 @@ use Rattle.spec_run.specs.Meaning.{Setting, Past, NamedGlobal, going_into, globa
 use Rattle.spec_reuse.specs.Among.{IsIn}
 use Rattle.spec_reuse.specs.Instantiation.{Instantiation, meant_below, own_of, kept_of, for_reference, entered, instantiations}
 use Rattle.spec_reuse.specs.Serving.{Serves}
-use Rattle.spec_reuse.specs.Ledger.{nested_along, nested_in, nested_but, AllEnd, AllFound, AreOfRun, Enters, EntersFront, IsAlong, IsFound}
+use Rattle.spec_reuse.specs.Ledger.{nested_along, nested_in, nested_but, AllEnd, AllFound, AreOfRun, Enters, EntersFront, HasLike, IsAlong, IsFound}
 use Rattle.spec_node.specs.declared.node_ref.NodeRef.{NodeRef}
 use Rattle.xt_engine.specs.declared.event.Ran.{Ran}
 use Rattle.xt_engine.specs.declared.turn.Entered.{Entered as Given}
@@ -114,6 +115,17 @@ IsMadeOf s i (Some ran) = kept_with i.call (ran_of ran.value) ≡ kept_of s i
 pub record KeepsAll (s : Setting NodeRef) (is : List (Instantiation NodeRef)) (reuse : Reuse) : Type 0 where
   pub found : (i : Instantiation NodeRef) → IsIn i is → GoesOn (own_of s i).ending → IsFound s (kept_by reuse) i
 
+-- each of these records is of the unit and the node of one that the run has
+abbrev pub AreLikeRun : Setting NodeRef → List (Kept NodeRef) → Type 0
+AreLikeRun s records = (k : Kept NodeRef) → IsIn k records → HasLike (instantiations s) k.call
+
+-- where those that this run kept were so, they still are
+abbrev pub StaysLikeRun : Setting NodeRef → (before after : Reuse) → Type 0
+StaysLikeRun s before after = AreLikeRun s (kept_by before) → AreLikeRun s (kept_by after)
+
+pub record KeepsOnly (s : Setting NodeRef) (before after : Reuse) : Type 0 where
+  pub so : StaysLikeRun s before after
+
 -- ---- What is remembered
 
 -- the evaluation that it is of is one of the run, at no later turn, and of all that it entered and of itself there are records
@@ -155,6 +167,7 @@ pub record Counted (s : Setting NodeRef) (values : List (Bound NodeRef)) (is : L
   pub enters : Enters s (records_of before.reuse) list is (records_of after.reuse)
   pub ran : IsCounted (length list) before after
   pub stands : StandOn before.reuse after.reuse
+  pub only : StaysLikeRun s before.reuse after.reuse
   pub keeps : KeepsAll s is after.reuse
   pub ready : IsReady s values after
 
@@ -163,6 +176,7 @@ pub record CountedFront (s : Setting NodeRef) (values : List (Bound NodeRef)) (i
   pub enters : EntersFront s (records_of before.reuse) list is (records_of after.reuse)
   pub ran : IsCounted (length list) before after
   pub stands : StandOn before.reuse after.reuse
+  pub only : StaysLikeRun s before.reuse after.reuse
   pub ready : IsReady s values after
 
 -- where they are of the run
@@ -209,6 +223,7 @@ pub record CountedAlong (s : Setting NodeRef) (i : Instantiation NodeRef) (k : K
   pub asks : AsksHold s.ask rest
   pub ran : IsCounted (length list) before after
   pub stands : StandOn before.reuse after.reuse
+  pub only : StaysLikeRun s before.reuse after.reuse
   pub keeps : KeepsAll s (nested_along s i done) after.reuse
   pub ready : IsReady s i.past.values after
 
@@ -259,6 +274,7 @@ pub record CountedRun (s : Setting NodeRef) (i : Instantiation NodeRef) (l : Los
   pub enters : Enters s (records_of before.reuse) list (nested_but s i (known_by l i.below) (own_of s i).going.trace) (records_of after.reuse)
   pub ran : IsCounted (suc (length list)) before after
   pub stands : StandOn before.reuse after.reuse
+  pub only : StaysLikeRun s before.reuse after.reuse
   pub keeps : KeepsAll s (nested_but s i (known_by l i.below) (own_of s i).going.trace) after.reuse
   pub ready : IsReady s i.past.values after
 

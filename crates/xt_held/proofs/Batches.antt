@@ -17,12 +17,13 @@ use Rattle.xt_import.specs.View.{is_name, plain_of}
 use Rattle.xt_touch.specs.View.{since_of}
 use Rattle.xt_world.specs.ParameterView.{parameters_of}
 use Rattle.xt_world.proofs.Keys.{lookup-insert}
+use Rattle.xt_held.specs.Called.{numbered_modules}
 use Rattle.xt_held.specs.StylesheetView.{AreCompiled}
 use Rattle.xt_held.specs.Tried.{AreSame}
 use Rattle.xt_held.specs.View.{AreAllBelow, Basis, IsAbandoned, IsBatchOf, IsBegun, IsCurrent, documents_in, documents_of, edited_basis, gone_back, made_of, outcome_in, present_basis, present_by}
 use Rattle.xt_held.specs.declared.batch.Batch.{Batch}
 use Rattle.xt_held.specs.declared.held.Held.{Held}
-use Rattle.xt_held.proofs.Dropping.{same_below, same_modules}
+use Rattle.xt_held.proofs.Dropping.{same_below, same_modules, same_numbered}
 use Rattle.xt_held.proofs.Keeping.{IsToldOn, current_by, holds_since, same_told, told_on}
 
 -- ---- Modules that are copied
@@ -70,6 +71,9 @@ module _ (held : Held) (batch : Batch) (none : held.batch ≡ None) (h : IsCopyO
       let modules = same_modules held.modules.entries batch.modules.entries h.modules in
       λ i. record { source = option_map plain_of (h.source i); modules = modules i; parameters = h.parameters i }
 
+  pub copied_numbers : numbered_modules batch.modules.entries ≡ numbered_modules held.modules.entries
+  copied_numbers = same_numbered held.modules.entries batch.modules.entries h.modules
+
   pub was_present : present_basis held ≡ edited_basis held
   was_present = ap (λ (b : Option Batch). present_by b (edited_basis held)) none
 
@@ -89,8 +93,9 @@ module _ (held : Held) (batch : Batch) (none : held.batch ≡ None) (h : IsCopyO
       let is = same_told (outcome_in held) (outcome_in held) held.compiled held.compiled (present_basis held) (edited_basis held) refl refl (sym was_present)
       (told_on held now) in
       let last = record held.last { since = batch.since } in
-      same_told (outcome_in held) (outcome_in held) held.compiled held.compiled (record { documents = documents_of held; source = held.source; last = last })
-      (present_basis (opened batch held)) refl refl (λ i. record { documents = copied_documents i; source = h.source i; last = last })
+      same_told (outcome_in held) (outcome_in held) held.compiled held.compiled (record (edited_basis held) { last = last })
+      (present_basis (opened batch held)) refl refl
+      (λ i. record { documents = copied_documents i; source = h.source i; modules = copied_numbers i; last = last })
       (record {
         outcome = is.outcome;
         compiled = is.compiled;

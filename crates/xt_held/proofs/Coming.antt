@@ -45,7 +45,7 @@ use Rattle.xt_record.specs.declared.reuse.Reuse.{Reuse}
 use Rattle.xt_own.specs.View.{OwnDecides}
 use Rattle.xt_held.specs.RunView.{Ask, HoldsWith}
 use Rattle.xt_held.specs.OutcomeView.{Fits, IsFreeFor, is_done, no_counts, outcome_of, plain_in}
-use Rattle.xt_held.specs.StylesheetView.{AnswersAs, AreCompiled, AreCompiledBy, Holds, IsCompiledFrom, IsThere, RunsAs}
+use Rattle.xt_held.specs.StylesheetView.{AnswersAs, AnswersGiven, AreCompiled, AreCompiledBy, Holds, IsCompiledFrom, IsThere, RunsBy}
 use Rattle.xt_held.specs.declared.outcome.Came.{Came}
 use Rattle.xt_held.specs.declared.last_run.Kept.{Kept}
 use Rattle.xt_held.specs.declared.outcome.Over.{Over}
@@ -106,14 +106,14 @@ abbrev pub Lifting : Type 0
 Lifting = (sheet : plain_sheet.Sheet) (parameters : Parameters) (source : Plain)
     → spec.outcome_of parameters source (Ok (with_items sheet)) ≡ spec.outcome_of parameters source (Ok sheet)
 
-runs_lifted : (sheet : plain_sheet.Sheet) (compiled : Compiled) → RunsAs compiled (with_items sheet) → Holds compiled (Ok sheet)
-runs_lifted sheet (Stylesheet held rules method) h = (sheet, refl, h.0, h.1, h.2)
-runs_lifted sheet (Refused why) h = absurd h
+runs_lifted : (given : List ℕ) (sheet : plain_sheet.Sheet) (compiled : Compiled) → RunsBy given compiled (with_items sheet) → Holds compiled (Ok sheet)
+runs_lifted given sheet (Stylesheet held rules method) h = (sheet, refl, h.0.is, h.1, h.2)
+runs_lifted given sheet (Refused why) h = absurd h
 
-pub holds_lifted : (sheet other : plain_sheet.Sheet) (r : Result Compiled Memory) → other ≡ with_items sheet → IfOk r (λ compiled. RunsAs compiled other)
-    → IfOk r (λ compiled. Holds compiled (Ok sheet))
-holds_lifted sheet other r is h =
-    IfOk-weaker r _ _ (λ compiled runs. runs_lifted sheet compiled (subst (λ (s : plain_sheet.Sheet). RunsAs compiled s) is runs)) h
+pub holds_lifted : (given : List ℕ) (sheet other : plain_sheet.Sheet) (r : Result Compiled Memory) → other ≡ with_items sheet
+    → IfOk r (λ compiled. RunsBy given compiled other) → IfOk r (λ compiled. Holds compiled (Ok sheet))
+holds_lifted given sheet other r is h =
+    IfOk-weaker r _ _ (λ compiled runs. runs_lifted given sheet compiled (subst (λ (s : plain_sheet.Sheet). RunsBy given compiled s) is runs)) h
 
 pub runs_so : Lifting → (modules : Modules) (parameters : Parameters) (main source : Plain) (compiled : Compiled) (held : world.Stylesheet) (rules : SpaceRules)
     (method copy : Option (Method Expanded)) (whole : means.Whole) (r : Result Came Memory) → compiled ≡ Stylesheet held rules method → copy ≡ method
@@ -161,7 +161,7 @@ same_answers numbers s rules method parameters document (question.Copy node) = r
 same_answers numbers s rules method parameters document (question.Unit element) = refl
 same_answers numbers s rules method parameters document (question.External name) = refl
 
-pub answers_as : (held : world.Stylesheet) (s : plain_sheet.Sheet) (rules : plain_sheet.SpaceRules) (method : Option (Method Expanded))
+answers_as : (held : world.Stylesheet) (s : plain_sheet.Sheet) (rules : plain_sheet.SpaceRules) (method : Option (Method Expanded))
     → AnswersAs held (record s { space_rules = rules; method = method }) → AnswersAs held s
 answers_as held s rules method h = record {
   numbers = h.numbers;
@@ -170,6 +170,12 @@ answers_as held s rules method h = record {
   globals = h.globals;
   rules = h.rules;
 }
+
+-- nor do its units change, so its elements are called as before
+pub answers_given : (given : List ℕ) (held : world.Stylesheet) (s : plain_sheet.Sheet) (rules : plain_sheet.SpaceRules) (method : Option (Method Expanded))
+    → AnswersGiven given held (record s { space_rules = rules; method = method }) → AnswersGiven given held s
+unfolding answers_as
+answers_given given held s rules method h = record { is = answers_as held s rules method h.is; served = h.served }
 
 -- ---- The run, by numbers and by places
 

@@ -1,7 +1,9 @@
 -- What a run keeps is complete.
-use Rattle.std.proofs.Common.{◌≡◌, ℕ, List, Option, None, Some, Result, Ok, Err, refl, sym, ap, subst, ◌∙◌}
+use Rattle.std.proofs.Common.{◌≡◌, ℕ, List, [], map, Option, None, Some, Result, Ok, Err, refl, sym, ap, subst, ◌∙◌}
 use Rattle.std.specs.Prelude.{IfOk, IfSome, OnOk}
 use Rattle.std.specs.Option.{is_none, is_some}
+use Rattle.std.specs.declared.alloc.Global.{Global}
+use Rattle.std.specs.declared.rc.Rc.{Rc}
 use Rattle.spec_document.specs.Name.{Expanded}
 use Rattle.spec_document.specs.Forest.{Document, Plain}
 use Rattle.spec_stylesheet.specs.declared.method.Method.{Method}
@@ -20,8 +22,9 @@ use Rattle.xt_world.specs.Numbered.{ref_to}
 use Rattle.xt_world.specs.View.{truth_in}
 use Rattle.xt_world.specs.declared.stylesheet.Stylesheet as world
 use Rattle.xt_record.specs.declared.pool.Pool.{Pool}
+use Rattle.xt_record.specs.declared.record.Record.{Record}
 use Rattle.xt_record.specs.declared.reuse.Reuse.{Reuse}
-use Rattle.xt_driver.specs.Counted.{KeepsAll}
+use Rattle.xt_driver.specs.Counted.{AreLikeRun, KeepsAll, KeepsOnly, kept_at, kept_by}
 use Rattle.xt_driver.specs.View.{setting_in, whole_of}
 use Rattle.xt_driver.specs.declared.whole.Whole.{Whole}
 use Rattle.xt_held.specs.Complete.{Completes, KeepsFor}
@@ -38,26 +41,38 @@ use Rattle.xt_held.specs.declared.outcome.Recorded.{Recorded}
 -- what comes of the run is what it came to with the records that it keeps
 recorded_so : (s : Setting NodeRef) (reuse : Reuse) (r : Result Whole Memory) (t : Result Recorded Memory) → IfOk t (λ over. r ≡ Ok over.whole)
     → IfOk t (λ over. over.records ≡ reuse.kept) → IfOk r (λ w. whole_of w ≡ run_of s) → OnOk r (KeepsAll s (instantiations s) reuse)
-    → IfOk t (λ over. Completes s over.whole over.records)
-recorded_so s reuse r (Err memory) told kept run keeps = tt
-recorded_so s reuse r (Ok over) told kept run keeps =
+    → OnOk r (AreLikeRun s (kept_by reuse)) → IfOk t (λ over. Completes s over.whole over.records)
+recorded_so s reuse r (Err memory) told kept run keeps only = tt
+recorded_so s reuse r (Ok over) told kept run keeps only =
     let all = subst (λ (x : Result Whole Memory). OnOk x (KeepsAll s (instantiations s) reuse)) told keeps in
+    let like = subst (λ (x : Result Whole Memory). OnOk x (AreLikeRun s (kept_by reuse))) told only in
     record {
       is = subst (λ (x : Result Whole Memory). IfOk x (λ w. whole_of w ≡ run_of s)) told run;
-      keeps = λ i among ends. subst (λ (pool : Pool). IsFound s (kept_among pool) i) (sym kept) (all.found i among ends);
+      keeps = record {
+        all = λ i among ends. subst (λ (pool : Pool). IsFound s (kept_among pool) i) (sym kept) (all.found i among ends);
+        only = subst (λ (pool : Pool). AreLikeRun s (kept_among pool)) (sym kept) like;
+      };
     }
+
+-- at the start it has kept nothing
+like_from : (s : Setting NodeRef) (before after : Reuse) → before.kept.records.items ≡ [] → (r : Result Whole Memory)
+    → OnOk r (KeepsOnly s before after) → OnOk r (AreLikeRun s (kept_by after))
+like_from s before after none (Err memory) h = tt
+like_from s before after none (Ok whole) h =
+    h.so (subst (λ (rs : List (Rc Record Global)). AreLikeRun s (map kept_at rs)) (sym none) (λ kept among. absurd among))
 
 -- by numbers, in the setting that is held of it
 pub recorded_complete : (held : world.Stylesheet) (parameters : Parameters) (document : Document ℕ) (root : NodeRef) → root ≡ ref_to document.root
     → (globals : List NamedGlobal) → globals ≡ held.globals.items → (truth : Ask) → truth ≡ truth_in held parameters document
-    → (reuse : Reuse) (r : Result Whole Memory) (t : Result Recorded Memory) → IfOk t (λ over. r ≡ Ok over.whole)
-    → IfOk t (λ over. over.records ≡ reuse.kept) → IfOk r (λ w. whole_of w ≡ run_of (setting_in truth root globals))
+    → (before reuse : Reuse) → before.kept.records.items ≡ [] → (r : Result Whole Memory) (t : Result Recorded Memory)
+    → IfOk t (λ over. r ≡ Ok over.whole) → IfOk t (λ over. over.records ≡ reuse.kept) → IfOk r (λ w. whole_of w ≡ run_of (setting_in truth root globals))
     → OnOk r (KeepsAll (setting_in truth root globals) (instantiations (setting_in truth root globals)) reuse)
+    → OnOk r (KeepsOnly (setting_in truth root globals) before reuse)
     → IfOk t (λ over. Completes (setting_on held parameters document) over.whole over.records)
-recorded_complete held parameters document root is globals are truth told reuse r t whole kept run keeps =
+recorded_complete held parameters document root is globals are truth told before reuse none r t whole kept run keeps only =
     let same : setting_in truth root globals ≡ setting_on held parameters document = λ i. setting_in (told i) (is i) (are i) in
     subst (λ (s : Setting NodeRef). IfOk t (λ over. Completes s over.whole over.records)) same
-    (recorded_so (setting_in truth root globals) reuse r t whole kept run keeps)
+    (recorded_so (setting_in truth root globals) reuse r t whole kept run keeps (like_from (setting_in truth root globals) before reuse none r only))
 
 -- with what else it keeps
 pub over_complete : (s : Setting NodeRef) (recorded : Recorded) (t : Result Over Memory) → IfOk t (λ over. over.whole ≡ recorded.whole)
@@ -82,9 +97,9 @@ left_by s None (Some kept) e h = h
 left_by s (Some why) None e h = tt
 left_by s (Some why) (Some kept) e h = absurd (cc)
 
-kept_by : (kept : Option Kept) (left : Kept) (P : Kept → Type 0) → IfSome kept (λ k. k ≡ left) → P left → IfSome kept P
-kept_by None left P is h = tt
-kept_by (Some kept) left P is h = subst P (sym is) h
+left_kept : (kept : Option Kept) (left : Kept) (P : Kept → Type 0) → IfSome kept (λ k. k ≡ left) → P left → IfSome kept P
+left_kept None left P is h = tt
+left_kept (Some kept) left P is h = subst P (sym is) h
 
 -- what a run leaves that is over
 pub ended_keeps : (s : Setting NodeRef) (method : Option (Method Expanded)) (over : Over) (r : Result Came Memory) → Completes s over.whole over.kept.records
@@ -95,4 +110,4 @@ ended_keeps s method over (Ok came) complete outcome fits kept =
     let run = run_of s in
     let outcome_so : outcome_of came.outcome ≡ outcome_by method run = outcome ∙ ap (outcome_by method) complete.is in
     left_by s run.refusal came.kept (fits.kept ∙ ap is_done outcome_so ∙ done_by (shaped run.content) method run.messages run.refusal)
-    (kept_by came.kept over.kept (λ k. KeepsRun s (kept_among k.records)) kept complete.keeps)
+    (left_kept came.kept over.kept (λ k. KeepsRun s (kept_among k.records)) kept complete.keeps)

@@ -9,13 +9,13 @@ use Rattle.spec_document.specs.Forest.{Document}
 use Rattle.spec_run.specs.Documents.{Parameters}
 use Rattle.spec_run.specs.Going.{Event, Asked, Saw, Entered, Held}
 use Rattle.spec_run.specs.Meaning.{Setting}
-use Rattle.spec_run.specs.Plan.{Target}
 use Rattle.spec_run.specs.Trail.{Kept}
 use Rattle.spec_reuse.specs.Among.{IsIn}
 use Rattle.spec_reuse.specs.Instantiation.{Instantiation, instantiations}
 use Rattle.spec_reuse.specs.Ledger.{AreCounted, Enters}
 use Rattle.spec_reuse.proofs.Counting.{run_counted}
 use Rattle.spec_node.specs.declared.node_ref.NodeRef.{NodeRef}
+use Rattle.spec_cost.specs.Paying.{IsUnrecorded, asked_among, asked_in}
 use Rattle.spec_touch.specs.Marks.{WorldChange, any_marks}
 use Rattle.xt_text.specs.declared.memory.Memory.{Memory}
 use Rattle.xt_engine.specs.declared.global.NamedGlobal.{NamedGlobal}
@@ -32,7 +32,7 @@ use Rattle.xt_record.specs.declared.reuse.Reuse.{Reuse}
 use Rattle.xt_driver.specs.Counted.{CountedWhole, kept_at, most_counted, records_of}
 use Rattle.xt_driver.specs.View.{setting_in}
 use Rattle.xt_driver.specs.declared.whole.Whole.{Whole}
-use Rattle.xt_held.specs.Cost.{Costs, CostsRun, IsUnrecorded, any_change, kept_among, setting_on}
+use Rattle.xt_held.specs.Cost.{Costs, CostsRun, any_change, kept_among, setting_on}
 use Rattle.xt_held.specs.OutcomeView.{no_counts}
 use Rattle.xt_held.specs.RunView.{Ask}
 use Rattle.xt_held.specs.declared.counts.Counts.{Counts}
@@ -129,21 +129,20 @@ recorded_cost s records changes ask before after r (Ok over) begins last since c
     (subst (λ (cs : List WorldChange). over.counts.asked ≤ marked_of cs records) since
     (subst (λ (pool : Pool). over.counts.asked ≤ marked_of (since_of after.spared.now.since.now) pool) last (asked ask is_sure)))
 
--- units and nodes that no record is of are among those that no record is of
-pub counted_of_new : (s : Setting NodeRef) (records : List (Kept NodeRef)) (is_new : Target NodeRef → NodeRef → Bool) (list : List (Instantiation NodeRef))
-    → ((kept : Kept NodeRef) → IsIn kept records → is_new kept.call.target kept.call.node ≡ false) → AreCounted s records (IsUnrecorded records) list
-    → AreCounted s records (λ unit node. is_new unit node ≡ true) list
-counted_of_new s records is_new list old h = record {
-  of_run = h.of_run;
-  new = h.new;
-  once = h.once;
-  made = λ i at new. h.made i at (λ kept among unit node. apart (is_new kept.call.target kept.call.node) (old kept among)
-      ((λ j. is_new (unit j) (node j)) ∙ new));
-}
-  where
-    apart : (b : Bool) → b ≡ false → b ≡ true → ⊥
-    apart true e h = absurd (cc)
-    apart false e h = absurd (cc)
+-- each question that the records asked, where nothing is known of what changed
+all_in : (es : List (Event NodeRef)) → marked_in any_change es ≡ asked_in es
+all_in [] = refl
+all_in (Asked question answer ∷ es) = ap (λ n. 1 + n) (all_in es)
+all_in (Saw wanted depth place supplied ∷ es) = all_in es
+all_in (Entered call depth ∷ es) = all_in es
+all_in (Held first contents ∷ es) = all_in es
+
+all_among : (rs : List (Rc Record Global)) → marked_among any_change rs ≡ asked_among (map kept_at rs)
+all_among [] = refl
+all_among (r ∷ rs) = λ i. all_in (kept_in r.value).trace i + all_among rs i
+
+pub asked_again : (n : ℕ) (records : Pool) → n ≤ marked_of any_change records → n ≤ asked_among (kept_among records)
+asked_again n records h = subst (λ (most : ℕ). n ≤ most) (all_among records.records.items) h
 
 -- ---- What comes of that
 

@@ -11,12 +11,14 @@ use Rattle.std.specs.declared.alloc.Global.{Global}
 use Rattle.std.specs.declared.string.String.{String}
 use Rattle.indexmap.specs.IndexMap.{insert_entry}
 use Rattle.spec_document.specs.Forest.{Document}
+use Rattle.spec_cost.specs.Numbers as numbers
 use Rattle.spec_structure.specs.Modules.{Modules}
 use Rattle.xt_text.proofs.Chars.{same_chars}
 use Rattle.xt_text.specs.declared.memory.Memory.{Memory}
 use Rattle.xt_edit.specs.View.{AreBelow}
 use Rattle.xt_import.specs.View.{is_name, modules_in, plain_of}
 use Rattle.xt_world.proofs.Keys.{by_characters, lookup-insert}
+use Rattle.xt_held.specs.Called.{numbered_modules}
 use Rattle.xt_held.specs.StylesheetView.{AreCompiled, without_one}
 use Rattle.xt_held.specs.Tried.{AreSame}
 use Rattle.xt_held.specs.View.{AreAllBelow}
@@ -69,6 +71,13 @@ modules-taken text utf8 name same old new is =
     let all : modules_in new ≡ without_one (chars text) (modules_in old) = λ i other. at other i in
     all ∙ ap (λ (n : List ℕ). without_one n (modules_in old)) same
 
+-- the same with the numbers of their nodes
+pub numbered-taken : (text : List ℕ) → IsUtf8 text → (name : List ℕ) → chars text ≡ name → (old new : List (String Global × Document ℕ))
+    → IsTaken text old new → numbered_modules new ≡ numbers.with_one name None (numbered_modules old)
+numbered-taken text utf8 name same old new is =
+    let all : numbered_modules new ≡ numbers.with_one (chars text) None (numbered_modules old) = λ i other. taken text utf8 old new is other i in
+    all ∙ ap (λ (n : List ℕ). numbers.with_one n None (numbered_modules old)) same
+
 pub taken_below : (text : List ℕ) → IsUtf8 text → (first : ℕ) (source : Option (Document ℕ)) (old new : List (String Global × Document ℕ))
     → IsTaken text old new → AreAllBelow first source old → AreAllBelow first source new
 taken_below text utf8 first source old new is below = record {
@@ -120,6 +129,9 @@ compiled_as r modules others e h = subst (λ (ms : Modules). IfOk r (λ compiled
 
 pub same_modules : (old new : List (String Global × Document ℕ)) → AreSame old new → modules_in new ≡ modules_in old
 same_modules old new same = λ i name. option_map plain_of (same.so name i)
+
+pub same_numbered : (old new : List (String Global × Document ℕ)) → AreSame old new → numbered_modules new ≡ numbered_modules old
+same_numbered old new same = λ i name. same.so name i
 
 pub same_below : (first : ℕ) (source : Option (Document ℕ)) (old new : List (String Global × Document ℕ)) → AreSame old new → AreAllBelow first source old
     → AreAllBelow first source new

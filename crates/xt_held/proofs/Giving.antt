@@ -21,7 +21,7 @@ use Rattle.xt_held.specs.declared.outcome.Came.{Came}
 use Rattle.xt_held.specs.declared.ready.Change.TheVariants as changes
 use Rattle.xt_held.proofs.Dropping.{same_entries}
 use Rattle.xt_held.proofs.Keeping.{IsReordered, kept_so as reordered_kept}
-use Rattle.xt_held.proofs.Making.{mapped_twice, open_batch, pending_from, pending_ready, told_from, told_ready}
+use Rattle.xt_held.proofs.Making.{mapped_twice, none_edited, open_batch, pending_from, pending_ready, told_from, told_ready}
 use Rattle.xt_held.proofs.Paying.{present_modules}
 
 abbrev pub with_those : Held → Parameters → Held
@@ -82,6 +82,7 @@ module _ (held : Held) (parameters : Parameters) (name value : List ℕ) (key : 
               cost = subst (λ (values : spec.Parameters). CostsRun held.compiled values held.source held.last.kept.records any_change came.counts) given cost;
               keeps = subst (λ (values : spec.Parameters). KeepsWhere held.compiled values held.source came.kept) given keeps;
               same = λ e. record { modules = present_modules (with_those held parameters) alone; compiled = refl };
+              called = λ e. absurd (none_edited held.batch alone e);
             }) room below tt;
       }
 

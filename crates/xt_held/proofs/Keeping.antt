@@ -19,6 +19,7 @@ use Rattle.xt_world.specs.ParameterView.{parameters_of}
 use Rattle.xt_world.proofs.Keys.{lookup-insert}
 use Rattle.xt_touch.specs.View.{since_of}
 use Rattle.xt_touch.specs.declared.since.Since.{Since}
+use Rattle.xt_held.specs.Called.{numbered_modules}
 use Rattle.xt_held.specs.declared.counts.Counts.{Counts}
 use Rattle.xt_held.specs.OutcomeView.{IsFreeFor}
 use Rattle.xt_held.specs.RunView.{KeptSpared, LastHolds, LastServes, last_known}
@@ -32,7 +33,7 @@ use Rattle.xt_held.specs.declared.name.DocName.{DocName}
 use Rattle.xt_held.specs.declared.name.DocName.TheVariants as names
 use Rattle.xt_held.specs.declared.stylesheet.Compiled.{Compiled}
 use Rattle.xt_held.proofs.Below.{raised}
-use Rattle.xt_held.proofs.Dropping.{same_below, same_entries, same_modules}
+use Rattle.xt_held.proofs.Dropping.{same_below, same_entries, same_modules, same_numbered}
 use Rattle.xt_held.proofs.Keys.{map-copied}
 use denote.Ref.{Bor}
 
@@ -121,8 +122,11 @@ module _ (old new : Held) (h : IsReordered old new) where
       let modules = same_modules old.modules.entries new.modules.entries h.modules in
       λ i. record { source = option_map plain_of (h.source i); modules = modules i; parameters = h.parameters i }
 
+  pub same_numbers : numbered_modules new.modules.entries ≡ numbered_modules old.modules.entries
+  same_numbers = same_numbered old.modules.entries new.modules.entries h.modules
+
   same_edited : edited_basis new ≡ edited_basis old
-  same_edited = λ i. record { documents = same_documents i; source = h.source i; last = h.last i }
+  same_edited = λ i. record { documents = same_documents i; source = h.source i; modules = same_numbers i; last = h.last i }
 
   same_present : present_basis new ≡ present_basis old
   same_present = λ i. present_by (h.batch i) (same_edited i)
@@ -162,6 +166,7 @@ module _ (old new : Held) (h : IsReordered old new) where
     counts = h.counts;
     last = h.last;
     source = h.source;
+    modules = same_numbers;
     basis = same_present;
     compiled = h.compiled;
     is_edited = ap is_edited_by h.batch;

@@ -12,9 +12,11 @@ use Rattle.std.specs.declared.alloc.Global.{Global}
 use Rattle.std.specs.declared.string.String.{String}
 use Rattle.indexmap.specs.IndexMap.{insert_entry}
 use Rattle.spec_document.specs.Forest.{Document}
+use Rattle.spec_cost.specs.Numbers as numbers
 use Rattle.xt_import.specs.View.{is_name, modules_in, plain_of}
 use Rattle.spec_run.specs.Documents.{main_name}
 use Rattle.xt_world.proofs.Keys.{by_characters, lookup-insert}
+use Rattle.xt_held.specs.Called.{numbered_modules}
 use Rattle.xt_held.specs.OutcomeView.{plain_in}
 use Rattle.xt_held.specs.StylesheetView.{with_one}
 use denote.Ref.{Bor}
@@ -31,6 +33,11 @@ modules-insert key document es =
     let at : (name : List ℕ) → modules_in (insert_entry string_eq es key document) name ≡ with_one (chars (string_bytes key)) (plain_of document) (modules_in es) name
     = λ name. ap (option_map plain_of) (lookup-insert name key document es) ∙ map-cond plain_of (is_name name key) document (lookup (is_name name) es) in
     λ i name. at name i
+
+-- the same with the numbers of their nodes
+pub numbered-insert : (key : String Global) (document : Document ℕ) (es : List (String Global × Document ℕ))
+    → numbered_modules (insert_entry string_eq es key document) ≡ numbers.with_one (chars (string_bytes key)) (Some document) (numbered_modules es)
+numbered-insert key document es = λ i name. lookup-insert name key document es i
 
 pub map-copied : {X Y : Type 0} (f : X → Y) (o : Option (Bor X)) → option_map (λ r. f r.now) o ≡ option_map f (option_copied o)
 map-copied f None = refl

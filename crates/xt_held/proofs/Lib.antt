@@ -2,6 +2,7 @@ pub mod Below
 pub mod FirstUnread
 pub mod Keys
 pub mod Coming
+pub mod Calling
 pub mod Costing
 pub mod Completing
 pub mod Giving

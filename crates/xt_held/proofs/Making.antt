@@ -1,15 +1,16 @@
 -- Changes that were made ready, and what is held once they are adopted.
-use Rattle.std.proofs.Common.{◌≡◌, ℕ, ◌≤◌, true, false, Option, None, Some, refl, sym, ap, subst, ◌∙◌}
-use Rattle.std.specs.Prelude.{IfSome}
+use Rattle.std.proofs.Common.{◌≡◌, ℕ, ◌≤◌, Bool, true, false, Option, None, Some, refl, sym, ap, subst, ◌∙◌}
+use Rattle.std.specs.Prelude.{IfSome, ◌||◌}
 use Rattle.std.specs.Option.{is_some, option_map, unwrap_or}
 use Rattle.spec_node.specs.declared.node_ref.NodeId.{NodeId}
 use Rattle.spec_run.specs.Documents.{Documents}
 use Rattle.spec_run.specs.Outcome.{IsOutcome}
 use Rattle.xt_touch.specs.declared.since.Since.{Since}
 use Rattle.xt_world.specs.ParameterView.{parameters_of}
+use Rattle.xt_held.specs.Called.{numbered_modules}
 use Rattle.xt_held.specs.OutcomeView.{outcome_of}
 use Rattle.xt_held.specs.StylesheetView.{AreCompiled}
-use Rattle.xt_held.specs.View.{Basis, HasBelow, HasRoom, IsBatchOf, IsBelow, IsComing, IsCurrent, IsMadeFrom, IsPending, IsTold, IsToldOf, StaysTold, changed_by, documents_in, documents_of, edited_basis, last_in, left_after, made_of, next_basis, next_batch, next_before, next_compiled, next_documents, next_last, next_made, next_outcome, next_pending, next_present, next_source, outcome_after, outcome_in, pending_of, present_basis, present_by, present_of, next_counts, counts_by, counts_in, told_by, with_coming, with_edit}
+use Rattle.xt_held.specs.View.{Basis, HasBelow, HasRoom, IsBatchOf, IsBelow, IsComing, IsCurrent, IsMadeFrom, IsPending, IsTold, IsToldOf, StaysTold, changed_by, documents_in, documents_of, edited_basis, is_edited_by, last_in, left_after, made_of, next_basis, next_batch, next_before, next_compiled, next_documents, next_last, next_made, next_numbers, next_outcome, next_pending, next_present, next_source, outcome_after, outcome_in, pending_of, present_basis, present_by, present_of, next_counts, counts_by, counts_in, told_by, with_coming, with_edit}
 use Rattle.xt_held.specs.declared.batch.Batch.{Batch}
 use Rattle.xt_held.specs.declared.held.Held.{Held}
 use Rattle.xt_held.specs.declared.last_run.LastRun.{LastRun}
@@ -55,6 +56,16 @@ pub mapped_edit : (batch : Option Batch) (next documents : Documents)
 mapped_edit None next documents = refl
 mapped_edit (Some batch) next documents = refl
 
+-- where none is open, no module was edited in one
+pub none_edited : (batch : Option Batch) → batch ≡ None → (is_edited_by batch || false) ≡ true → ⊥
+none_edited None alone e = absurd (cc)
+none_edited (Some batch) alone e = absurd (cc)
+
+-- nor in one in which none was
+pub not_edited : (b : Bool) → b ≡ false → (b || false) ≡ true → ⊥
+not_edited true none e = absurd (cc)
+not_edited false none e = absurd (cc)
+
 some_mapped : (batch : Option Batch) (next : Documents) → is_some batch ≡ true → option_map (λ (b : Batch). next) batch ≡ Some next
 some_mapped None next h = absurd (cc)
 some_mapped (Some batch) next h = refl
@@ -83,6 +94,7 @@ same_batch batch was is kept before =
     λ i. record {
       documents = documents_in batch;
       source = batch.source;
+      modules = numbered_modules batch.modules.entries;
       last = record { kept = kept i; since = batch.since; before = before i };
     }
 
@@ -162,6 +174,7 @@ module _ (held : Held) (change : Change) (next : NodeId) where
 pub record IsAdopted (ready : Ready) (old new : Held) : Type 0 where
   pub documents : documents_of new ≡ next_documents ready old
   pub source : new.source ≡ next_source ready.change old
+  pub modules : numbered_modules new.modules.entries ≡ (next_numbers ready.change old).modules
   pub compiled : new.compiled ≡ next_compiled ready.change old
   pub last : last_in new ≡ next_last ready old
   pub batch : new.batch ≡ next_batch ready.change old.batch
@@ -180,6 +193,7 @@ pub record IsPut (change : Change) (old new : Held) : Type 0 where
   pub documents : documents_of new ≡ changed_by change (documents_of old)
   pub compiled : new.compiled ≡ next_compiled change old
   pub source : new.source ≡ next_source change old
+  pub modules : numbered_modules new.modules.entries ≡ (next_numbers change old).modules
   pub last : last_in new ≡ record (last_in old) { before = next_before change old }
   pub batch : new.batch ≡ next_batch change old.batch
   pub told : StaysTold old new
@@ -197,6 +211,7 @@ adopted_so ready old put new taken is others below =
     record {
       documents = ap documents_of taken ∙ is.documents;
       source = ap (λ (held : Held). held.source) taken ∙ is.source;
+      modules = ap (λ (held : Held). numbered_modules held.modules.entries) taken ∙ is.modules;
       compiled = ap (λ (held : Held). held.compiled) taken ∙ is.compiled;
       last = ap last_in taken ∙ ap (λ (last : LastRun). left_after ready.coming last.before last) is.last ∙ left_again ready.coming before before old.last;
       batch = ap (λ (held : Held). held.batch) taken ∙ is.batch;
@@ -208,7 +223,7 @@ adopted_so ready old put new taken is others below =
 
 module _ (change : Change) (next : NodeId) (old new : Held) where
   basis_so : (ready : Ready) → IsAdopted ready old new → edited_basis new ≡ next_basis ready old
-  basis_so ready h = λ i. record { documents = h.documents i; source = h.source i; last = h.last i }
+  basis_so ready h = λ i. record { documents = h.documents i; source = h.source i; modules = h.modules i; last = h.last i }
 
   pub present_so : (ready : Ready) → IsAdopted ready old new → present_basis new ≡ present_by (next_batch ready.change old.batch) (next_basis ready old)
   present_so ready h = λ i. present_by (h.batch i) (basis_so ready h i)

@@ -16,7 +16,8 @@ use Rattle.spec_run.specs.Plan.{Refused as Refusal}
 use Rattle.spec_run.specs.Trail.{Kept as Trail}
 use Rattle.spec_seen.specs.Seen.{seen}
 use Rattle.spec_items.specs.Liftable.{with_items}
-use Rattle.spec_cost.specs.Numbers.{edited_source, with_nodes}
+use Rattle.spec_cost.specs.Naming.{IsNamed}
+use Rattle.spec_cost.specs.Numbers.{NumberedDocuments, NumberedModules, edited_if, no_numbers, with_module, with_nodes}
 use Rattle.spec_cost.specs.Past.{Past, nothing_past}
 use Rattle.spec_cost.specs.Paying.{CostsOn, IsCost, IsFree, KeepsBy, Pays, setting_called, with_pending}
 use Rattle.spec_node.specs.declared.node_ref.NodeId.{NodeId}
@@ -29,15 +30,16 @@ use Rattle.xt_edit.specs.View.{Edits}
 use Rattle.xt_edit.specs.declared.edit.Edited.{Edited}
 use Rattle.xt_edit.specs.declared.fault.EditFault.{EditFault}
 use Rattle.xt_touch.specs.declared.since.Since.{Since}
-use Rattle.xt_world.specs.Numbered.{element_called, ref_to}
+use Rattle.xt_world.specs.Numbered.{ref_to}
 use Rattle.xt_world.specs.declared.stylesheet.Stylesheet as world
 use Rattle.xt_driver.specs.Counted.{kept_at}
 use Rattle.xt_held.specs.Complete.{KeepsFor, KeepsWhere}
 use Rattle.xt_held.specs.Cost.{Costs, CostsRun, any_change, kept_among, setting_on, setting_seen}
 use Rattle.xt_held.specs.OutcomeView.{no_counts}
-use Rattle.xt_held.specs.PastView.{Brings, IsCalled, IsCalledIn, IsPast, PaysFor, edited_if, given_if, is_edited_by, is_of_module, source_in}
+use Rattle.xt_held.specs.Called.{AreCalled, IsCalled, IsCalledIn, numbered_modules}
+use Rattle.xt_held.specs.PastView.{Brings, IsPast, PaysFor, edited_as, given_as, is_edited_by, is_of_module, numbers_of}
 use Rattle.xt_held.specs.StylesheetView.{AreCompiled, AreCompiledBy}
-use Rattle.xt_held.specs.View.{Basis, IsComing, IsCurrent, IsBatchOf, IsKept, IsMadeFrom, IsPending, IsTold, ModulesStay, documents_of, edited_basis, made_of, next_basis, next_batch, next_compiled, next_documents, next_present, next_source, numbered_document, present_basis, present_by, present_of}
+use Rattle.xt_held.specs.View.{Basis, IsComing, IsCurrent, IsBatchOf, IsKept, IsMadeFrom, IsPending, IsTold, ModulesStay, documents_of, edited_basis, made_of, next_basis, next_batch, next_compiled, next_documents, next_numbers, next_present, next_source, numbered_document, present_basis, present_by, present_of}
 use Rattle.xt_held.specs.declared.batch.Batch.{Batch}
 use Rattle.xt_held.specs.declared.counts.Counts.{Counts}
 use Rattle.xt_held.specs.declared.held.Held.{Held}
@@ -55,10 +57,14 @@ use Rattle.xt_held.specs.declared.stylesheet.Compiled.{Compiled}
 use Rattle.xt_held.specs.declared.stylesheet.Compiled.TheVariants.{Stylesheet, Refused}
 use denote.Ref.{Bor}
 use Rattle.xt_held.proofs.Batches.{IsCopyOf, copied_documents, opened, was_present}
-use Rattle.xt_held.proofs.Costing.{counted_of_new}
+use Rattle.xt_held.proofs.Costing.{asked_again}
 use Rattle.xt_held.proofs.Making.{IsAdopted, pending_ready, present_so, stays, told_ready}
 
 -- ---- The same past
+
+-- what a basis rests on, with the numbers of its nodes
+abbrev basis_numbers : Basis → NumberedDocuments
+basis_numbers basis = record { source = basis.source; modules = basis.modules }
 
 same_called : (called : Place → NodeRef) (modules others : Modules) (compiled other : Option Compiled) → others ≡ modules → other ≡ compiled
     → IsCalledIn called modules compiled → IsCalledIn called others other
@@ -66,16 +72,20 @@ same_called called modules others compiled other m c h =
     subst (λ (ms : Modules). IsCalledIn called ms other) (sym m) (subst (λ (o : Option Compiled). IsCalledIn called modules o) (sym c) h)
 
 -- at the start
-pub first_past : (called : Place → NodeRef) (held : Held) → held.source ≡ None → held.compiled ≡ None → held.batch ≡ None
-    → held.last.kept.records.records.items ≡ [] → held.counts.ran ≡ 0 → IsPast (nothing_past called) held
-first_past called held source compiled batch records ran = record {
-  present = sym (ap (λ (b : Option Batch). (present_by b (edited_basis held)).source) batch ∙ source);
-  edited = sym source;
+pub first_past : (called : Place → NodeRef) (held : Held) → held.source ≡ None → held.modules.entries ≡ [] → held.compiled ≡ None → held.batch ≡ None
+    → held.last.kept.records.records.items ≡ [] → held.counts.ran ≡ 0 → held.counts.asked ≡ 0 → IsPast (nothing_past called) held
+first_past called held source modules compiled batch records ran asked = record {
+  present = sym (ap (λ (b : Option Batch). basis_numbers (present_by b (edited_basis held))) batch ∙ no_documents_yet source modules);
+  edited = sym (no_documents_yet source modules);
   is_edited = sym (ap is_edited_by batch);
   called = subst (λ (o : Option Compiled). IsCalledIn called (present_of held).modules o) (sym compiled) tt;
   records = sym (ap (map kept_at) records);
   ran = sym ran;
+  asked = sym asked;
 }
+  where
+    no_documents_yet : held.source ≡ None → held.modules.entries ≡ [] → numbers_of held ≡ no_numbers
+    no_documents_yet s m = λ i. record { source = s i; modules = numbered_modules (m i) }
 
 -- ---- The modules stay
 
@@ -119,19 +129,21 @@ keeps_by s (Some why) kept None h = refl
 keeps_by s (Some why) kept (Some left) h = absurd h
 
 cost_so : (s : Setting NodeRef) (kept : Kept) (new : Option Kept) (counts : Counts) → Costs s kept.records any_change counts
-    → KeepsFor (run_of s).refusal s new → IsCost s (kept_among kept.records) counts.ran (kept_among (unwrap_or new kept).records)
+    → KeepsFor (run_of s).refusal s new → IsCost s (kept_among kept.records) counts.ran counts.asked (kept_among (unwrap_or new kept).records)
 cost_so s kept new counts cost keeps = record {
   list = cost.list;
-  counted = λ is_new old. counted_of_new s (kept_among kept.records) is_new cost.list old cost.counted;
+  counted = cost.counted;
   told = cost.ran;
+  again = asked_again counts.asked kept.records cost.asked;
   keeps = keeps_by s (run_of s).refusal kept new keeps;
 }
 
 -- nothing was run
 free_so : (kept : Kept) (new : Option Kept) (counts : Counts) → counts ≡ no_counts → new ≡ None
-    → IsFree (kept_among kept.records) counts.ran (kept_among (unwrap_or new kept).records)
+    → IsFree (kept_among kept.records) counts.ran counts.asked (kept_among (unwrap_or new kept).records)
 free_so kept new counts none nothing = record {
   told = ap (λ (c : Counts). c.ran) none;
+  again = ap (λ (c : Counts). c.asked) none;
   keeps = ap (λ (o : Option Kept). kept_among (unwrap_or o kept).records) nothing;
 }
 
@@ -148,7 +160,7 @@ costs_so : (called : Place → NodeRef) (modules : Modules) (parameters : Parame
     (compiled : Option Compiled) → AreCompiledBy modules main compiled → IsCalledIn called modules compiled
     → (kept : Kept) (new : Option Kept) (counts : Counts) → CostsRun compiled parameters source kept.records any_change counts
     → KeepsWhere compiled parameters source new
-    → CostsOn called modules parameters main source (kept_among kept.records) counts.ran (kept_among (unwrap_or new kept).records)
+    → CostsOn called modules parameters main source (kept_among kept.records) counts.ran counts.asked (kept_among (unwrap_or new kept).records)
 costs_so called modules parameters None source None are is kept new counts cost keeps = free_so kept new counts cost keeps
 costs_so called modules parameters None source (Some compiled) are is kept new counts cost keeps = absurd are
 costs_so called modules parameters (Some main) source None are is kept new counts cost keeps = absurd are
@@ -163,41 +175,26 @@ costs_so called modules parameters (Some main) (Some source) (Some (Refused why)
 costs_so called modules parameters (Some main) (Some source) (Some (Stylesheet held rules method)) are is kept new counts cost keeps = (
   Ok is.0,
   is.1,
-  subst (λ (s : Setting NodeRef). IsCost s (kept_among kept.records) counts.ran (kept_among (unwrap_or new kept).records))
+  subst (λ (s : Setting NodeRef). IsCost s (kept_among kept.records) counts.ran counts.asked (kept_among (unwrap_or new kept).records))
       (called_so called (with_items is.0) held rules parameters source is.2 is.3)
       (cost_so (setting_seen held rules parameters source) kept new counts cost keeps),
 )
 
 -- ---- What elements are called
 
-called_by : (modules : Modules) (main : Option Plain) (compiled : Option Compiled) → (Place → NodeRef) → AreCompiledBy modules main compiled
-    → (called : Place → NodeRef) × IsCalledIn called modules compiled
-called_by modules main None before are = (before, tt)
-called_by modules main (Some (Refused why)) before are = (before, tt)
-called_by modules None (Some (Stylesheet held rules method)) before are = absurd are
-called_by modules (Some main) (Some (Stylesheet held rules method)) before are =
-    let holds = are.holds in (
-      element_called holds.2.numbers,
-      (
-        holds.0,
-        subst (λ (r : Result plain.Sheet compile.Refusal). IsSheet modules main_name r) holds.1 are.is,
-        record { truth = holds.2.truth; globals = holds.2.globals },
-        holds.3,
-      ),
-    )
-
--- as before where the modules stay
-record Chosen (is_changed : Bool) (before : Place → NodeRef) (modules : Modules) (compiled : Option Compiled) : Type 0 where
+-- as before where the modules stay, and else by the numbers that they have then
+record Chosen (is_changed : Bool) (before : Place → NodeRef) (modules : Modules) (numbered : NumberedModules) (compiled : Option Compiled) : Type 0 where
   pub called : Place → NodeRef
   pub same : is_changed ≡ false → called ≡ before
+  pub named : is_changed ≡ true → IsNamed called modules numbered
   pub is : IsCalledIn called modules compiled
 
-choose : (is_changed : Bool) (before : Place → NodeRef) (modules : Modules) (compiled : Option Compiled) → AreCompiled modules compiled
-    → (is_changed ≡ false → IsCalledIn before modules compiled) → Chosen is_changed before modules compiled
-choose false before modules compiled are stay = record { called = before; same = λ e. refl; is = stay refl }
-choose true before modules compiled are stay =
-    let found = called_by modules (modules main_name) compiled before are.so in
-    record { called = found.0; same = λ e. absurd (cc); is = found.1 }
+choose : (is_changed : Bool) (before : Place → NodeRef) (modules : Modules) (numbered : NumberedModules) (compiled : Option Compiled)
+    → (is_changed ≡ true → AreCalled modules numbered compiled) → (is_changed ≡ false → IsCalledIn before modules compiled)
+    → Chosen is_changed before modules numbered compiled
+choose false before modules numbered compiled change stay = record { called = before; same = λ e. refl; named = λ e. absurd (cc); is = stay refl }
+choose true before modules numbered compiled change stay =
+    let found = change refl in record { called = found.0; same = λ e. absurd (cc); named = λ e. found.2; is = found.1 }
 
 -- ---- What is adopted
 
@@ -219,24 +216,29 @@ edited_in (changes.Dropped name compiled) (Some batch) h = changed batch.is_edit
     changed true = refl
     changed false = refl
 
+-- the numbered documents that will be held
+numbers_are : {ready : Ready} {old new : Held} → IsAdopted ready old new → numbers_of new ≡ next_numbers ready.change old
+numbers_are h = λ i. record { source = h.source i; modules = h.modules i }
+
 module _ (change : Change) (next : NodeId) (old new : Held) (before : Past) (is : IsPast before old) where
   pending_past : (since : Since) → IsAdopted (pending_ready change next since) old new → IsPending (pending_ready change next since) old
-      → IsPast (with_pending (next_source change old) (is_of_module change) before) new
+      → IsPast (with_pending (next_numbers change old) (is_of_module change) before) new
   pending_past since h pending =
       let basis : present_basis new ≡ present_basis old
       = present_so change next old new (pending_ready change next since) h ∙ stays old change next since pending in
       record {
-        present = is.present ∙ sym (ap (λ (basis : Basis). basis.source) basis);
-        edited = sym h.source;
+        present = is.present ∙ sym (ap basis_numbers basis);
+        edited = sym (numbers_are h);
         is_edited = ap (λ (b : Bool). b || is_of_module change) is.is_edited ∙ edited_in change old.batch pending.is_open ∙ sym (ap is_edited_by h.batch);
         called = same_called before.called (present_of old).modules (present_of new).modules old.compiled new.compiled
             (ap (λ (basis : Basis). basis.documents.modules) basis) (h.compiled ∙ pending.compiled) is.called;
         records = is.records ∙ sym (ap (λ (last : LastRun). kept_among last.kept.records) h.last);
         ran = is.ran ∙ sym (ap (λ (counts : Counts). counts.ran) h.counts);
+        asked = is.asked ∙ sym (ap (λ (counts : Counts). counts.asked) h.counts);
       }
 
   told_past : (came : Came) → IsAdopted (told_ready change next came) old new → IsTold came (told_ready change next came) old
-      → (after : Past) × Pays (next_present (told_ready change next came) old) (next_source change old) (is_of_module change) before after × IsPast after new
+      → (after : Past) × Pays (next_present (told_ready change next came) old) (next_numbers change old) (is_of_module change) before after × IsPast after new
   told_past came h told =
       let ready = told_ready change next came in
       let documents = next_documents ready old in
@@ -246,14 +248,17 @@ module _ (change : Change) (next : NodeId) (old new : Held) (before : Past) (is 
       = λ e. (
       let same = told.same (ap (λ (b : Bool). b || is_of_module change) (sym is.is_edited) ∙ e) in
       same_called before.called (present_of old).modules documents.modules old.compiled compiled same.modules same.compiled is.called) in
-      let chosen = choose (before.is_edited || is_of_module change) before.called documents.modules compiled told.compiled stay in
+      let changed : (before.is_edited || is_of_module change) ≡ true → AreCalled documents.modules (next_numbers change old).modules compiled
+      = λ e. told.called (ap (λ (b : Bool). b || is_of_module change) (sym is.is_edited) ∙ e) in
+      let chosen = choose (before.is_edited || is_of_module change) before.called documents.modules (next_numbers change old).modules compiled changed stay in
       let after : Past = record {
-        present = next_source change old;
-        edited = next_source change old;
+        present = next_numbers change old;
+        edited = next_numbers change old;
         is_edited = false;
         called = chosen.called;
         records = kept_among left.records;
         ran = came.counts.ran;
+        asked = came.counts.asked;
       } in
       let basis : present_basis new ≡ next_basis ready old
       = present_so change next old new ready h ∙ ap (λ (batch : Option Batch). present_by batch (next_basis ready old)) told.closed in
@@ -263,24 +268,26 @@ module _ (change : Change) (next : NodeId) (old new : Held) (before : Past) (is 
       told.compiled.so chosen.is old.last.kept came.kept came.counts told.cost told.keeps in
       let CostsOf : Documents → List (Trail NodeRef) → Type 0
       = λ ds records. CostsOn chosen.called ds.modules ds.parameters (ds.modules main_name) (next_source change old) records came.counts.ran
-      (kept_among left.records) in (
+      came.counts.asked (kept_among left.records) in (
         after,
         record {
           present = refl;
           edited = refl;
           closed = refl;
           called = chosen.same;
+          named = λ e. subst (λ (ds : Documents). IsNamed chosen.called ds.modules (next_numbers change old).modules) present (chosen.named e);
           costs = subst (λ (ds : Documents). CostsOf ds before.records) present
               (subst (λ (records : List (Trail NodeRef)). CostsOf documents records) (sym is.records) costs);
         },
         record {
-          present = sym (ap (λ (basis : Basis). basis.source) basis);
-          edited = sym h.source;
+          present = sym (ap basis_numbers basis);
+          edited = sym (numbers_are h);
           is_edited = sym (ap is_edited_by (h.batch ∙ told.closed));
           called = same_called chosen.called documents.modules (present_of new).modules compiled new.compiled
               (ap (λ (basis : Basis). basis.documents.modules) basis) h.compiled chosen.is;
           records = sym (ap (λ (last : LastRun). kept_among last.kept.records) h.last);
           ran = sym (ap (λ (counts : Counts). counts.ran) h.counts);
+          asked = sym (ap (λ (counts : Counts). counts.asked) h.counts);
         },
       )
 
@@ -289,7 +296,7 @@ module _ (change : Change) (next : NodeId) (old new : Held) (before : Past) (is 
       → (after : Past) × PaysFor (record { change = change; next = next; coming = coming }) old before after × IsPast after new
   past_so (Told came) h told = told_past came h told
   past_so (Pending since) h pending =
-      (with_pending (next_source change old) (is_of_module change) before, refl, pending_past since h pending)
+      (with_pending (next_numbers change old) (is_of_module change) before, refl, pending_past since h pending)
 
 pub adopted_past : (ready : Ready) (old new : Held) → IsAdopted ready old new → IsMadeFrom old ready → (before : Past) → IsPast before old
     → (after : Past) × PaysFor ready old before after × IsPast after new
@@ -297,10 +304,15 @@ adopted_past ready old new h from before is = past_so ready.change ready.next ol
 
 -- ---- A batch that is opened
 
+-- the copy has the numbers of what is held
+copied_numbers : (held : Held) (batch : Batch) → IsCopyOf held batch
+    → numbers_of held ≡ record { source = batch.source; modules = numbered_modules batch.modules.entries }
+copied_numbers held batch h = λ i. record { source = sym h.source i; modules = λ name. sym (h.modules.so name) i }
+
 pub opened_past : (held : Held) (batch : Batch) → held.batch ≡ None → IsCopyOf held batch → (past : Past) → IsPast past held
     → IsPast past (opened batch held)
 opened_past held batch none h past is = record {
-  present = is.present ∙ ap (λ (basis : Basis). basis.source) (was_present held batch none h) ∙ sym h.source;
+  present = is.present ∙ ap basis_numbers (was_present held batch none h) ∙ copied_numbers held batch h;
   edited = is.edited;
   is_edited = is.is_edited ∙ ap is_edited_by none ∙ sym h.edited;
   called = same_called past.called (present_of held).modules (present_of (opened batch held)).modules held.compiled held.compiled
@@ -308,32 +320,43 @@ opened_past held batch none h past is = record {
       (copied_documents held batch none h ∙ sym (ap (λ (basis : Basis). basis.documents) (was_present held batch none h)))) refl is.called;
   records = is.records;
   ran = is.ran;
+  asked = is.asked;
 }
 
 -- ---- Documents with their numbers
 
 numbered_so : (name : DocName) (held : Held) (make : Document ℕ → Result (edits.Edited ℕ) Fault) (old new : Document ℕ) (edited : edits.Edited ℕ)
     → numbered_document name held ≡ Some old → make old ≡ Ok edited → new ≡ record { root = old.root; nodes = edited.nodes }
-    → given_if name new (source_in held) ≡ edited_if name make (source_in held)
-numbered_so names.Source held make old new edited there made is =
-    ap Some is ∙ sym (ap (λ (r : Result (edits.Edited ℕ) Fault). Some (with_nodes r old)) made) ∙ sym (ap (edited_source make) there)
-numbered_so (names.Module name) held make old new edited there made is = refl
+    → given_as name new (numbers_of held) ≡ edited_as name make (numbers_of held)
+numbered_so name held make old new edited there made is = by name there
+  where
+    made_so : Some new ≡ edited_if make (Some old)
+    made_so = ap Some is ∙ sym (ap (λ (r : Result (edits.Edited ℕ) Fault). Some (with_nodes r old)) made)
+
+    by : (name : DocName) → numbered_document name held ≡ Some old → given_as name new (numbers_of held) ≡ edited_as name make (numbers_of held)
+    by names.Source there =
+        let is_so : Some new ≡ edited_if make held.source = made_so ∙ sym (ap (edited_if make) there) in
+        λ i. record { source = is_so i; modules = numbered_modules held.modules.entries }
+    by (names.Module name) there =
+        let is_so : Some new ≡ edited_if make (numbered_modules held.modules.entries name.now) = made_so ∙ sym (ap (edited_if make) there) in
+        λ i. with_module name.now (is_so i) (numbers_of held)
 
 -- what an edit or a move makes of the document that was found
 pub is_numbered : (first : ℕ) (name : DocName) (held : Held) (found : Option (Bor (Document ℕ))) (old : Bor (Document ℕ))
     → option_copied found ≡ numbered_document name held → found ≡ Some old → (make : Document ℕ → Result (edits.Edited ℕ) Fault)
     → (result : Result Edited EditFault) → Edits old.now first result (make old.now)
-    → IfOk result (λ edited. given_if name edited.document (source_in held) ≡ edited_if name make (source_in held))
+    → IfOk result (λ edited. given_as name edited.document (numbers_of held) ≡ edited_as name make (numbers_of held))
 is_numbered first name held found old copied is make (Err why) h = tt
 is_numbered first name held found old copied is make (Ok edited) h =
     numbered_so name held make old.now edited.document h.0 (sym copied ∙ ap option_copied is) h.1 h.2
 
 -- it is as it is edited
 pub brings_edited : (name : DocName) (document : Document ℕ) (make : ℕ → Document ℕ → Result (edits.Edited ℕ) Fault) (is_changed : Bool)
-    {old new : Held} → IsKept old new → given_if name document (source_in old) ≡ edited_if name (make (made_of old)) (source_in old)
-    → (ready : Ready) → Brings (given_if name document (source_in new)) is_changed new ready
-    → Brings (edited_if name (make (made_of new)) (source_in new)) is_changed new ready
+    {old new : Held} → IsKept old new → given_as name document (numbers_of old) ≡ edited_as name (make (made_of old)) (numbers_of old)
+    → (ready : Ready) → Brings (given_as name document (numbers_of new)) is_changed new ready
+    → Brings (edited_as name (make (made_of new)) (numbers_of new)) is_changed new ready
 brings_edited name document make is_changed {old = old} {new = new} h is ready brings =
-    let same : given_if name document (source_in new) ≡ edited_if name (make (made_of new)) (source_in new)
-    = ap (given_if name document) h.source ∙ is ∙ sym (λ i. edited_if name (make (h.made i)) (h.source i)) in
-    subst (λ (source : Option (Document ℕ)). Brings source is_changed new ready) same brings
+    let held : numbers_of new ≡ numbers_of old = λ i. record { source = h.source i; modules = h.modules i } in
+    let same : given_as name document (numbers_of new) ≡ edited_as name (make (made_of new)) (numbers_of new)
+    = ap (given_as name document) held ∙ is ∙ sym (λ i. edited_as name (make (h.made i)) (held i)) in
+    subst (λ (numbered : NumberedDocuments). Brings numbered is_changed new ready) same brings

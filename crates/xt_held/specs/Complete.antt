@@ -17,7 +17,8 @@ use Rattle.xt_held.specs.declared.last_run.Kept.{Kept}
 use Rattle.xt_held.specs.declared.stylesheet.Compiled.{Compiled}
 use Rattle.xt_held.specs.declared.stylesheet.Compiled.TheVariants.{Stylesheet, Refused}
 
--- this is what the run in the setting comes to, and of each of its instantiations that comes to its end one of these records would be taken
+-- this is what the run in the setting comes to; of each of its instantiations that comes to its end one of these records would be taken, and each is of
+-- the unit and the node of one
 pub record Completes (s : Setting NodeRef) (whole : Whole) (records : Pool) : Type 0 where
   pub is : whole_of whole ≡ run_of s
   pub keeps : KeepsRun s (kept_among records)

@@ -1,7 +1,6 @@
 -- What a run of what modules are has cost.
 --     setting_on      what a run of a stylesheet is in, on a source of which all is seen
 --     setting_seen    the same where rules for white space let the source be seen
---     IsUnrecorded    of a unit and a node there is no record
 --     Costs           what a run in a setting has cost
 --     CostsRun        what it has cost where modules are run, and else nothing
 use Rattle.std.specs.Prelude.{ℕ, ◌≡◌, ◌≤◌, List, [], ◌∷◌, length, map, min, Option, None, Some}
@@ -9,12 +8,11 @@ use Rattle.spec_document.specs.Forest.{Document}
 use Rattle.spec_seen.specs.Seen.{seen}
 use Rattle.spec_run.specs.Documents.{Parameters}
 use Rattle.spec_run.specs.Meaning.{Setting}
-use Rattle.spec_run.specs.Plan.{Target}
 use Rattle.spec_run.specs.Trail.{Kept}
-use Rattle.spec_reuse.specs.Among.{IsIn}
 use Rattle.spec_reuse.specs.Instantiation.{Instantiation}
 use Rattle.spec_reuse.specs.Ledger.{AreCounted}
 use Rattle.spec_node.specs.declared.node_ref.NodeRef.{NodeRef}
+use Rattle.spec_cost.specs.Paying.{IsUnrecorded}
 use Rattle.spec_touch.specs.Marks.{WorldChange, Anything}
 use Rattle.xt_syntax.specs.SheetView.{space_rules_of}
 use Rattle.xt_syntax.specs.declared.space_rules.SpaceRules.{SpaceRules}
@@ -44,10 +42,6 @@ setting_seen held rules parameters source = setting_on held parameters (seen (sp
 -- what a run kept of each instantiation
 abbrev pub kept_among : Pool → List (Kept NodeRef)
 kept_among records = map kept_at records.records.items
-
--- none of these records is of this unit and this node
-abbrev pub IsUnrecorded : List (Kept NodeRef) → Target NodeRef → NodeRef → Type 0
-IsUnrecorded records unit node = (kept : Kept NodeRef) → IsIn kept records → kept.call.target ≡ unit → kept.call.node ≡ node → ⊥
 
 -- changes of which nothing is known, so that they mark every question
 abbrev pub any_change : List WorldChange

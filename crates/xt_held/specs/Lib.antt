@@ -1,6 +1,7 @@
 pub mod Alike
 pub mod Unread
 pub mod StylesheetView
+pub mod Called
 pub mod OutcomeView
 pub mod RunView
 pub mod Cost

@@ -9,7 +9,7 @@ use Rattle.spec_run.specs.Documents.{main_name}
 use Rattle.spec_items.specs.Liftable.{with_items}
 use Rattle.xt_syntax.specs.SheetView.{space_rules_of}
 use Rattle.xt_compile.specs.View.{refusal_in}
-pub use Rattle.xt_world.specs.Answering.{AnswersAs}
+pub use Rattle.xt_world.specs.Answering.{AnswersAs, AnswersGiven}
 use Rattle.xt_held.specs.declared.stylesheet.Compiled.{Compiled}
 use Rattle.xt_held.specs.declared.stylesheet.Compiled.TheVariants.{Stylesheet, Refused}
 
@@ -25,10 +25,12 @@ without_one name modules = λ other. if bytes_eq other name then None else modul
 abbrev pub IsThere : Modules → List ℕ → Type 0
 IsThere modules name = (tree : Plain) × (modules name ≡ Some tree)
 
--- it is run as this stylesheet, of which it holds the rules for white space and the output method
-abbrev pub RunsAs : Compiled → plain.Sheet → Type 0
-RunsAs (Stylesheet held rules method) sheet = AnswersAs held sheet × (space_rules_of rules ≡ sheet.space_rules) × (method ≡ sheet.method)
-RunsAs (Refused why) sheet = ⊥
+-- it is run as this stylesheet, of which it holds the rules for white space and the output method; its elements are called by these numbers where they
+-- tell its units apart
+abbrev pub RunsBy : List ℕ → Compiled → plain.Sheet → Type 0
+RunsBy numbers (Stylesheet held rules method) sheet =
+    AnswersGiven numbers held sheet × (space_rules_of rules ≡ sheet.space_rules) × (method ≡ sheet.method)
+RunsBy numbers (Refused why) sheet = ⊥
 
 -- What is run has the content of each xsl:for-each in a template of its own, so that each item is an instantiation. No outcome tells it from the stylesheet
 -- that the modules are

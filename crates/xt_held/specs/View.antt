@@ -23,6 +23,9 @@ use Rattle.xt_edit.specs.declared.fault.EditFault.TheVariants as faults
 use Rattle.xt_import.specs.View.{is_name, modules_in, plain_of}
 use Rattle.xt_held.specs.declared.counts.Counts.{Counts}
 use Rattle.xt_world.specs.ParameterView.{HasRoomForOne, parameters_of}
+use Rattle.spec_cost.specs.Numbers.{NumberedDocuments, NumberedModules}
+use Rattle.spec_cost.specs.Numbers as numbers
+use Rattle.xt_held.specs.Called.{AreCalled, numbered_modules}
 use Rattle.xt_held.specs.Complete.{KeepsWhere}
 use Rattle.xt_held.specs.Cost.{CostsRun, any_change}
 use Rattle.xt_held.specs.OutcomeView.{Fits, IsFreeFor, outcome_of}
@@ -68,15 +71,16 @@ last_in held = held.last
 
 -- ---- What is present, and what is pending
 
--- what an outcome rests on: the documents, the source with the numbers of its nodes, and what the last run that ended with a result left
+-- what an outcome rests on: the documents, also with the numbers of their nodes, and what the last run that ended with a result left
 pub record Basis : Type 0 where
   pub documents : Documents
   pub source : Option (Document ℕ)
+  pub modules : NumberedModules
   pub last : LastRun
 
 -- that of what changes speak of
 abbrev pub edited_basis : Held → Basis
-edited_basis held = record { documents = documents_of held; source = held.source; last = held.last }
+edited_basis held = record { documents = documents_of held; source = held.source; modules = numbered_modules held.modules.entries; last = held.last }
 
 -- the documents that a batch goes back to where it is abandoned
 abbrev pub documents_in : Batch → Documents
@@ -89,7 +93,12 @@ documents_in batch = record {
 -- that of what is present: while a batch is open what it goes back to, with the changes that were until then
 abbrev pub present_by : Option Batch → Basis → Basis
 present_by None basis = basis
-present_by (Some batch) basis = record { documents = documents_in batch; source = batch.source; last = record basis.last { since = batch.since } }
+present_by (Some batch) basis = record {
+  documents = documents_in batch;
+  source = batch.source;
+  modules = numbered_modules batch.modules.entries;
+  last = record basis.last { since = batch.since };
+}
 
 abbrev pub present_basis : Held → Basis
 present_basis held = present_by held.batch (edited_basis held)
@@ -146,6 +155,7 @@ pub record IsKept (old new : Held) : Type 0 where
   pub counts : counts_in new ≡ counts_in old
   pub last : last_in new ≡ last_in old
   pub source : new.source ≡ old.source
+  pub modules : numbered_modules new.modules.entries ≡ numbered_modules old.modules.entries
   pub basis : present_basis new ≡ present_basis old
   pub compiled : new.compiled ≡ old.compiled
   pub is_edited : is_edited_by new.batch ≡ is_edited_by old.batch
@@ -205,13 +215,19 @@ next_compiled (changes.Dropped name compiled) held = compiled_by compiled held.c
 next_compiled (changes.Parameter name value) held = held.compiled
 next_compiled (changes.Committed compiled) held = compiled_by compiled held.compiled
 
--- and of the source, with the numbers of its nodes
+-- and the documents with the numbers of their nodes
+abbrev pub numbers_of : Held → NumberedDocuments
+numbers_of held = record { source = held.source; modules = numbered_modules held.modules.entries }
+
+abbrev pub next_numbers : Change → Held → NumberedDocuments
+next_numbers (changes.Source document) held = numbers.with_source document (numbers_of held)
+next_numbers (changes.Module name document compiled) held = numbers.with_module (chars (string_bytes name)) (Some document) (numbers_of held)
+next_numbers (changes.Dropped name compiled) held = numbers.with_module name None (numbers_of held)
+next_numbers (changes.Parameter name value) held = numbers_of held
+next_numbers (changes.Committed compiled) held = numbers_of held
+
 abbrev pub next_source : Change → Held → Option (Document ℕ)
-next_source (changes.Source document) held = Some document
-next_source (changes.Module name document compiled) held = held.source
-next_source (changes.Dropped name compiled) held = held.source
-next_source (changes.Parameter name value) held = held.source
-next_source (changes.Committed compiled) held = held.source
+next_source change held = (next_numbers change held).source
 
 -- and of the batch: a change of a module is noted, and a commit ends it
 abbrev pub with_edit : Batch → Batch
@@ -278,7 +294,12 @@ next_last ready held = left_after ready.coming (next_before ready.change held) h
 
 -- what is present and what is pending, once it is adopted
 abbrev pub next_basis : Ready → Held → Basis
-next_basis ready held = record { documents = next_documents ready held; source = next_source ready.change held; last = next_last ready held }
+next_basis ready held = record {
+  documents = next_documents ready held;
+  source = next_source ready.change held;
+  modules = (next_numbers ready.change held).modules;
+  last = next_last ready held;
+}
 
 abbrev pub next_present : Ready → Held → Documents
 next_present ready held = (present_by (next_batch ready.change held.batch) (next_basis ready held)).documents
@@ -361,6 +382,9 @@ pub record IsTold (came : Came) (ready : Ready) (held : Held) : Type 0 where
   pub keeps : KeepsWhere (next_compiled ready.change held) (next_documents ready held).parameters (next_source ready.change held) came.kept
   -- where neither it nor the batch that it ends is a change of modules
   pub same : (is_edited_by held.batch || is_of_module ready.change) ≡ false → ModulesStay ready held
+  -- and where one is, the elements of the stylesheet are called by their numbers
+  pub called : (is_edited_by held.batch || is_of_module ready.change) ≡ true
+      → AreCalled (next_documents ready held).modules (next_numbers ready.change held).modules (next_compiled ready.change held)
 
 -- It is a change in a batch: what is present stays, the modules are not compiled, and what the last run kept will serve a run of the documents that will be
 -- pending

@@ -4,17 +4,19 @@ ghost use Rattle.std.specs.Option.{is_some, option_map};
 ghost use Rattle.std.specs.declared.alloc.Global as alloc_type;
 ghost use Rattle.std.specs.declared.string.String as string_type;
 ghost use Rattle.spec_document.specs.Forest.{Document};
+ghost use Rattle.spec_cost.specs.Numbers as numbers;
+ghost use Rattle.spec_cost.specs.Numbers.{dropped_module};
 ghost use Rattle.spec_cost.specs.Past.{Past};
 ghost use Rattle.spec_run.specs.Documents.{with_module, with_parameter, with_source, without_module};
 ghost use Rattle.xt_edit.specs.View.{AreBelow};
 ghost use Rattle.xt_import.specs.View.{plain_of};
 ghost use Rattle.xt_touch.specs.View.{since_of};
 ghost use Rattle.xt_world.specs.ParameterView.{parameters_of};
-ghost use Rattle.xt_held.specs.PastView.{Brings, IsPast, past_left, source_in};
+ghost use Rattle.xt_held.specs.PastView.{Brings, IsPast, past_left};
 ghost use Rattle.xt_held.specs.RunView.{IsFaultless, IsMadeBy};
 ghost use Rattle.xt_held.specs.StylesheetView.{AreCompiled};
 ghost use Rattle.xt_held.specs.Tried.{AreSame};
-ghost use Rattle.xt_held.specs.View.{Abandons, Begins, IsCommit, IsCurrent, IsKept, IsReady, PreparesCommit, documents_of, is_edited_by, made_of, gone_back, pending_of, with_edit};
+ghost use Rattle.xt_held.specs.View.{Abandons, Begins, IsCommit, IsCurrent, IsKept, IsReady, PreparesCommit, documents_of, is_edited_by, made_of, numbers_of, gone_back, pending_of, with_edit};
 
 use crate::held::Held;
 use crate::marking::since_parameter;
@@ -96,7 +98,7 @@ impl Held {
     pub fn commit(&self, alloc: Global) -> Result<Ready, EditFault>
         requires { IsCurrent self.now }
         ensures answer { PreparesCommit self.now result }
-        ensures brings { IfOk result (Brings (source_in self.now) false self.now) }
+        ensures brings { IfOk result (Brings (numbers_of self.now) false self.now) }
     {
         match &self.batch {
             None => Err(EditFault::Refused {
@@ -119,7 +121,7 @@ impl Held {
         requires is_open { is_some (pending_of self.now) ≡ true }
         requires edited { is_edited_by self.now.batch ≡ true }
         ensures ok { IfOk result (λ ready. IsCommit self.now ready) }
-        ensures brings { IfOk result (Brings (source_in self.now) false self.now) }
+        ensures brings { IfOk result (Brings (numbers_of self.now) false self.now) }
     {
         let compiled = compile(alloc, &self.modules)?;
         let Ok(came) = self.outcome_with_modules(alloc, compiled.as_ref()) else {
@@ -137,9 +139,10 @@ impl Held {
     fn commit_as_before(&self, alloc: Global) -> Result<Ready, Memory>
         requires current { IsCurrent self.now }
         requires is_open { is_some (pending_of self.now) ≡ true }
+        requires unedited { is_edited_by self.now.batch ≡ false }
         requires compiled { AreCompiled (documents_of self.now).modules self.now.compiled }
         ensures ok { IfOk result (λ ready. IsCommit self.now ready) }
-        ensures brings { IfOk result (Brings (source_in self.now) false self.now) }
+        ensures brings { IfOk result (Brings (numbers_of self.now) false self.now) }
     {
         let since = self.last.since.copy(alloc)?;
         let came = self.outcome_after(alloc, self.source.as_ref(), since)?;
@@ -212,7 +215,7 @@ impl Held {
         requires grows { made_of self.now ≤ next.number }
         requires below { AreBelow next.number document }
         ensures ok { IfOk result (λ ready. IsReady (with_source (plain_of document)) next.number self.now ready) }
-        ensures brings { IfOk result (Brings (Some document) false self.now) }
+        ensures brings { IfOk result (Brings (numbers.with_source document (numbers_of self.now)) false self.now) }
     {
         let Ok(since) = self.since_source(alloc, origin, &document) else {
             drop(document);
@@ -238,7 +241,7 @@ impl Held {
         requires grows { made_of self.old ≤ next.number }
         requires below { AreBelow next.number document }
         ensures ok { IfOk result (λ ready. IsReady (with_module name.now (plain_of document)) next.number self.new ready) }
-        ensures brings { IfOk result (Brings (source_in self.new) true self.new) }
+        ensures brings { IfOk result (Brings (numbers.with_module name.now (Some document) (numbers_of self.new)) true self.new) }
         ensures kept { IsKept self.old self.new }
     {
         let Ok(key) = String::from_str(alloc, name.as_str()) else {
@@ -266,7 +269,7 @@ impl Held {
         requires current { IsCurrent self.now }
         requires is_open { is_some (pending_of self.now) ≡ true }
         ensures ok { IfOk result (λ ready. IsReady (without_module name.now) (made_of self.now) self.now ready) }
-        ensures brings { IfOk result (Brings (source_in self.now) true self.now) }
+        ensures brings { IfOk result (Brings (dropped_module name.now (numbers_of self.now)) true self.now) }
     {
         let dropped = name.copy(alloc)?;
         let since = self.last.since.copy(alloc)?;
@@ -287,7 +290,7 @@ impl Held {
         requires current { IsCurrent self.old }
         requires is_open { is_some (pending_of self.old) ≡ true }
         ensures ok { IfOk result (λ ready. IsReady (with_parameter name.now value.now) (made_of self.new) self.new ready) }
-        ensures brings { IfOk result (Brings (source_in self.new) false self.new) }
+        ensures brings { IfOk result (Brings (numbers_of self.new) false self.new) }
         ensures kept { IsKept self.old self.new }
     {
         let key = String::from_str(alloc, name.as_str())?;

@@ -7,7 +7,8 @@ ghost use Rattle.std.specs.Str.{chars};
 ghost use Rattle.spec_document.specs.Document.{document_of};
 ghost use Rattle.spec_document.specs.Forest.{size};
 ghost use Rattle.spec_document.specs.Scope.{root_scope};
-ghost use Rattle.spec_cost.specs.Numbers.{given_source};
+ghost use Rattle.spec_cost.specs.Numbers as numbers;
+ghost use Rattle.spec_cost.specs.Numbers.{dropped_module, given_module, given_source};
 ghost use Rattle.spec_cost.specs.Past.{Past, nothing_past};
 ghost use Rattle.spec_edit.specs.Edit.{edited_nodes, edited_or_missing};
 ghost use Rattle.spec_move.specs.Move.{moved_document, moved_nodes};
@@ -26,8 +27,9 @@ ghost use Rattle.xt_held.specs.RunView.{AnswersAsSome, IsFaultless, IsMadeBy, Is
 ghost use Rattle.xt_held.specs.StylesheetView.{AreCompiled};
 ghost use Rattle.xt_import.specs.View.{is_name, plain_of};
 ghost use Rattle.xt_held.specs.OutcomeView.{Fits, no_counts, outcome_of, plain_in};
-ghost use Rattle.xt_held.specs.View.{HasBelow, HasRoom, IsBelow, IsCurrent, IsKept, IsKnown, IsMadeFrom, IsReady, IsFaultlessAs, Prepares, PreparesDrop, PreparesEdit, PreparesMove, PreparesParameter, StaysTold, before_by, before_with, changed_by, compiled_by, document_named, documents_of, edit_fault_of, last_in, left_by, made_of, next_batch, next_before, next_compiled, next_documents, next_last, next_made, next_outcome, next_pending, next_present, next_source, next_counts, numbered_document, outcome_in, pending_of, present_of, counts_in, with_came, with_coming, with_document, with_edit, with_edited_modules, with_recompiled};
-ghost use Rattle.xt_held.specs.PastView.{Brings, IsPast, PaysFor, edited_if, given_if, is_module, source_in};
+ghost use Rattle.xt_held.specs.View.{HasBelow, HasRoom, IsBelow, IsCurrent, IsKept, IsKnown, IsMadeFrom, IsReady, IsFaultlessAs, Prepares, PreparesDrop, PreparesEdit, PreparesMove, PreparesParameter, StaysTold, before_by, before_with, changed_by, compiled_by, document_named, documents_of, edit_fault_of, last_in, left_by, made_of, next_batch, next_before, next_compiled, next_documents, next_last, next_made, next_numbers, next_outcome, next_pending, next_present, next_source, next_counts, numbered_document, numbers_of, outcome_in, pending_of, present_of, counts_in, with_came, with_coming, with_document, with_edit, with_edited_modules, with_recompiled};
+ghost use Rattle.xt_held.specs.Called.{numbered_modules};
+ghost use Rattle.xt_held.specs.PastView.{Brings, IsPast, PaysFor, edited_as, given_as, is_module};
 ghost use Rattle.xt_held.specs.declared.ready.Recompiled.TheVariants as recompiled;
 
 use crate::batch::Batch;
@@ -116,7 +118,7 @@ impl Held {
     pub fn set_source(&self, alloc: Global, body: &[Line]) -> Result<Ready, EditFault>
         requires { IsCurrent self.now }
         ensures answer { Prepares with_source self.now (document_of root_scope (made_of self.now) body.now) result }
-        ensures brings { IfOk result (Brings (given_source (document_of root_scope (made_of self.now) body.now) (source_in self.now)) false self.now) }
+        ensures brings { IfOk result (Brings (given_source (document_of root_scope (made_of self.now) body.now) (numbers_of self.now)) false self.now) }
     {
         match self.built(alloc, body) {
             Ok(Built { document, next }) => {
@@ -136,7 +138,7 @@ impl Held {
     ) -> Result<Ready, EditFault>
         requires { IsCurrent self.old }
         ensures answer { Prepares (with_module name.now) self.new (document_of root_scope (made_of self.old) body.now) result }
-        ensures brings { IfOk result (Brings (source_in self.new) true self.new) }
+        ensures brings { IfOk result (Brings (given_module name.now (document_of root_scope (made_of self.old) body.now) (numbers_of self.new)) true self.new) }
         ensures kept { IsKept self.old self.new }
         ensures past { (past : Past) → IsPast past self.old → IsPast past self.new }
     {
@@ -151,7 +153,7 @@ impl Held {
     pub fn drop_module(&mut self, alloc: Global, name: &Text) -> Result<Ready, EditFault>
         requires { IsCurrent self.old }
         ensures answer { PreparesDrop name.now self.new result }
-        ensures brings { IfOk result (Brings (source_in self.new) true self.new) }
+        ensures brings { IfOk result (Brings (dropped_module name.now (numbers_of self.new)) true self.new) }
         ensures kept { IsKept self.old self.new }
         ensures past { (past : Past) → IsPast past self.old → IsPast past self.new }
     {
@@ -175,7 +177,7 @@ impl Held {
     ) -> Result<Ready, EditFault>
         requires { IsCurrent self.old }
         ensures answer { PreparesEdit name.entry (edit_of edit.now) self.new result }
-        ensures brings { IfOk result (Brings (edited_if name.entry (edited_nodes (made_of self.new) (edit_of edit.now)) (source_in self.new)) (is_module name.entry) self.new) }
+        ensures brings { IfOk result (Brings (edited_as name.entry (edited_nodes (made_of self.new) (edit_of edit.now)) (numbers_of self.new)) (is_module name.entry) self.new) }
         ensures kept { IsKept self.old self.new }
         ensures past { (past : Past) → IsPast past self.old → IsPast past self.new }
     {
@@ -204,7 +206,7 @@ impl Held {
     ) -> Result<Ready, EditFault>
         requires { IsCurrent self.old }
         ensures answer { PreparesMove name.entry path.now other.now self.new result }
-        ensures brings { IfOk result (Brings (edited_if name.entry (moved_nodes (made_of self.new) path.now other.now) (source_in self.new)) (is_module name.entry) self.new) }
+        ensures brings { IfOk result (Brings (edited_as name.entry (moved_nodes (made_of self.new) path.now other.now) (numbers_of self.new)) (is_module name.entry) self.new) }
         ensures kept { IsKept self.old self.new }
         ensures past { (past : Past) → IsPast past self.old → IsPast past self.new }
     {
@@ -222,7 +224,7 @@ impl Held {
     ) -> Result<Ready, EditFault>
         requires { IsCurrent self.old }
         ensures answer { PreparesParameter name.now value.now self.new result }
-        ensures brings { IfOk result (Brings (source_in self.new) false self.new) }
+        ensures brings { IfOk result (Brings (numbers_of self.new) false self.new) }
         ensures kept { IsKept self.old self.new }
         ensures past { (past : Past) → IsPast past self.old → IsPast past self.new }
     {
@@ -342,7 +344,7 @@ impl Held {
         ensures edit { IfOk result (λ edited. IsMadeByEdit edit.now (numbered_document name.entry self.now) edited.document) }
         ensures faultless { IfOk result (λ edited. IsFaultlessAs name.entry edited.document) }
         ensures below { IfOk result (λ edited. AreBelow edited.next.number edited.document) }
-        ensures source { IfOk result (λ edited. given_if name.entry edited.document (source_in self.now) ≡ edited_if name.entry (edited_nodes (made_of self.now) (edit_of edit.now)) (source_in self.now)) }
+        ensures numbers { IfOk result (λ edited. given_as name.entry edited.document (numbers_of self.now) ≡ edited_as name.entry (edited_nodes (made_of self.now) (edit_of edit.now)) (numbers_of self.now)) }
     {
         documents_stay_valid();
         documents_stay_normal();
@@ -368,7 +370,7 @@ impl Held {
         ensures moved { IfOk result (λ edited. IsMadeByMove path.now other.now (numbered_document name.entry self.now) edited.document) }
         ensures faultless { IfOk result (λ edited. IsFaultlessAs name.entry edited.document) }
         ensures below { IfOk result (λ edited. AreBelow edited.next.number edited.document) }
-        ensures source { IfOk result (λ edited. given_if name.entry edited.document (source_in self.now) ≡ edited_if name.entry (moved_nodes (made_of self.now) path.now other.now) (source_in self.now)) }
+        ensures numbers { IfOk result (λ edited. given_as name.entry edited.document (numbers_of self.now) ≡ edited_as name.entry (moved_nodes (made_of self.now) path.now other.now) (numbers_of self.now)) }
     {
         moves_keep_documents_valid();
         moves_keep_documents_normal();
@@ -397,7 +399,7 @@ impl Held {
         requires grows { made_of self.old ≤ next.number }
         requires below { AreBelow next.number document }
         ensures ok { IfOk result (λ ready. IsReady (with_document name.entry (plain_of document)) next.number self.new ready) }
-        ensures brings { IfOk result (Brings (given_if name.entry document (source_in self.new)) (is_module name.entry) self.new) }
+        ensures brings { IfOk result (Brings (given_as name.entry document (numbers_of self.new)) (is_module name.entry) self.new) }
         ensures kept { IsKept self.old self.new }
     {
         match name {
@@ -420,7 +422,7 @@ impl Held {
         requires grows { made_of self.now ≤ next.number }
         requires below { AreBelow next.number document }
         ensures ok { IfOk result (λ ready. IsReady (with_source (plain_of document)) next.number self.now ready) }
-        ensures brings { IfOk result (Brings (Some document) false self.now) }
+        ensures brings { IfOk result (Brings (numbers.with_source document (numbers_of self.now)) false self.now) }
     {
         if self.pending() {
             self.pending_source(alloc, origin, document, next)
@@ -444,7 +446,7 @@ impl Held {
         requires grows { made_of self.now ≤ next.number }
         requires below { AreBelow next.number document }
         ensures ok { IfOk result (λ ready. IsReady (with_source (plain_of document)) next.number self.now ready) }
-        ensures brings { IfOk result (Brings (Some document) false self.now) }
+        ensures brings { IfOk result (Brings (numbers.with_source document (numbers_of self.now)) false self.now) }
     {
         let Ok(came) = self.outcome_with_source(alloc, origin, &document) else {
             drop(document);
@@ -539,7 +541,7 @@ impl Held {
         requires grows { made_of self.old ≤ next.number }
         requires below { AreBelow next.number document }
         ensures ok { IfOk result (λ ready. IsReady (with_module name.now (plain_of document)) next.number self.new ready) }
-        ensures brings { IfOk result (Brings (source_in self.new) true self.new) }
+        ensures brings { IfOk result (Brings (numbers.with_module name.now (Some document) (numbers_of self.new)) true self.new) }
         ensures kept { IsKept self.old self.new }
     {
         if self.pending() {
@@ -562,7 +564,7 @@ impl Held {
         requires grows { made_of self.old ≤ next.number }
         requires below { AreBelow next.number document }
         ensures ok { IfOk result (λ ready. IsReady (with_module name.now (plain_of document)) next.number self.new ready) }
-        ensures brings { IfOk result (Brings (source_in self.new) true self.new) }
+        ensures brings { IfOk result (Brings (numbers.with_module name.now (Some document) (numbers_of self.new)) true self.new) }
         ensures kept { IsKept self.old self.new }
     {
         let Ok(key) = String::from_str(alloc, name.as_str()) else {
@@ -591,7 +593,7 @@ impl Held {
     fn drop_ready(&mut self, alloc: Global, name: &Text) -> Result<Ready, Memory>
         requires { IsCurrent self.old }
         ensures ok { IfOk result (λ ready. IsReady (without_module name.now) (made_of self.new) self.new ready) }
-        ensures brings { IfOk result (Brings (source_in self.new) true self.new) }
+        ensures brings { IfOk result (Brings (dropped_module name.now (numbers_of self.new)) true self.new) }
         ensures kept { IsKept self.old self.new }
     {
         if self.pending() {
@@ -606,7 +608,7 @@ impl Held {
         requires current { IsCurrent self.old }
         requires alone { is_some (pending_of self.old) ≡ false }
         ensures ok { IfOk result (λ ready. IsReady (without_module name.now) (made_of self.new) self.new ready) }
-        ensures brings { IfOk result (Brings (source_in self.new) true self.new) }
+        ensures brings { IfOk result (Brings (dropped_module name.now (numbers_of self.new)) true self.new) }
         ensures kept { IsKept self.old self.new }
     {
         let dropped = name.copy(alloc)?;
@@ -650,7 +652,7 @@ impl Held {
     fn parameter_ready(&mut self, alloc: Global, name: &Text, value: &Text) -> Result<Ready, Memory>
         requires { IsCurrent self.old }
         ensures ok { IfOk result (λ ready. IsReady (with_parameter name.now value.now) (made_of self.new) self.new ready) }
-        ensures brings { IfOk result (Brings (source_in self.new) false self.new) }
+        ensures brings { IfOk result (Brings (numbers_of self.new) false self.new) }
         ensures kept { IsKept self.old self.new }
     {
         if self.pending() {
@@ -670,7 +672,7 @@ impl Held {
         requires current { IsCurrent self.old }
         requires alone { is_some (pending_of self.old) ≡ false }
         ensures ok { IfOk result (λ ready. IsReady (with_parameter name.now value.now) (made_of self.new) self.new ready) }
-        ensures brings { IfOk result (Brings (source_in self.new) false self.new) }
+        ensures brings { IfOk result (Brings (numbers_of self.new) false self.new) }
         ensures kept { IsKept self.old self.new }
     {
         let since = since_parameter(alloc, &self.last.since, name)?;
@@ -699,6 +701,7 @@ impl Held {
         ensures documents { documents_of self.new ≡ changed_by change (documents_of self.old) }
         ensures compiled { self.new.compiled ≡ next_compiled change self.old }
         ensures source { self.new.source ≡ next_source change self.old }
+        ensures modules { numbered_modules self.new.modules.entries ≡ (next_numbers change self.old).modules }
         ensures last { last_in self.new ≡ record (last_in self.old) { before = next_before change self.old } }
         ensures batch { self.new.batch ≡ next_batch change self.old.batch }
         ensures told { StaysTold self.old self.new }
@@ -719,6 +722,7 @@ impl Held {
         ensures compiled { self.new.compiled ≡ self.old.compiled }
         ensures last { last_in self.new ≡ last_in self.old }
         ensures batch { self.new.batch ≡ self.old.batch }
+        ensures modules { self.new.modules ≡ self.old.modules }
         ensures told { StaysTold self.old self.new }
         ensures below { (first : ℕ) → HasBelow first self.old → AreBelow first document → HasBelow first self.new }
     {
@@ -733,6 +737,7 @@ impl Held {
         ensures compiled { self.new.compiled ≡ compiled_by compiled self.old.compiled }
         ensures last { last_in self.new ≡ record (last_in self.old) { before = before_with compiled self.old.compiled self.old.last.before } }
         ensures batch { self.new.batch ≡ option_map with_edit self.old.batch }
+        ensures modules { numbered_modules self.new.modules.entries ≡ (numbers.with_module (chars (string_bytes name)) (Some document) (numbers_of self.old)).modules }
         ensures told { StaysTold self.old self.new }
         ensures below { (first : ℕ) → HasBelow first self.old → AreBelow first document → HasBelow first self.new }
     {
@@ -746,6 +751,7 @@ impl Held {
         ensures compiled { self.new.compiled ≡ compiled_by compiled self.old.compiled }
         ensures last { last_in self.new ≡ record (last_in self.old) { before = before_with compiled self.old.compiled self.old.last.before } }
         ensures batch { self.new.batch ≡ option_map with_edit self.old.batch }
+        ensures modules { numbered_modules self.new.modules.entries ≡ (dropped_module name.now (numbers_of self.old)).modules }
         ensures told { StaysTold self.old self.new }
         ensures below { (first : ℕ) → HasBelow first self.old → HasBelow first self.new }
     {
@@ -794,6 +800,7 @@ impl Held {
         ensures compiled { self.new.compiled ≡ self.old.compiled }
         ensures last { last_in self.new ≡ last_in self.old }
         ensures batch { self.new.batch ≡ self.old.batch }
+        ensures modules { self.new.modules ≡ self.old.modules }
         ensures told { StaysTold self.old self.new }
         ensures below { (first : ℕ) → HasBelow first self.old → HasBelow first self.new }
     {
@@ -807,6 +814,7 @@ impl Held {
         ensures compiled { self.new.compiled ≡ compiled_by compiled self.old.compiled }
         ensures last { last_in self.new ≡ record (last_in self.old) { before = before_with compiled self.old.compiled self.old.last.before } }
         ensures batch { self.new.batch ≡ None }
+        ensures modules { self.new.modules ≡ self.old.modules }
         ensures told { StaysTold self.old self.new }
         ensures below { (first : ℕ) → HasBelow first self.old → HasBelow first self.new }
     {

@@ -1,15 +1,21 @@
 // The stylesheet that modules are.
-ghost use Rattle.std.specs.Prelude.{◌≡◌, IfOk, Ok};
+ghost use Rattle.std.specs.Prelude.{◌≡◌, ◌++◌, IfOk, OnOk, Ok, Some, map};
 ghost use Rattle.std.specs.Bool.{Decides};
 ghost use Rattle.std.specs.Option.{option_copied};
 ghost use Rattle.spec_run.specs.Documents.{main_name};
-ghost use Rattle.xt_syntax.specs.SheetView.{sheet_of};
+ghost use Rattle.spec_structure.specs.Modules.{Modules};
+ghost use Rattle.spec_compile.specs.Sheet.{IsSheet};
+ghost use Rattle.spec_cost.specs.Naming.{number_at, number_in};
+ghost use Rattle.xt_syntax.specs.PartView.{place_of};
+ghost use Rattle.xt_syntax.specs.SheetView.{sheet_of, unit_of};
 ghost use Rattle.xt_compile.specs.View.{IsCompiled};
 ghost use Rattle.xt_import.specs.View.{modules_in};
+ghost use Rattle.xt_held.specs.Called.{AreCalled, alone, numbered_modules, numbers_among};
 ghost use Rattle.xt_held.specs.RunView.{last_known};
-ghost use Rattle.xt_held.specs.StylesheetView.{AreCompiled, Holds, IsCompiledFrom, IsStylesheet, IsThere, RunsAs};
+ghost use Rattle.xt_held.specs.StylesheetView.{AreCompiled, Holds, IsCompiledFrom, IsStylesheet, IsThere, RunsBy};
 
 use indexmap::IndexMap;
+use spec_compile::one_sheet;
 use std::alloc::Global;
 use xt_base::Place;
 use xt_compile::{SheetFault, StaticRefusal, sheet};
@@ -62,7 +68,8 @@ pub(crate) fn compile(
     alloc: Global,
     modules: &IndexMap<String, Doc>,
 ) -> Result<Option<Compiled>, Memory>
-    ensures { IfOk result (λ compiled. AreCompiled (modules_in modules.now.entries) compiled) }
+    ensures compiled { IfOk result (λ compiled. AreCompiled (modules_in modules.now.entries) compiled) }
+    ensures called { IfOk result (λ compiled. AreCalled (modules_in modules.now.entries) (numbered_modules modules.now.entries) compiled) }
 {
     match modules.get(MAIN) {
         None => Ok(None),
@@ -73,7 +80,8 @@ pub(crate) fn compile(
 // What the modules are, of which one is `main`.
 fn compiled_main(alloc: Global, modules: &IndexMap<String, Doc>) -> Result<Compiled, Memory>
     requires { IsThere (modules_in modules.now.entries) main_name }
-    ensures { IfOk result (λ compiled. IsCompiledFrom (modules_in modules.now.entries) compiled) }
+    ensures compiled { IfOk result (λ compiled. IsCompiledFrom (modules_in modules.now.entries) compiled) }
+    ensures called { IfOk result (λ compiled. AreCalled (modules_in modules.now.entries) (numbered_modules modules.now.entries) (Some compiled)) }
 {
     match sheet_of_main(alloc, modules) {
         Ok(sheet) => numbered(alloc, modules, sheet),
@@ -98,8 +106,10 @@ fn numbered(
     modules: &IndexMap<String, Doc>,
     sheet: Sheet,
 ) -> Result<Compiled, Memory>
-    ensures { IfOk result (λ compiled. Holds compiled (Ok (sheet_of sheet))) }
+    ensures holds { IfOk result (λ compiled. Holds compiled (Ok (sheet_of sheet))) }
+    ensures called { (all : Modules) → IsSheet all main_name (Ok (sheet_of sheet)) → IfOk result (λ compiled. AreCalled all (numbered_modules modules.now.entries) (Some compiled)) }
 {
+    one_sheet();
     let lifted = with_items(alloc, sheet)?;
     let Ok(numbers) = numbers_of(alloc, modules, lifted.units.as_slice()) else {
         drop(lifted);
@@ -110,7 +120,7 @@ fn numbered(
 
 // The stylesheet made ready to be run. The run asks neither for its rules of white space nor for its method.
 fn runnable(alloc: Global, sheet: Sheet, numbers: Vec<u64>) -> Result<Compiled, Memory>
-    ensures { IfOk result (λ compiled. RunsAs compiled (sheet_of sheet)) }
+    ensures { IfOk result (λ compiled. RunsBy numbers.items compiled (sheet_of sheet)) }
 {
     let Sheet {
         units,
@@ -137,31 +147,46 @@ fn runnable(alloc: Global, sheet: Sheet, numbers: Vec<u64>) -> Result<Compiled, 
 }
 
 // The numbers that the modules give to the elements of these units. They stay where a module is edited elsewhere. The
-// stylesheet looks them through and takes others where they do not serve, so nothing has to be known of them.
+// stylesheet looks them through and takes others where they do not tell its units apart.
 fn numbers_of(
     alloc: Global,
     modules: &IndexMap<String, Doc>,
     units: &[Unit],
-) -> Result<Vec<u64>, Memory> {
+) -> Result<Vec<u64>, Memory>
+    ensures { IfOk result (λ numbers. numbers.items ≡ numbers_among (numbered_modules modules.now.entries) (map unit_of units.now)) }
+{
     let mut numbers = Vec::new(alloc);
     for unit in units {
-        if let Some(number) = number_at(modules, &unit.site.place) {
-            numbers.push(number)?;
-        }
+        push_number(&mut numbers, number_at(modules, &unit.site.place))?;
     }
     Ok(numbers)
 }
 
+// One number more, where there is one.
+fn push_number(numbers: &mut Vec<u64>, number: Option<u64>) -> Result<(), Memory>
+    ensures { OnOk result (numbers.new.items ≡ numbers.old.items ++ alone number) }
+{
+    match number {
+        None => {}
+        Some(number) => numbers.push(number)?,
+    }
+    Ok(())
+}
+
 // The number of the element at this place.
-fn number_at(modules: &IndexMap<String, Doc>, place: &Place) -> Option<u64> {
+fn number_at(modules: &IndexMap<String, Doc>, place: &Place) -> Option<u64>
+    ensures { result ≡ number_at (numbered_modules modules.now.entries) (place_of place.now) }
+{
     match &place.module {
         None => None,
         Some(name) => number_in(modules.get(name.as_str())?, &place.path),
     }
 }
 
-fn number_in(module: &Doc, path: &Path) -> Option<u64> {
-    let element = module.at(path)?;
+fn number_in(document: &Doc, path: &Path) -> Option<u64>
+    ensures { result ≡ number_in (Some document.now) path.now }
+{
+    let element = document.at(path)?;
     Some(element.node.number)
 }
 

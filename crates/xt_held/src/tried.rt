@@ -1,10 +1,12 @@
 // What modules would be with another document among them, or without one.
-ghost use Rattle.std.specs.Prelude.{◌≡◌, ◌<◌, IfOk, IsSome, Ok, Some, bytes_eq, string_bytes};
+ghost use Rattle.std.specs.Prelude.{◌≡◌, ◌<◌, IfOk, IsSome, None, Ok, Some, bytes_eq, string_bytes};
 ghost use Rattle.std.specs.HashMap.{spare};
 ghost use Rattle.std.specs.Map.{lookup, remove_entry};
 ghost use Rattle.std.specs.String.{string_eq};
+ghost use Rattle.spec_cost.specs.Numbers as numbers;
 ghost use Rattle.indexmap.specs.IndexMap.{insert_entry};
 ghost use Rattle.xt_import.specs.View.{modules_in, plain_of};
+ghost use Rattle.xt_held.specs.Called.{AreCalled, numbered_modules};
 ghost use Rattle.xt_held.specs.StylesheetView.{AreCompiled, with_one, without_one};
 ghost use Rattle.xt_held.specs.Tried.{AreSame};
 
@@ -29,6 +31,7 @@ pub(crate) fn compiled_with(
     document: Doc,
 ) -> Result<Tried, Memory>
     ensures compiled { IfOk result (λ tried. AreCompiled (with_one name.now (plain_of document) (modules_in modules.old.entries)) tried.compiled) }
+    ensures called { IfOk result (λ tried. AreCalled (with_one name.now (plain_of document) (modules_in modules.old.entries)) (numbers.with_one name.now (Some document) (numbered_modules modules.old.entries)) tried.compiled) }
     ensures document { IfOk result (λ tried. tried.document ≡ document) }
     ensures kept { modules.new.entries ≡ modules.old.entries }
 {
@@ -55,6 +58,7 @@ pub(crate) fn compiled_without(
     name: &Text,
 ) -> Result<Option<Compiled>, Memory>
     ensures compiled { IfOk result (λ compiled. AreCompiled (without_one name.now (modules_in modules.old.entries)) compiled) }
+    ensures called { IfOk result (λ compiled. AreCalled (without_one name.now (modules_in modules.old.entries)) (numbers.with_one name.now None (numbered_modules modules.old.entries)) compiled) }
     ensures kept { AreSame modules.old.entries modules.new.entries }
 {
     modules.reserve(1)?;

@@ -11,10 +11,11 @@ use Rattle.spec_expression.specs.declared.code.Code.{Code}
 use Rattle.spec_expression.specs.declared.code.Code.TheVariants.{Static, Dynamic}
 use Rattle.spec_run.specs.Documents.{Documents, parameter_fault, with_parameter, without_module}
 use Rattle.spec_run.specs.Outcome.{Outcome, Done, Failed, IsOutcome}
+use Rattle.spec_cost.specs.Numbers.{NumberedDocuments}
 use Rattle.spec_cost.specs.Past.{Past}
 use Rattle.spec_cost.specs.Paying.{Pays, with_pending, without_pending}
 use Rattle.spec_session.specs.Command.{Command}
-use Rattle.spec_session.specs.Costs.{Goes, GoesBy, GoesOf, edited_if, is_module, is_of_module, source_after}
+use Rattle.spec_session.specs.Costs.{Goes, GoesBy, GoesOf, edited_as, is_module, is_of_module, numbered_after}
 use Rattle.spec_session.specs.Machine.{State, Answer, Changes, Pends, Refuses}
 use Rattle.spec_session.specs.Machine.{IsFreeAt, IsFreeFor, TellsNumbers, accepted, accepted_by, begun, committed, abandoned, edited_documents, kept_by}
 use Rattle.spec_session.specs.Machine.{document_named, named_among, with_document, edited_by}
@@ -28,9 +29,9 @@ use Rattle.xt_wire.specs.declared.fault.WireFault.{WireFault}
 use Rattle.xt_wire.specs.declared.fault.WireFault.TheVariants as variant
 use Rattle.xt_held.specs.OutcomeView as view
 use Rattle.xt_held.specs.PastView as view_past
-use Rattle.xt_held.specs.PastView.{Brings, IsPast, PaysBy, PaysFor, source_in}
+use Rattle.xt_held.specs.PastView.{Brings, IsPast, PaysBy, PaysFor, numbers_of}
 use Rattle.xt_held.specs.View as repair
-use Rattle.xt_held.specs.View.{IsAbandoned, IsBegun, IsCommit, IsKept, IsReady, IsToldOf, counts_in, documents_of, edited_basis, made_of, next_documents, next_made, next_pending, next_present, next_source, pending_of, present_by, present_of, told_of}
+use Rattle.xt_held.specs.View.{IsAbandoned, IsBegun, IsCommit, IsKept, IsReady, IsToldOf, counts_in, documents_of, edited_basis, made_of, next_documents, next_made, next_pending, next_numbers, next_present, pending_of, present_by, present_of, told_of}
 use Rattle.xt_held.specs.declared.batch.Batch.{Batch}
 use Rattle.xt_held.specs.declared.counts.Counts.{Counts}
 use Rattle.xt_held.specs.declared.held.Held.{Held}
@@ -108,14 +109,17 @@ replies_counts held outcome counts reply stands tells same is e = record {
   gives = ((outcome, stands, tells), refl);
   goes = λ before past. (
     before,
-    (
-      refl,
-      (counts.asked, counts.did, is ∙ ap (λ (ran : ℕ). Counted ran counts.asked counts.did) (ap (λ (c : Counts). c.ran) same ∙ sym past.ran)),
-    ),
+    (refl, (counts.did, is ∙ (λ i. Counted (ran past i) (asked past i) counts.did))),
     past,
   );
   text_is = e;
 }
+  where
+    ran : {before : Past} → IsPast before held → counts.ran ≡ before.ran
+    ran past = ap (λ (c : Counts). c.ran) same ∙ sym past.ran
+
+    asked : {before : Past} → IsPast before held → counts.asked ≡ before.asked
+    asked past = ap (λ (c : Counts). c.asked) same ∙ sym past.asked
 
 -- to a request for a document that is not held
 pub replies_missing : (held : Held) (name : DocumentName) {text : List ℕ} → None ≡ document_named (state_of held) name → text ≡ reply_text (No 5)
@@ -175,26 +179,26 @@ gives_told held ready (Some outcome) text stands same e =
     record { reply = change_reply outcome; gives = ((outcome, stands.0, refl), same); text_is = e }
 gives_told held ready None text stands same e = record { reply = OkPending; gives = (refl, same); text_is = e }
 
--- what that makes of the past, where it brings what the request makes of the source
+-- what that makes of the past, where it brings what the request makes of the numbered documents
 goes_told : (held : Held) (ready : Ready) (told : Option Outcome) (request : Request) (reply : Reply) (before after : Past) → IsPast before held
-    → Brings (source_after (made_of held) request (source_in held)) (is_of_module request) held ready → PaysBy told ready held before after
+    → Brings (numbered_after (made_of held) request (numbers_of held)) (is_of_module request) held ready → PaysBy told ready held before after
     → GoesBy (state_of held) request (answer_told told (next_state ready held)) reply before after
 goes_told held ready told request reply before after past brings = by told
   where
-    source : next_source ready.change held ≡ source_after (made_of held) request before.edited
-    source = brings.source ∙ ap (source_after (made_of held) request) (sym past.edited)
+    numbers : next_numbers ready.change held ≡ numbered_after (made_of held) request before.edited
+    numbers = brings.numbers ∙ ap (numbered_after (made_of held) request) (sym past.edited)
 
     by : (told : Option Outcome) → PaysBy told ready held before after
         → GoesBy (state_of held) request (answer_told told (next_state ready held)) reply before after
     by (Some outcome) pays =
-        subst (λ (o : Option (Document ℕ)). Pays (next_present ready held) o (is_of_module request) before after) source
-        (subst (λ (b : Bool). Pays (next_present ready held) (next_source ready.change held) b before after) brings.kind pays)
-    by None pays = pays ∙ λ i. with_pending (source i) (brings.kind i) before
+        subst (λ (numbered : NumberedDocuments). Pays (next_present ready held) numbered (is_of_module request) before after) numbers
+        (subst (λ (b : Bool). Pays (next_present ready held) (next_numbers ready.change held) b before after) brings.kind pays)
+    by None pays = pays ∙ λ i. with_pending (numbers i) (brings.kind i) before
 
 -- to a request whose answer is what is adopted, after what changed nothing
 replies_adopted : {old held new : Held} {ready : Ready} (request : Request) {text : List ℕ} → Stays old held
     → adopted ready held ≡ answer_to (state_of held) request
-    → Brings (source_after (made_of held) request (source_in held)) (is_of_module request) held ready
+    → Brings (numbered_after (made_of held) request (numbers_of held)) (is_of_module request) held ready
     → GivesText (state_of held) (adopted ready held) text (state_of new) → BecomesBy (PaysFor ready held) held new → RepliesTo old request text new
 replies_adopted {old = old} {held = held} {new = new} {ready = ready} request stays is brings gives pays = record {
   reply = gives.reply;
@@ -214,7 +218,7 @@ replies_adopted {old = old} {held = held} {new = new} {ready = ready} request st
 
 pub replies_if_adopted : {E : Type 0} {old held : Held} {ready : Ready} (new : Held) (request : Request) (r : Result (List ℕ) E) → Stays old held
     → adopted ready held ≡ answer_to (state_of held) request
-    → Brings (source_after (made_of held) request (source_in held)) (is_of_module request) held ready
+    → Brings (numbered_after (made_of held) request (numbers_of held)) (is_of_module request) held ready
     → IfOk r (λ text. GivesText (state_of held) (adopted ready held) text (state_of new)) → IfOk r (λ text. BecomesBy (PaysFor ready held) held new)
     → IfOk r (λ text. RepliesTo old request text new)
 replies_if_adopted new request (Ok text) stays is brings gives pays = replies_adopted request stays is brings gives pays
@@ -361,24 +365,24 @@ edit_asked old asked (edits.Rename path name) = refl
 
 -- what an edit brings, or a move
 pub brings_edited : (name : DocName) (change : Document ℕ → Result (Edited ℕ) Fault) (asked : DocumentName) {held : Held} {ready : Ready}
-    → name_in name ≡ asked → Brings (view_past.edited_if name change (source_in held)) (view_past.is_module name) held ready
-    → Brings (edited_if asked change (source_in held)) (is_module asked) held ready
+    → name_in name ≡ asked → Brings (view_past.edited_as name change (numbers_of held)) (view_past.is_module name) held ready
+    → Brings (edited_as asked change (numbers_of held)) (is_module asked) held ready
 brings_edited name change asked {held = held} same brings = record {
-  source = brings.source ∙ source name ∙ ap (λ (n : DocumentName). edited_if n change (source_in held)) same;
+  numbers = brings.numbers ∙ numbers name ∙ ap (λ (n : DocumentName). edited_as n change (numbers_of held)) same;
   kind = brings.kind ∙ kind name ∙ ap is_module same;
 }
   where
-    source : (name : DocName) → view_past.edited_if name change (source_in held) ≡ edited_if (name_in name) change (source_in held)
-    source names.Source = refl
-    source (names.Module name) = refl
+    numbers : (name : DocName) → view_past.edited_as name change (numbers_of held) ≡ edited_as (name_in name) change (numbers_of held)
+    numbers names.Source = refl
+    numbers (names.Module name) = refl
 
     kind : (name : DocName) → view_past.is_module name ≡ is_module (name_in name)
     kind names.Source = refl
     kind (names.Module name) = refl
 
 pub brings_asked : (edit : Edit) (asked : DocumentName) {held : Held} {ready : Ready}
-    → Brings (edited_if asked (edited_nodes (made_of held) edit) (source_in held)) (is_module asked) held ready
-    → Brings (source_after (made_of held) (request_by asked edit) (source_in held)) (is_of_module (request_by asked edit)) held ready
+    → Brings (edited_as asked (edited_nodes (made_of held) edit) (numbers_of held)) (is_module asked) held ready
+    → Brings (numbered_after (made_of held) (request_by asked edit) (numbers_of held)) (is_of_module (request_by asked edit)) held ready
 brings_asked (edits.Insert path body) asked brings = brings
 brings_asked (edits.Delete path) asked brings = brings
 brings_asked (edits.SetText path value) asked brings = brings

@@ -35,7 +35,7 @@ use Rattle.xt_world.specs.Units.{called_among, resolved_among}
 use Rattle.xt_world.specs.KeyView.{keyed_in}
 use Rattle.xt_world.specs.SourceView.{source_in}
 use Rattle.xt_world.specs.View.{chosen_by, chosen_in, rule_held, said_of, truth_in, truth_with}
-use Rattle.xt_world.specs.Answering.{AnswersAs}
+use Rattle.xt_world.specs.Answering.{AnswersAs, AnswersGiven}
 use Rattle.xt_world.specs.PartsView.{AreParts}
 use Rattle.xt_world.specs.declared.stylesheet.Parts.{Parts}
 use Rattle.xt_world.specs.declared.stylesheet.Stylesheet.{Stylesheet}
@@ -129,21 +129,42 @@ truth_is numbers sheet s h parameters document (question.Copy node) = refl
 truth_is numbers sheet s h parameters document (question.Unit element) = unit_is numbers sheet.aliases sheet.units s element h.elements h.units h.turns
 truth_is numbers sheet s h parameters document (question.External name) = refl
 
--- with what is made of its units it answers as the stylesheet does
-pub answers_as : (sheet : syntax.Sheet) (parts : Parts) (aliases : List Alias) (us : List Piece) → aliases ≡ (sheet_of sheet).aliases
-    → us ≡ (sheet_of sheet).units → AreParts aliases us parts
-    → AnswersAs (record { rules = sheet.rules; units = parts.units; elements = parts.elements; turns = parts.turns; globals = parts.globals }) (sheet_of sheet)
-answers_as sheet parts aliases us one other made =
-    let h = subst (λ (list : List Piece). AreParts (sheet_of sheet).aliases list parts) other
-    (subst (λ (list : List Alias). AreParts list us parts) one made) in
+-- ---- a stylesheet with what is made of its units
+abbrev pub held_with : syntax.Sheet → Parts → Stylesheet
+held_with sheet parts = record { rules = sheet.rules; units = parts.units; elements = parts.elements; turns = parts.turns; globals = parts.globals }
+
+-- what is made of units and aliases is made of those of the stylesheet
+parts_of : (sheet : syntax.Sheet) (given : List ℕ) (parts : Parts) (aliases : List Alias) (us : List Piece) → aliases ≡ (sheet_of sheet).aliases
+    → us ≡ (sheet_of sheet).units → AreParts given aliases us parts → AreParts given (sheet_of sheet).aliases (sheet_of sheet).units parts
+parts_of sheet given parts aliases us one other made =
+    subst (λ (list : List Piece). AreParts given (sheet_of sheet).aliases list parts) other
+    (subst (λ (list : List Alias). AreParts given list us parts) one made)
+
+is_of : (sheet : syntax.Sheet) (given : List ℕ) (parts : Parts) (h : AreParts given (sheet_of sheet).aliases (sheet_of sheet).units parts)
+    → IsOf h.numbers (sheet_of sheet) (held_with sheet parts)
+is_of sheet given parts h = record { elements = h.elements; units = h.units; turns = h.turns; rules = refl }
+
+-- it answers as the stylesheet does
+answers_as : (sheet : syntax.Sheet) (given : List ℕ) (parts : Parts) (aliases : List Alias) (us : List Piece) → aliases ≡ (sheet_of sheet).aliases
+    → us ≡ (sheet_of sheet).units → AreParts given aliases us parts → AnswersAs (held_with sheet parts) (sheet_of sheet)
+answers_as sheet given parts aliases us one other made =
+    let h = parts_of sheet given parts aliases us one other made in
     record {
       numbers = h.numbers;
       naming = h.naming;
-      truth = truth_is h.numbers (sheet_of sheet)
-          (record { rules = sheet.rules; units = parts.units; elements = parts.elements; turns = parts.turns; globals = parts.globals })
-          (record { elements = h.elements; units = h.units; turns = h.turns; rules = refl });
+      truth = truth_is h.numbers (sheet_of sheet) (held_with sheet parts) (is_of sheet given parts h);
       globals = h.globals;
       rules = refl;
+    }
+
+-- and its elements are called by the given numbers, if they are one for each place and tell the units apart
+pub answers_given : (sheet : syntax.Sheet) (given : List ℕ) (parts : Parts) (aliases : List Alias) (us : List Piece) → aliases ≡ (sheet_of sheet).aliases
+    → us ≡ (sheet_of sheet).units → AreParts given aliases us parts → AnswersGiven given (held_with sheet parts) (sheet_of sheet)
+unfolding answers_as parts_of
+answers_given sheet given parts aliases us one other made =
+    record {
+      is = answers_as sheet given parts aliases us one other made;
+      served = (parts_of sheet given parts aliases us one other made).served;
     }
 
 -- what the source answers, among the questions of the program

@@ -56,6 +56,17 @@ added_first {K} eq test one key value other old new none is =
     by true e = sym (ap (found_or value) (absent eq test one key old e none))
     by false e = refl
 
+-- what was added is found at its key, whatever stood there before
+added_last : {K : Type 0} (eq : K → K → Bool) (test : K → Bool) → IsOfOne eq test → (key : K) (value other : ℕ) (old new : List (K × ℕ))
+    → new ≡ insert_entry eq old key value
+    → found_or other (lookup test new) ≡ cond (test key) value (found_or other (lookup test old))
+added_last {K} eq test one key value other old new is =
+    ap (λ (es : List (K × ℕ)). found_or other (lookup test es)) is ∙ ap (found_or other) (found_after eq test one key value old) ∙ by (test key)
+  where
+    by : (b : Bool) → found_or other (cond b (Some value) (lookup test old)) ≡ cond b value (found_or other (lookup test old))
+    by true = refl
+    by false = refl
+
 abbrev pub same_number : ℕ → ℕ → Bool
 same_number a b = a == b
 
@@ -86,3 +97,8 @@ pub place_added : (key : PlaceKey) (turn : ℕ) (sought : Place) (other : ℕ) (
     → at_place other new sought ≡ at_place (cond (same_element sought (place_of key.place.now)) turn other) old sought
 place_added key turn sought other old new none is =
     added_first same_key (λ (k : PlaceKey). same_element sought (place_of k.place.now)) (of_place sought) key turn other old new none is
+
+pub place_set : (key : PlaceKey) (number : ℕ) (sought : Place) (other : ℕ) (old new : List (PlaceKey × ℕ)) → new ≡ insert_entry same_key old key number
+    → at_place other new sought ≡ cond (same_element sought (place_of key.place.now)) number (at_place other old sought)
+place_set key number sought other old new is =
+    added_last same_key (λ (k : PlaceKey). same_element sought (place_of k.place.now)) (of_place sought) key number other old new is

@@ -3,6 +3,7 @@ pub mod Both
 pub mod Choosing
 pub mod Elements
 pub mod First
+pub mod Given
 pub mod Globals
 pub mod Holding
 pub mod Keyed

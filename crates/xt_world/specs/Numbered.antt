@@ -1,7 +1,7 @@
 -- The true answers of a stylesheet and a source where nodes are named by numbers: those of the source by their own, and the element of a unit
 -- by a number that its place is given, as an attribute of the number 0. Attributes are counted from 1, so no element is called as a node of
 -- the source is.
-use Rattle.std.specs.Prelude.{ℕ, ◌≡◌, Bool, List, IsTrue}
+use Rattle.std.specs.Prelude.{ℕ, ◌≡◌, Bool, List, IsTrue, map}
 use Rattle.std.specs.List.{list_any}
 use Rattle.spec_document.specs.Forest.{Document}
 use Rattle.spec_document.specs.Order.{entries_of}
@@ -23,6 +23,18 @@ has_unit units place = list_any (λ u. same_element place u.site.place) units
 abbrev pub IsNaming : (Place → ℕ) → List Unit → Type 0
 IsNaming numbers units =
     (place other : Place) → IsTrue (has_unit units place) → IsTrue (has_unit units other) → numbers place ≡ numbers other → place ≡ other
+
+-- the numbers of the places of these units, one for each unit
+abbrev pub numbers_among : (Place → ℕ) → List Unit → List ℕ
+numbers_among numbers units = map (λ u. numbers u.site.place) units
+
+-- each place where one of these units stands has the same number by both
+abbrev pub AgreeAmong : (numbers other : Place → ℕ) → List Unit → Type 0
+AgreeAmong numbers other units = (place : Place) → IsTrue (has_unit units place) → numbers place ≡ other place
+
+-- if what is given are the numbers of the places of these units, unit by unit, by numbers that tell them apart, then these are those numbers
+abbrev pub AreAsGiven : List ℕ → (Place → ℕ) → List Unit → Type 0
+AreAsGiven given numbers units = (meant : Place → ℕ) → given ≡ numbers_among meant units → IsNaming meant units → AgreeAmong numbers meant units
 
 abbrev pub ref_to : ℕ → NodeRef
 ref_to number = record { node = record { number = number }; part = part.Itself }

@@ -1,5 +1,5 @@
 -- The numbers of the places of units, and the turns of units by their numbers.
-use Rattle.std.specs.Prelude.{ℕ, ◌+◌, ◌==◌, Bool, false, List, [], ◌∷◌, length, slice_get, Option, None, Some, if◌then◌else◌}
+use Rattle.std.specs.Prelude.{◌≡◌, ℕ, ◌+◌, ◌==◌, Bool, false, List, [], ◌∷◌, length, slice_get, Option, None, Some, if◌then◌else◌}
 use Rattle.std.specs.Map.{lookup}
 use Rattle.std.specs.declared.rc.Rc.{Rc}
 use Rattle.std.specs.Global.{Global}
@@ -9,6 +9,7 @@ use Rattle.spec_run.specs.World.{same_element}
 use Rattle.xt_syntax.specs.PartView.{place_of}
 use Rattle.xt_syntax.specs.SheetView.{unit_of}
 use Rattle.xt_syntax.specs.declared.unit.Unit.{Unit}
+use Rattle.xt_world.specs.Numbered.{has_unit}
 use Rattle.xt_world.specs.Units.{plain_units}
 use Rattle.xt_world.specs.declared.key.PlaceKey.{PlaceKey}
 use Rattle.xt_world.specs.declared.numbers.Numbers.{Numbers}
@@ -31,6 +32,11 @@ found_or other (Some number) = number
 -- the number at a place, or else this one
 abbrev pub at_place : ℕ → List (PlaceKey × ℕ) → Place → ℕ
 at_place other entries place = found_or other (lookup (λ key. same_element place (place_of key.place.now)) entries)
+
+-- a place where one of these units stands has its number there, and no other place has one
+abbrev pub AreNumbersOf : (Place → ℕ) → List sheet.Unit → List (PlaceKey × ℕ) → Type 0
+AreNumbersOf numbers units entries =
+    (place : Place) (other : ℕ) → at_place other entries place ≡ (if has_unit units place then numbers place else other)
 
 -- the turn of a number, where it has one
 abbrev pub turn_found : List (ℕ × ℕ) → ℕ → Option ℕ

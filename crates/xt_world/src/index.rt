@@ -5,7 +5,7 @@ ghost use Rattle.spec_document.specs.Name.{same_name};
 ghost use Rattle.spec_run.specs.World as definition;
 ghost use Rattle.xt_syntax.specs.PartView.{place_of};
 ghost use Rattle.xt_syntax.specs.SheetView.{declared_of};
-ghost use Rattle.xt_world.specs.Numbered.{IsNaming};
+ghost use Rattle.xt_world.specs.Numbered.{AreAsGiven, IsNaming};
 ghost use Rattle.xt_world.specs.Turned.{numbers_in, units_of};
 ghost use Rattle.xt_world.specs.Units.{place_in, plain_units};
 ghost use Rattle.xt_world.specs.Indexed.{AreGlobals, AreTemplates, place_at, place_named};
@@ -37,6 +37,7 @@ pub(crate) fn index_of<'a>(
 ) -> Result<Index<'a>, Memory>
     ensures units { IfOk result (λ index. index.numbers.units.now ≡ units.now) }
     ensures naming { IfOk result (λ index. IsNaming (numbers_in index.numbers) (units_of index.numbers)) }
+    ensures given { IfOk result (λ index. AreAsGiven given.now (numbers_in index.numbers) (units_of index.numbers)) }
     ensures templates { IfOk result AreTemplates }
     ensures globals { IfOk result AreGlobals }
 {

@@ -1,12 +1,12 @@
 // The numbers that the elements of units are called by.
-ghost use Rattle.std.specs.Prelude.{◌≡◌, ◌==◌, ℕ, length, slice_get, IfOk, OnOk, IfSome, if◌then◌else◌};
+ghost use Rattle.std.specs.Prelude.{◌≡◌, ◌==◌, ℕ, true, [], length, slice_get, IfOk, OnOk, IfSome, IsSomeAnd, if◌then◌else◌};
 ghost use Rattle.std.specs.List.{list_all};
 ghost use Rattle.spec_stylesheet.specs.Place as stylesheet;
 ghost use Rattle.spec_run.specs.World.{same_element};
 ghost use Rattle.xt_syntax.specs.PartView.{place_of};
 ghost use Rattle.xt_syntax.specs.SheetView.{unit_of};
-ghost use Rattle.xt_world.specs.Numbered.{IsNaming};
-ghost use Rattle.xt_world.specs.Turned.{at_number, at_place, leads_back, numbers_in, stands_at, turn_of_number, turn_of_place, units_of};
+ghost use Rattle.xt_world.specs.Numbered.{AgreeAmong, AreAsGiven, IsNaming, numbers_among};
+ghost use Rattle.xt_world.specs.Turned.{AreNumbersOf, at_number, at_place, leads_back, numbers_in, stands_at, turn_of_number, turn_of_place, units_of};
 ghost use Rattle.xt_world.specs.Units.{plain_units};
 
 use crate::key::{PlaceKey, same_place};
@@ -44,6 +44,7 @@ pub(crate) fn numbers_of<'a>(
 ) -> Result<Numbers<'a>, Memory>
     ensures units { IfOk result (λ numbers. numbers.units.now ≡ units.now) }
     ensures naming { IfOk result (λ numbers. IsNaming (numbers_in numbers) (units_of numbers)) }
+    ensures given { IfOk result (λ numbers. AreAsGiven given.now (numbers_in numbers) (units_of numbers)) }
 {
     match as_given(alloc, units, given)? {
         None => by_turns(alloc, units),
@@ -59,6 +60,8 @@ fn as_given<'a>(
 ) -> Result<Option<Numbers<'a>>, Memory>
     ensures units { IfOk result (λ found. IfSome found (λ numbers. numbers.units.now ≡ units.now)) }
     ensures naming { IfOk result (λ found. IfSome found (λ numbers. IsNaming (numbers_in numbers) (units_of numbers))) }
+    ensures given { (meant : stylesheet.Place → ℕ) → given.now ≡ numbers_among meant (plain_units units.now) → IsNaming meant (plain_units units.now)
+        → IfOk result (λ found. IsSomeAnd found (λ numbers. AgreeAmong (numbers_in numbers) meant (units_of numbers))) }
 {
     let mut places = IndexMap::new(alloc);
     if !add_all(&mut places, units, given)? {
@@ -78,7 +81,12 @@ fn add_all<'a>(
     places: &mut IndexMap<PlaceKey<'a>, u64>,
     units: &'a [Rc<Unit>],
     given: &[u64],
-) -> Result<bool, Memory> {
+) -> Result<bool, Memory>
+    ensures all { (meant : stylesheet.Place → ℕ) → given.now ≡ numbers_among meant (plain_units units.now) → places.old.entries ≡ []
+        → IfOk result (λ all. all ≡ true) }
+    ensures numbers { (meant : stylesheet.Place → ℕ) → given.now ≡ numbers_among meant (plain_units units.now) → places.old.entries ≡ []
+        → OnOk result (AreNumbersOf meant (plain_units units.now) places.new.entries) }
+{
     if given.len() != units.len() {
         return Ok(false);
     }
@@ -95,7 +103,10 @@ fn add<'a>(
     places: &mut IndexMap<PlaceKey<'a>, u64>,
     place: &'a Place,
     number: u64,
-) -> Result<bool, Memory> {
+) -> Result<bool, Memory>
+    ensures same { IfOk result (λ same. same ≡ (at_place number places.old.entries (place_of place.now) == number)) }
+    ensures added { OnOk result ((sought : stylesheet.Place) (other : ℕ) → at_place other places.new.entries sought ≡ (if same_element sought (place_of place.now) then number else at_place other places.old.entries sought)) }
+{
     match places.insert(PlaceKey { place }, number)? {
         None => Ok(true),
         Some(before) => Ok(before == number),

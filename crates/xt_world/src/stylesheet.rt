@@ -1,12 +1,14 @@
 // A stylesheet that can be run.
-ghost use Rattle.std.specs.Prelude.{◌≡◌, ◌++◌, ◌∷◌, List, map, reverse, IfOk, OnOk};
+ghost use Rattle.std.specs.Prelude.{◌≡◌, ℕ, ◌++◌, ◌∷◌, List, map, reverse, IfOk, OnOk};
+ghost use Rattle.spec_stylesheet.specs.Place.{Place};
 ghost use Rattle.spec_stylesheet.specs.Sheet as spec;
 ghost use Rattle.xt_syntax.specs.SheetView.{sheet_of, unit_of};
 ghost use Rattle.xt_questions.specs.View.{resolved_of};
 ghost use Rattle.xt_engine.specs.View.{named_of};
 ghost use Rattle.xt_world.specs.Alike.{unit_told};
-ghost use Rattle.xt_world.specs.Answering.{AnswersAs};
+ghost use Rattle.xt_world.specs.Answering.{AnswersGiven};
 ghost use Rattle.xt_world.specs.Indexed.{AreGlobals, AreNamed, AreTemplates};
+ghost use Rattle.xt_world.specs.Numbered.{IsNaming};
 ghost use Rattle.xt_world.specs.PartsView.{AreParts};
 ghost use Rattle.xt_world.specs.Turned.{numbers_in, units_of};
 ghost use Rattle.xt_world.specs.Units.{called_among, global_before, globals_among, plain_aliases, plain_units, resolved_among};
@@ -43,9 +45,10 @@ pub struct Stylesheet {
 
 impl Stylesheet {
     /// The stylesheet, of which the world of any source answers truly. The elements of its units are called by these
-    /// numbers, one for each unit, if they tell the elements apart, and else by the turns of the units.
+    /// numbers, one for each unit, if each place has one number and no two places have the same, and else by the turns
+    /// of the units.
     pub fn new(alloc: Global, sheet: Sheet, numbers: Vec<u64>) -> Result<Stylesheet, Memory>
-        ensures { IfOk result (λ s. AnswersAs s (sheet_of sheet)) }
+        ensures { IfOk result (λ s. AnswersGiven numbers.items s (sheet_of sheet)) }
     {
         let Sheet {
             units,
@@ -117,7 +120,7 @@ fn indexed(
     units: &[Rc<Unit>],
     given: &[u64],
 ) -> Result<Parts, Memory>
-    ensures { IfOk result (λ parts. AreParts (plain_aliases aliases.now) (plain_units units.now) parts) }
+    ensures { IfOk result (λ parts. AreParts given.now (plain_aliases aliases.now) (plain_units units.now) parts) }
 {
     let index = index_of(alloc, units, given)?;
     let elements = elements(alloc, &index.numbers)?;

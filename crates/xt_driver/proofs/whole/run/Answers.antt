@@ -2,9 +2,9 @@ use Rattle.std.proofs.Common.{ap, ◌∙◌, []}
 use Rattle.std.specs.Prelude.{OnOk}
 use Rattle.spec_run.specs.Meaning as meant
 use Rattle.xt_driver.specs.View.{setting_in}
-use Rattle.xt_driver.specs.Counted.{CountedWhole, KeepsAll}
+use Rattle.xt_driver.specs.Counted.{CountedWhole, KeepsAll, StaysLikeRun}
 use Rattle.xt_driver.proofs.Standing.{if_ok}
-use Rattle.xt_driver.proofs.Wholes.{whole_at}
+use Rattle.xt_driver.proofs.Wholes.{only_so, whole_at}
 use Rattle.xt_driver.proofs.whole.run.Goals as goal
 
 pub returns-clause-run : goal.returns-clause-run
@@ -22,3 +22,10 @@ pub returns-clause-kept : goal.returns-clause-kept
 returns-clause-kept g c =
     let s = setting_in (g.W.World.state c.args.world.now).truth c.args.root c.args.globals.now in
     whole_at (λ is. OnOk c.run_in.result (KeepsAll s is c.run_in.new.reuse)) s c.levels_of_a_run.result c.levels_of_a_run.ensures c.run_in.ensures.kept
+
+pub returns-clause-only : goal.returns-clause-only
+returns-clause-only g c =
+    let s = setting_in (g.W.World.state c.args.world.now).truth c.args.root c.args.globals.now in
+    only_so s c.args.reuse.now c.run_in.new.reuse c.run_in.result
+    (whole_at (λ is. OnOk c.run_in.result (StaysLikeRun s c.args.reuse.now c.run_in.new.reuse)) s c.levels_of_a_run.result c.levels_of_a_run.ensures
+    c.run_in.ensures.only)

@@ -192,6 +192,32 @@ returns-in-Some-clause-kept g c =
     (over_at root named (named_of n) levels (hand_of c.loop-global.reuse c.loop-global.memo) (hand_of c.turn.new.reuse c.turn.new.memo) inv.truth
     c.as_slice.ensures.value refl c.in_ok-turned.ensures.counts)).1)
 
+pub returns-in-Some-clause-only : goal.returns-in-Some-clause-only
+returns-in-Some-clause-only g c =
+    let truth = (g.W.World.state c.args.world.now).truth in
+    let root = c.args.root in
+    let named = c.args.named.now in
+    let levels = c.args.levels in
+    let s = setting_in truth root named in
+    let inv = c.loop-global.invariant in
+    let i = c.loop-global.global-index in
+    let values = map held_of c.loop-global.values.items in
+    let call = root_call s in
+    let n = c.global-item.result in
+    let t = c.in_ok-turned.turned in
+    let turns = turns_here root named t (named_of n) levels (entries_of c.turn.new.memo) inv.truth c.as_slice.ensures.value refl c.in_ok-turned.ensures.turns in
+    let all = map held_of c.take_turn.new.values.items in
+    let gs = map named_of (drop (i + 1) named) in
+    let first : Hand = record { reuse = c.args.reuse.now; entries = [] } in
+    λ of_run. on_ok c.halted.result c.halted.ensures (λ w h.
+    (turns_refused s levels (named_of n) gs values all call t.held c.in_ok-refusal.refusal c.in-Some.why (entered_by_run s levels s.globals [] call)
+    first (hand_of c.loop-global.reuse c.loop-global.memo) (hand_of c.turn.new.reuse c.turn.new.memo) of_run turns.turned.held c.in-Some.is
+    c.in_ok-refusal.ensures.held
+    (turns_next s levels named i n values call (entered_by_run s levels s.globals [] call) first (hand_of c.loop-global.reuse c.loop-global.memo) (omega arith)
+    c.global-item.is (inv.turns of_run))
+    (over_at root named (named_of n) levels (hand_of c.loop-global.reuse c.loop-global.memo) (hand_of c.turn.new.reuse c.turn.new.memo) inv.truth
+    c.as_slice.ensures.value refl c.in_ok-turned.ensures.counts)).2)
+
 pub returns-clause-counts : goal.returns-clause-counts
 returns-clause-counts g c =
     let truth = (g.W.World.state c.args.world.now).truth in
@@ -235,3 +261,25 @@ returns-clause-kept g c =
     λ of_run. on_ok c.finished.result c.finished.ensures (λ w f.
     (turns_ended s levels values call is first now later of_run (turns_none s levels named i values call is first now (omega arith) (inv.turns of_run))
     (of_finished w c.loop-global.told.items c.first_means-came.result f over)).1)
+
+pub returns-clause-only : goal.returns-clause-only
+returns-clause-only g c =
+    let truth = (g.W.World.state c.args.world.now).truth in
+    let root = c.args.root in
+    let named = c.args.named.now in
+    let levels = c.args.levels in
+    let s = setting_in truth root named in
+    let inv = c.loop-global.invariant in
+    let i = c.loop-global.global-index in
+    let values = map held_of c.loop-global.values.items in
+    let call = root_call s in
+    let same = c.in_ok-call.ensures.call ∙ ap (λ a. rule_call nowhere None [] 1 root 1 (a (Choice root None AllRules))) inv.truth in
+    let first : Hand = record { reuse = c.args.reuse.now; entries = [] } in
+    let now = hand_of c.loop-global.reuse c.loop-global.memo in
+    let later = hand_of c.first_means-came.new.reuse c.first_means-came.new.memo in
+    let is = entered_by_run s levels s.globals [] call in
+    let over = root_over root named levels c.first_means-came.result now later (c.root_call.ensures.truth ∙ inv.truth) c.as_slice-2.ensures.value refl same
+    c.first_means-came.ensures.counts in
+    λ of_run. on_ok c.finished.result c.finished.ensures (λ w f.
+    (turns_ended s levels values call is first now later of_run (turns_none s levels named i values call is first now (omega arith) (inv.turns of_run))
+    (of_finished w c.loop-global.told.items c.first_means-came.result f over)).2)

@@ -54,5 +54,6 @@ returns-clause-cost c =
 pub returns-clause-complete : goal.returns-clause-complete
 returns-clause-complete c =
     recorded_complete c.args.stylesheet.now (parameters_of c.args.parameters.now) c.args.source.now c.of-root.result (c.of-root.ensures ∙ ap ref_to c.root.ensures)
-    c.as_slice.result.now c.as_slice.ensures.value (truth_at c.new-world.result) c.new-world.ensures c.run-whole.new.reuse c.run-whole.result
-    c.with_records.result c.with_records.ensures.run c.with_records.ensures.kept c.run-whole.ensures.run c.run-whole.ensures.kept
+    c.as_slice.result.now c.as_slice.ensures.value (truth_at c.new-world.result) c.new-world.ensures c.in_ok-reuse.reuse c.run-whole.new.reuse
+    c.in_ok-reuse.ensures.kept c.run-whole.result c.with_records.result c.with_records.ensures.run c.with_records.ensures.kept c.run-whole.ensures.run
+    c.run-whole.ensures.kept c.run-whole.ensures.only

@@ -5,8 +5,11 @@ use Rattle.std.specs.String.{string_eq}
 use Rattle.std.specs.declared.alloc.Global.{Global}
 use Rattle.std.specs.declared.string.String.{String}
 use Rattle.indexmap.specs.IndexMap.{insert_entry}
+use Rattle.spec_cost.specs.Numbers as numbers
 use Rattle.xt_import.specs.View.{modules_in, plain_of}
+use Rattle.xt_held.specs.Called.{numbered_modules}
 use Rattle.xt_held.specs.StylesheetView.{with_one}
+use Rattle.xt_held.proofs.Calling.{called_so, numbered-insert}
 use Rattle.xt_held.proofs.Coming.{compiled_so, document_so}
 use Rattle.xt_world.proofs.Keys.{found_again, of_key, of_text, put_back, taken_out}
 use Rattle.xt_held.proofs.Keys.{modules-insert}
@@ -19,7 +22,21 @@ returns-in-None-clause-compiled c =
     let name = ap chars c.in_ok-key.ensures.ok ∙ c.as_str.ensures.characters in
     let modules = ap modules_in c.in_ok-insert.ensures.entries ∙ modules-insert key c.args.document es
     ∙ ap (λ (n : List ℕ). with_one n (plain_of c.args.document) (modules_in es)) name in
-    compiled_so c.compile-compiled.result c.with_document.result c.taken_out-document.result _ _ modules c.compile-compiled.ensures c.with_document.ensures
+    compiled_so c.compile-compiled.result c.with_document.result c.taken_out-document.result _ _ modules c.compile-compiled.ensures.compiled
+    c.with_document.ensures
+
+pub returns-in-None-clause-called : goal.returns-in-None-clause-called
+returns-in-None-clause-called c =
+    let es = c.args.modules.now.entries in
+    let key = c.in_ok-key.key in
+    let document = c.args.document in
+    let name = ap chars c.in_ok-key.ensures.ok ∙ c.as_str.ensures.characters in
+    let modules = ap modules_in c.in_ok-insert.ensures.entries ∙ modules-insert key document es
+    ∙ ap (λ (n : List ℕ). with_one n (plain_of document) (modules_in es)) name in
+    let numbered = ap numbered_modules c.in_ok-insert.ensures.entries ∙ numbered-insert key document es
+    ∙ ap (λ (n : List ℕ). numbers.with_one n (Some document) (numbered_modules es)) name in
+    called_so c.compile-compiled.result c.with_document.result c.taken_out-document.result _ _ _ _ modules numbered
+    c.compile-compiled.ensures.called c.with_document.ensures
 
 pub returns-in-None-clause-document : goal.returns-in-None-clause-document
 returns-in-None-clause-document c =
@@ -48,8 +65,21 @@ returns-in-Some-clause-compiled c =
     let name = ap chars c.in_ok-key.ensures.ok ∙ c.as_str.ensures.characters in
     let modules = ap modules_in c.in_ok-insert.ensures.entries ∙ modules-insert key c.args.document es
     ∙ ap (λ (n : List ℕ). with_one n (plain_of c.args.document) (modules_in es)) name in
-    compiled_so c.compile-compiled-in-Some.result c.with_document-in-Some.result c.put_back-document.result _ _ modules c.compile-compiled-in-Some.ensures
-    c.with_document-in-Some.ensures
+    compiled_so c.compile-compiled-in-Some.result c.with_document-in-Some.result c.put_back-document.result _ _ modules
+    c.compile-compiled-in-Some.ensures.compiled c.with_document-in-Some.ensures
+
+pub returns-in-Some-clause-called : goal.returns-in-Some-clause-called
+returns-in-Some-clause-called c =
+    let es = c.args.modules.now.entries in
+    let key = c.in_ok-key.key in
+    let document = c.args.document in
+    let name = ap chars c.in_ok-key.ensures.ok ∙ c.as_str.ensures.characters in
+    let modules = ap modules_in c.in_ok-insert.ensures.entries ∙ modules-insert key document es
+    ∙ ap (λ (n : List ℕ). with_one n (plain_of document) (modules_in es)) name in
+    let numbered = ap numbered_modules c.in_ok-insert.ensures.entries ∙ numbered-insert key document es
+    ∙ ap (λ (n : List ℕ). numbers.with_one n (Some document) (numbered_modules es)) name in
+    called_so c.compile-compiled-in-Some.result c.with_document-in-Some.result c.put_back-document.result _ _ _ _ modules numbered
+    c.compile-compiled-in-Some.ensures.called c.with_document-in-Some.ensures
 
 pub returns-in-Some-clause-document : goal.returns-in-Some-clause-document
 returns-in-Some-clause-document c =

@@ -1,9 +1,11 @@
-use Rattle.std.proofs.Common.{ℕ, ◌∙◌, ap}
+use Rattle.std.proofs.Common.{ℕ, true, ◌∙◌, ap, subst, sym}
 use Rattle.spec_document.specs.Document.{document_of}
 use Rattle.spec_document.specs.Scope.{root_scope}
 use Rattle.spec_run.specs.Documents.{with_module}
 use Rattle.spec_session.specs.Machine.{kept_by}
 use Rattle.spec_session.specs.Request.{SetModule}
+use Rattle.spec_cost.specs.Numbers.{given_module}
+use Rattle.xt_held.specs.PastView.{Brings, numbers_of}
 use Rattle.xt_session.specs.State.{state_of}
 use Rattle.xt_session.proofs.Answering.{if_ok_map, kept_so, on_err_then, replies_if_adopted, replies_refusal, stays_kept}
 use Rattle.xt_session.proofs.changes.set_module.Goals as goal
@@ -14,9 +16,12 @@ returns-in-Ok-clause-ok c =
     let body = c.args.body.now in
     let kept = c.in-Ok.ensures.kept in
     let made = c.in-Ok.ensures.answer in
+    let held = c.set_module.new.self in
+    let brings = subst (λ (first : ℕ). Brings (given_module name (document_of root_scope first body) (numbers_of held)) true held c.in-Ok.ready)
+    (sym kept.made) c.in-Ok.ensures.brings in
     replies_if_adopted _ (SetModule name body) c.adopt.result (stays_kept kept c.in-Ok.ensures.past)
     (kept_so (with_module name) _ made.0 (ap (λ (first : ℕ). document_of root_scope first body) kept.made ∙ made.1) made.2)
-    c.in-Ok.ensures.brings c.adopt.ensures.ok c.adopt.ensures.past
+    brings c.adopt.ensures.ok c.adopt.ensures.past
 
 pub returns-in-Ok-clause-err : goal.returns-in-Ok-clause-err
 returns-in-Ok-clause-err c = on_err_then c.adopt.result _ (stays_kept c.in-Ok.ensures.kept c.in-Ok.ensures.past) c.adopt.ensures.err

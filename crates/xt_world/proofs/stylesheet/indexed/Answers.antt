@@ -20,10 +20,11 @@ returns c =
       globals = c.in_ok-globals.globals;
     } in
     let as_many = length-map c.in_ok-index.index.numbers.units.now (λ (u : Rc Unit Global). unit_of u.value) in
-    subst (λ (us : List sheet.Unit). AreParts (plain_aliases c.args.aliases.now) us parts) (ap plain_units c.in_ok-index.ensures.units)
+    subst (λ (us : List sheet.Unit). AreParts c.args.given.now (plain_aliases c.args.aliases.now) us parts) (ap plain_units c.in_ok-index.ensures.units)
     (record {
       numbers = numbers_in c.in_ok-index.index.numbers;
       naming = c.in_ok-index.ensures.naming;
+      served = c.in_ok-index.ensures.given;
       units = c.in_ok-units.ensures;
       elements = c.in_ok-elements.ensures;
       turns = λ number. ap (λ (n : ℕ). at_number n c.in_ok-turns.turns.entries number) as_many ∙ c.in_ok-turns.ensures number;

@@ -7,12 +7,12 @@ use Rattle.xt_import.specs.View.{plain_of}
 use Rattle.xt_world.specs.ParameterView.{parameters_of}
 use Rattle.xt_held.specs.OutcomeView.{outcome_of}
 use Rattle.xt_held.specs.RunView.{LastHolds, LastServes}
-use Rattle.xt_held.specs.View.{documents_of, left_by}
+use Rattle.xt_held.specs.View.{documents_of, is_edited_by, left_by}
 use Rattle.xt_held.specs.declared.ready.Change.TheVariants as changes
 use Rattle.xt_held.specs.declared.ready.Recompiled.TheVariants.{AsBefore}
 use Rattle.xt_held.proofs.Keeping.{serves_since}
 use Rattle.xt_held.proofs.Keys.{map-copied}
-use Rattle.xt_held.proofs.Making.{told_from}
+use Rattle.xt_held.proofs.Making.{not_edited, told_from}
 use Rattle.xt_held.proofs.Paying.{unedited_modules}
 use Rattle.xt_held.specs.Complete.{KeepsWhere}
 use Rattle.xt_held.specs.Cost.{CostsRun, any_change}
@@ -51,6 +51,7 @@ returns-clause-ok c =
                 c.as_ref.ensures.value came.ensures.cost;
             keeps = subst (λ (s : Option (Document ℕ)). KeepsWhere held.compiled given s came.came.kept) c.as_ref.ensures.value came.ensures.keeps;
             same = λ e. record { modules = unedited_modules held c.requires.current e; compiled = refl };
+            called = λ e. absurd (not_edited (is_edited_by held.batch) c.requires.unedited e);
           }) tt c.requires.current.below tt;
       told = refl;
     }

@@ -21,7 +21,7 @@ returns-clause-ok c =
     let compiled = c.in_ok-compiled.compiled in
     let came = c.in-Ok.came in
     let change = changes.Committed (Now compiled) in
-    let are = subst (λ (o : Option Compiled). AreCompiled modules o) (sym c.as_ref.ensures.value) c.in_ok-compiled.ensures in
+    let are = subst (λ (o : Option Compiled). AreCompiled modules o) (sym c.as_ref.ensures.value) c.in_ok-compiled.ensures.compiled in
     record {
       is_open = c.requires.is_open;
       present = refl;
@@ -32,13 +32,14 @@ returns-clause-ok c =
             outcome = c.in-Ok.ensures.outcome modules are;
             closed = refl;
             fits = c.in-Ok.ensures.fits;
-            compiled = c.in_ok-compiled.ensures;
+            compiled = c.in_ok-compiled.ensures.compiled;
             last = subst (λ (o : Option Compiled). LastHolds (outcome_of came.outcome) o given held.source
                 (left_by came (before_by o held.compiled held.last.before) held.last)) c.as_ref.ensures.value c.in-Ok.ensures.last;
             cost = subst (λ (o : Option Compiled). CostsRun o given held.source held.last.kept.records any_change came.counts)
                 c.as_ref.ensures.value c.in-Ok.ensures.cost;
             keeps = subst (λ (o : Option Compiled). KeepsWhere o given held.source came.kept) c.as_ref.ensures.value c.in-Ok.ensures.keeps;
             same = batch_changes (told_ready change held.next came) held (is_edited_by held.batch) false c.requires.edited;
+            called = λ e. c.in_ok-compiled.ensures.called;
           }) tt c.requires.current.below tt;
       told = refl;
     }

@@ -9,5 +9,5 @@ returns-in_ok-document_ready-in-None-clause-brings c =
     let name = c.args.name in
     let made = c.in_ok-document-in-None in
     let ready = c.in_ok-document_ready-in-None in
-    brings_edited name made.field-0.document (λ first. edited_nodes first (edit_of c.args.edit.now)) (is_module name) ready.ensures.kept made.ensures.source
+    brings_edited name made.field-0.document (λ first. edited_nodes first (edit_of c.args.edit.now)) (is_module name) ready.ensures.kept made.ensures.numbers
     ready.field-0 ready.ensures.brings

@@ -17,8 +17,8 @@ returns-in-Some-clause-faultless c =
     edit_keeps_faultless held c.found.result c.in-Some.document c.in-Some.is c.requires.serves.faultless c.documents_stay_valid.ensures
     c.documents_stay_normal.ensures (made_of held) c.args.name c.found.ensures c.args.edit.now c.requires.below c.apply.result c.apply.ensures.labelled
 
-pub returns-in-Some-clause-source : goal.returns-in-Some-clause-source
-returns-in-Some-clause-source c =
+pub returns-in-Some-clause-numbers : goal.returns-in-Some-clause-numbers
+returns-in-Some-clause-numbers c =
     let held = c.args.self.now in
     is_numbered (made_of held) c.args.name held c.found.result c.in-Some.document c.found.ensures c.in-Some.is
     (spec.edited_nodes (made_of held) (edit_of c.args.edit.now)) c.apply.result c.apply.ensures.labelled

@@ -1,4 +1,5 @@
-use Rattle.std.proofs.Common.{rules}
+use Rattle.std.proofs.Common.{rules, ap, refl}
+use Rattle.xt_held.specs.declared.counts.Counts.{Counts}
 use Rattle.xt_held.proofs.Left.{nothing_kept}
 use Rattle.xt_held.proofs.Paying.{first_past}
 use Rattle.xt_held.proofs.held.Held.new.Goals as goal
@@ -7,4 +8,6 @@ pub returns-clause-current : goal.returns-clause-current
 returns-clause-current c = search (rules, nothing_kept)
 
 pub returns-clause-past : goal.returns-clause-past
-returns-clause-past c = λ called. search (rules, first_past)
+returns-clause-past c = λ called.
+    first_past called _ refl c.new.ensures.empty refl refl c.new-3.ensures (ap (λ (counts : Counts). counts.ran) c.no_counts.ensures)
+    (ap (λ (counts : Counts). counts.asked) c.no_counts.ensures)

@@ -1,7 +1,8 @@
-use Rattle.std.proofs.Common.{arith, refl}
+use Rattle.std.proofs.Common.{None, arith, refl}
+use Rattle.spec_cost.specs.Numbers as numbers
 use Rattle.spec_run.specs.Documents.{without_module}
 use Rattle.xt_world.specs.ParameterView.{parameters_of}
-use Rattle.xt_held.specs.View.{documents_of}
+use Rattle.xt_held.specs.View.{documents_of, numbers_of}
 use Rattle.xt_held.specs.declared.ready.Change.TheVariants as changes
 use Rattle.xt_held.specs.declared.ready.Recompiled.TheVariants.{AsBefore}
 use Rattle.xt_held.proofs.Keeping.{serves_since}
@@ -28,3 +29,7 @@ returns-clause-ok c =
             serves = serves_since held.compiled (parameters_of held.parameters) held.source held.last since c.in_ok-since.ensures c.requires.current.serves;
           }) tt c.requires.current.below tt;
     }
+
+pub returns-clause-brings : goal.returns-clause-brings
+returns-clause-brings c =
+    record { numbers = λ i. numbers.with_module (c.in_ok-dropped.ensures i) None (numbers_of c.args.self.now); kind = refl }

@@ -1,12 +1,13 @@
-use Rattle.std.proofs.Common.{◌≡◌, List, ℕ, ap, refl, string_bytes, subst, sym, ◌∙◌}
+use Rattle.std.proofs.Common.{◌≡◌, List, ℕ, Some, ap, refl, string_bytes, subst, sym, ◌∙◌}
 use Rattle.std.specs.Str.{chars}
 use Rattle.std.specs.declared.alloc.Global.{Global}
 use Rattle.std.specs.declared.string.String.{String}
 use Rattle.spec_document.specs.Forest.{Document}
+use Rattle.spec_cost.specs.Numbers as numbers
 use Rattle.spec_run.specs.Documents.{with_module}
 use Rattle.xt_import.specs.View.{plain_of}
 use Rattle.xt_world.specs.ParameterView.{parameters_of}
-use Rattle.xt_held.specs.View.{AreAllBelow, IsKept, documents_of, made_of}
+use Rattle.xt_held.specs.View.{AreAllBelow, IsKept, documents_of, made_of, numbers_of}
 use Rattle.xt_held.specs.declared.held.Held.{Held}
 use Rattle.xt_held.specs.declared.ready.Change.TheVariants as changes
 use Rattle.xt_held.specs.declared.ready.Recompiled.TheVariants.{AsBefore}
@@ -39,6 +40,12 @@ returns-clause-ok c =
           (subst (λ (es : List (String Global × Document ℕ)). AreAllBelow c.args.next.number held.source es) (sym entries)
           (all_raised (made_of held) c.args.next.number held c.requires.grows c.requires.current.below)) c.requires.below;
     }
+
+pub returns-clause-brings : goal.returns-clause-brings
+returns-clause-brings c =
+    let new : Held = record c.args.self.now { modules = c.reserve.new.self } in
+    let name : chars (string_bytes c.in-Ok.key) ≡ c.args.name.now = ap chars c.in-Ok.ensures.ok ∙ c.as_str.ensures.characters in
+    record { numbers = λ i. numbers.with_module (name i) (Some c.args.document) (numbers_of new); kind = refl }
 
 pub returns-clause-kept : goal.returns-clause-kept
 returns-clause-kept c = kept_modules c.args.self.now _ c.in-Ok-reserve.ensures.entries refl

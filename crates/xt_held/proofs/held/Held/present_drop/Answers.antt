@@ -1,10 +1,12 @@
-use Rattle.std.proofs.Common.{Option, refl, subst, sym}
+use Rattle.std.proofs.Common.{None, Option, refl, subst, sym}
+use Rattle.spec_cost.specs.Numbers as numbers
 use Rattle.xt_import.specs.View.{modules_in}
 use Rattle.xt_world.specs.ParameterView.{parameters_of}
 use Rattle.xt_held.specs.OutcomeView.{outcome_of}
 use Rattle.xt_held.specs.RunView.{AnswersAsSome, LastHolds}
-use Rattle.xt_held.specs.View.{before_by, documents_of, left_by}
+use Rattle.xt_held.specs.View.{before_by, documents_of, left_by, numbers_of}
 use Rattle.xt_held.specs.StylesheetView.{AreCompiled, without_one}
+use Rattle.xt_held.specs.declared.held.Held.{Held}
 use Rattle.xt_held.specs.declared.stylesheet.Compiled.{Compiled}
 use Rattle.xt_held.proofs.Dropped.{ready_so}
 use Rattle.xt_held.proofs.Keeping.{kept_so}
@@ -51,5 +53,11 @@ returns-clause-ok c =
     let keeps = subst (λ (o : Option Compiled). KeepsWhere o (parameters_of held.parameters) held.source came.kept) c.as_ref.ensures.value
     c.in-Ok.ensures.keeps in
     ready_so held _ (record { modules = c.in_ok-compiled.ensures.kept; source = refl; compiled = refl; parameters = refl; made = refl; outcome = refl; counts = refl; last = refl; batch = refl })
-    (none_open held.batch (documents_of held) c.requires.alone) name c.in_ok-dropped.dropped c.in_ok-dropped.ensures compiled came held.next refl c.in_ok-compiled.ensures.compiled (c.in-Ok.ensures.outcome modules are)
+    (none_open held.batch (documents_of held) c.requires.alone) name c.in_ok-dropped.dropped c.in_ok-dropped.ensures compiled came held.next refl c.in_ok-compiled.ensures.compiled
+    c.in_ok-compiled.ensures.called (c.in-Ok.ensures.outcome modules are)
     c.in-Ok.ensures.fits holds cost keeps c.requires.current
+
+pub returns-clause-brings : goal.returns-clause-brings
+returns-clause-brings c =
+    let new : Held = record c.args.self.now { modules = c.compiled_without.new.modules } in
+    record { numbers = λ i. numbers.with_module (c.in_ok-dropped.ensures i) None (numbers_of new); kind = refl }

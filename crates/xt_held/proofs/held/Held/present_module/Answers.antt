@@ -1,19 +1,22 @@
-use Rattle.std.proofs.Common.{◌≡◌, List, ℕ, Option, refl, ap, sym, subst, string_bytes, ◌∙◌}
+use Rattle.std.proofs.Common.{◌≡◌, List, ℕ, Option, Some, refl, ap, sym, subst, string_bytes, ◌∙◌}
 use Rattle.std.specs.Option.{option_copied, option_map}
 use Rattle.std.specs.Str.{chars}
 use Rattle.std.specs.declared.alloc.Global.{Global}
 use Rattle.std.specs.declared.string.String.{String}
 use Rattle.spec_document.specs.Forest.{Document}
+use Rattle.spec_cost.specs.Numbers as numbers
+use Rattle.spec_cost.specs.Numbers.{NumberedModules}
 use Rattle.spec_run.specs.Documents.{main_name, with_module}
 use Rattle.spec_run.specs.Outcome.{Comes}
 use Rattle.spec_structure.specs.Modules.{Modules}
 use Rattle.xt_edit.specs.View.{AreBelow}
 use Rattle.xt_import.specs.View.{modules_in, plain_of}
 use Rattle.xt_world.specs.ParameterView.{parameters_of}
+use Rattle.xt_held.specs.Called.{AreCalled, numbered_modules}
 use Rattle.xt_held.specs.OutcomeView.{outcome_of}
 use Rattle.xt_held.specs.RunView.{AnswersAsSome, LastHolds}
 use Rattle.xt_held.specs.StylesheetView.{AreCompiled, with_one}
-use Rattle.xt_held.specs.View.{AreAllBelow, before_by, documents_of, is_edited_by, left_by, made_of, with_edit}
+use Rattle.xt_held.specs.View.{AreAllBelow, before_by, documents_of, is_edited_by, left_by, made_of, numbers_of, with_edit}
 use Rattle.xt_held.specs.declared.stylesheet.Compiled.{Compiled}
 use Rattle.xt_held.specs.declared.held.Held.{Held}
 use Rattle.xt_held.specs.declared.ready.Change.TheVariants as changes
@@ -49,6 +52,10 @@ returns-clause-ok c =
     let is : with_one c.args.name.now (plain_of c.args.document) (modules_in held.modules.entries) ≡ modules
     = sym (λ i. with_one (name i) (plain_of (same i)) (modules_in (entries i))) in
     let are : AreCompiled modules compiled = subst (λ (ms : Modules). AreCompiled ms compiled) is c.in_ok-tried.ensures.compiled in
+    let given = numbers.with_one c.args.name.now (Some c.args.document) (numbered_modules held.modules.entries) in
+    let numbered : given ≡ numbers.with_one key (Some document) (numbered_modules c.reserve.new.self.entries)
+    = sym (λ i. numbers.with_one (name i) (Some (same i)) (numbered_modules (entries i))) in
+    let called : AreCalled modules given compiled = subst (λ (ms : Modules). AreCalled ms given compiled) is c.in_ok-tried.ensures.called in
     let came = c.in-Ok-outcome_with_modules in
     let of_reference : AreCompiled modules (option_copied c.as_ref.result) = subst (λ (o : Option Compiled). AreCompiled modules o) (sym c.as_ref.ensures.value) are in
     let comes : Comes modules (parameters_of held.parameters) (modules main_name) (option_map plain_of held.source) (outcome_of came.came.outcome)
@@ -73,11 +80,18 @@ returns-clause-ok c =
             keeps = subst (λ (o : Option Compiled). KeepsWhere o (parameters_of held.parameters) held.source came.came.kept) c.as_ref.ensures.value
                 came.ensures.keeps;
             same = module_changes (told_ready change c.args.next came.came) new (is_edited_by held.batch);
+            called = λ e. subst (λ (ns : NumberedModules). AreCalled modules ns compiled) numbered called;
           }) c.in-Ok-reserve.ensures.ok
           (subst (λ (es : List (String Global × Document ℕ)). AreAllBelow c.args.next.number held.source es) (sym entries)
           (all_raised (made_of held) c.args.next.number held c.requires.grows c.requires.current.below))
           (subst (λ (d : Document ℕ). AreBelow c.args.next.number d) (sym same) c.requires.below);
     }
+
+pub returns-clause-brings : goal.returns-clause-brings
+returns-clause-brings c =
+    let new : Held = record c.args.self.now { modules = c.reserve.new.self } in
+    let name : chars (string_bytes c.in-Ok.key) ≡ c.args.name.now = ap chars c.in-Ok.ensures.ok ∙ c.as_str.ensures.characters in
+    record { numbers = λ i. numbers.with_module (name i) (Some (c.in_ok-tried.ensures.document i)) (numbers_of new); kind = refl }
 
 pub returns-clause-kept : goal.returns-clause-kept
 returns-clause-kept c = kept_modules c.args.self.now _ (c.in-Ok-reserve.ensures.entries ∙ c.in_ok-tried.ensures.kept) refl

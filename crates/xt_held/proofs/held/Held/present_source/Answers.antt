@@ -2,7 +2,7 @@ use Rattle.std.proofs.Common.{refl}
 use Rattle.xt_held.specs.View.{documents_of, made_of}
 use Rattle.xt_held.specs.declared.ready.Change.TheVariants as changes
 use Rattle.xt_held.proofs.Keeping.{all_raised}
-use Rattle.xt_held.proofs.Making.{compiled_alone, mapped_twice, none_open, told_from}
+use Rattle.xt_held.proofs.Making.{compiled_alone, mapped_twice, none_edited, none_open, told_from}
 use Rattle.xt_held.proofs.Marked.{known_of}
 use Rattle.xt_held.proofs.Paying.{present_modules}
 use Rattle.xt_held.proofs.held.Held.present_source.Goals as goal
@@ -31,5 +31,6 @@ returns-clause-ok c =
             cost = c.in-Ok.ensures.cost;
             keeps = c.in-Ok.ensures.keeps;
             same = λ e. record { modules = present_modules held alone; compiled = refl };
+            called = λ e. absurd (none_edited held.batch alone e);
           }) tt (all_raised (made_of held) c.args.next.number held c.requires.grows c.requires.current.below) c.requires.below;
     }

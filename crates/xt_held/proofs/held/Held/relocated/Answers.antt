@@ -17,8 +17,8 @@ returns-in-Some-clause-faultless c =
     c.moves_keep_documents_normal.ensures (made_of held) c.args.name c.found.ensures c.args.path.now c.args.other.now c.requires.below c.relocate.result
     c.relocate.ensures.labelled
 
-pub returns-in-Some-clause-source : goal.returns-in-Some-clause-source
-returns-in-Some-clause-source c =
+pub returns-in-Some-clause-numbers : goal.returns-in-Some-clause-numbers
+returns-in-Some-clause-numbers c =
     let held = c.args.self.now in
     is_numbered (made_of held) c.args.name held c.found.result c.in-Some.document c.found.ensures c.in-Some.is
     (moved_nodes (made_of held) c.args.path.now c.args.other.now) c.relocate.result c.relocate.ensures.labelled
