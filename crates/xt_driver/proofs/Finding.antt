@@ -43,7 +43,7 @@ use Rattle.xt_driver.specs.Referring.{entry_of, no_global, remembered_as, IsValu
 use Rattle.xt_driver.specs.Referring.{Evaluates}
 use Rattle.xt_driver.specs.Counted.{Hand, kept_by, IsRecorded, IsRecordedOf, AreRecorded, Counted, CountsOver, CountsLooked, IsFrom, IsIdle}
 use Rattle.xt_driver.proofs.Given.{equal_names}
-use Rattle.xt_driver.proofs.Tallying.{ready_on, recorded_both, counted_none}
+use Rattle.xt_driver.proofs.Tallying.{recorded_later, recorded_both, counted_none}
 
 abbrev Ask : Type 0
 Ask = Question NodeRef → Answer NodeRef
@@ -185,7 +185,7 @@ looked_recalled globals name levels m r found recalls is from = λ ask reuse pla
     let element = ap (λ n. element_named n s.globals) (sym same) ∙ element_at s past.values m m from.entry from.among h.hold in (
       λ of_run ready. counted_none s past.values list reuse m m
           (found_for s past (kept_by reuse) name levels place from.entry.element element
-          (recorded_at s past.values (kept_by reuse) m from.entry from.among ready) of_run
+          (recorded_at s past.values (kept_by reuse) m from.entry from.among ready.recorded) of_run
           (ends s past name levels place from.entry r.value.entered settles.gives.so from.value)) ready,
       idle r.value.entered from.entry from.value list,
     )
@@ -216,7 +216,10 @@ looked_none globals name levels m n (references.Given r) none is same = λ ask r
     let empty : list ≡ [] = reference_to_none s levels past name 0 place (none ask) in
     let R : List (Entry NodeRef) → Type 0 = λ es. AreRecorded s past.values (kept_by reuse) es in (
       λ of_run ready. counted_none s past.values list reuse m n (none_found s (kept_by reuse) list empty)
-          (subst R (sym same) (recorded_both s past.values (kept_by reuse) m (no_global name ∷ []) ready (tt, tt))),
+          (record {
+            recorded = subst R (sym same) (recorded_both s past.values (kept_by reuse) m (no_global name ∷ []) ready.recorded (tt, tt));
+            within = ready.within;
+          }),
       idle r.value.entered is.value list,
     )
   where
@@ -297,21 +300,22 @@ module _ (s : Setting NodeRef) (past : Past NodeRef) (name : Expanded) (element 
       let same = reference_evaluated s levels past name 0 place element e anew.apart anew.element_is in
       let R : List (Instantiation NodeRef) → Type 0 = λ is. AreOfRun s is in
       let here = subst R same of_run in
-      let parts = aside_ready s past.values (kept_by before) is ready in
-      let y = over here parts.1 in
+      let parts = aside_ready s past.values (kept_by before) is ready.recorded in
+      let y = over here (record { recorded = parts.1; within = ready.within }) in
       let C : List (Instantiation NodeRef) → Type 0 = λ is. Counted s past.values is (with_entries before old) (with_entries after last) in
       let A : List (Entry NodeRef) → Type 0 = λ es. AreRecorded s past.values (kept_by after) es in
-      let set_aside = ready_on s past.values aside before after y.stands parts.0 in
+      let set_aside = recorded_later s past.values (kept_by before) (kept_by after) aside y.more parts.0 in
       let all = recorded_both s past.values (kept_by after) (new ++ aside) (remembered_as name element (levels - o.spare) (outcome_of o).content r.entered)
-      (recorded_both s past.values (kept_by after) new aside y.ready set_aside) (one r.entered (result.gives place).so here y.keeps.found) in
+      (recorded_both s past.values (kept_by after) new aside y.ready.recorded set_aside) (one r.entered (result.gives place).so here y.keeps.found) in
       subst C (sym same) (record {
         list = y.list;
         enters = y.enters;
         ran = y.ran;
         stands = y.stands;
+        more = y.more;
         only = y.only;
         keeps = y.keeps;
-        ready = subst A (sym result.remembered) all;
+        ready = record { recorded = subst A (sym result.remembered) all; within = y.ready.within };
       })
     where
       list : List (Instantiation NodeRef)

@@ -25,3 +25,4 @@ pub mod Telling
 pub mod Finding
 pub mod Running
 pub mod Wholes
+pub mod Said

@@ -41,6 +41,7 @@ use Rattle.xt_engine.specs.declared.turn.Turn.TheVariants.{Want, WantGlobal, Don
 use Rattle.xt_engine.specs.Advances.{Advances, AdvancesSo, ends, gift_of, ran_of}
 use Rattle.xt_engine.specs.Progress.{Progress, Gift, Start, Goes, Halts, ForNothing, ForCall, ForGlobal, received, started, supplies_for, after_call}
 use Rattle.xt_engine.specs.Progress.{after_global, circular, supplied_with}
+use Rattle.xt_record.specs.declared.index.Index.{Index}
 use Rattle.xt_record.specs.declared.pool.Pool.{Pool}
 use Rattle.xt_record.specs.declared.reuse.Reuse.{Reuse}
 use Rattle.xt_text.specs.declared.memory.Memory.{Memory}
@@ -64,17 +65,18 @@ use Rattle.xt_driver.specs.declared.memo.Referred.{Referred}
 use Rattle.xt_driver.specs.declared.outcome.Outcome.{Outcome as Came}
 use Rattle.xt_driver.specs.Along.{refuses}
 use Rattle.xt_driver.specs.View.{outcome_of, gift_for, Gives, GivesSo, IsRefused, IsRefusedSo, IsStreamed, IsTaken}
+use Rattle.xt_record.specs.Grown.{values_of}
 use Rattle.xt_record.specs.Search.{StandOn}
 use Rattle.xt_driver.specs.declared.lost.Lost.{Lost}
 use Rattle.xt_driver.specs.Lost.{is_lost, is_to, IsLost}
 use Rattle.xt_driver.specs.Stands.{Level, supply_of, nested_of, Agrees, Stands, StandsSo}
 use Rattle.xt_driver.specs.Counted.{Hand, kept_by, records_of, KeepsAll, IsReady, most_counted, IsCounted, Counted, CountsFor, CountsOver, CountedRun}
-use Rattle.xt_driver.specs.Counted.{known_by, StaysLikeRun}
+use Rattle.xt_driver.specs.Counted.{known_by, KeepsOn, StaysLikeRun}
 use Rattle.xt_driver.proofs.Given.{equal_names, hand_more, found_last}
 use Rattle.xt_driver.proofs.Owns.{own_passes}
 use Rattle.xt_driver.proofs.Less.{referred_at, referred_less}
 use Rattle.xt_driver.proofs.Standing.{in_room, own_ends, stands_halt}
-use Rattle.xt_driver.proofs.Completing.{found_at_hand, all_found_on, keeps_none, keeps_found, keeps_of, keeps_both, likes_same}
+use Rattle.xt_driver.proofs.Completing.{keeps_same, within_same, found_at_hand, all_found_on, keeps_none, keeps_found, keeps_of, keeps_both, likes_same}
 use Rattle.xt_driver.proofs.Tallying.{ready_on, more_counted, records_same, stand_same}
 
 abbrev pub at_level : Level → Instantiation NodeRef
@@ -108,6 +110,7 @@ pub record Running (l : Level) (lo : Lost) (left : Plan NodeRef) (start : Start 
   pub known : KnownSo l (kept_by b.reuse) start
   pub ran : IsCounted (suc (length list)) a b
   pub stands : StandOn a.reuse b.reuse
+  pub more : KeepsOn a.reuse b.reuse
   pub only : StaysLikeRun l.setting a.reuse b.reuse
   pub keeps : KeepsAll l.setting (nested_but l.setting (at_level l) (known_by lo l.below) done) b.reuse
   pub ready : IsReady l.setting l.past.values b
@@ -184,9 +187,9 @@ module _ (l : Level) where
       let E : Trace → Type 0 = λ es. IsRun l.setting i (known_by lo l.below) es (records_of a.reuse) x.list (records_of b.reuse) in
       let but : Trace → List (Instantiation NodeRef) = nested_but l.setting i (known_by lo l.below) in
       let behind = keeps_found l.setting (but m.0) b.reuse (λ j k. m.2 j (some_in (nested_some l.setting i (known_by lo l.below) m.0) j k)) in
-      let all_kept = keeps_both l.setting (but x.done) (but m.0) b.reuse b.reuse (λ at r k. k) x.keeps behind in (
+      let all_kept = keeps_both l.setting (but x.done) (but m.0) b.reuse b.reuse (λ j k. k) x.keeps behind in (
         subst E (sym at) (run_passes l.setting i (known_by lo l.below) x.done m.0 grown.0 (records_of a.reuse) (records_of b.reuse) x.list x.run
-            (trace ∙ ap (λ es. es ++ grown.0) at) (found_at_hand l.setting b.reuse (nested_along l.setting i m.0) m.2)),
+            (trace ∙ ap (λ es. es ++ grown.0) at) (found_at_hand l.setting b.reuse (nested_along l.setting i m.0) x.ready.within m.2)),
         keeps_of l.setting (but x.done ++ but m.0) (but h.trace) b.reuse
             (sym (ap but at ∙ nested_but_append l.setting i (known_by lo l.below) x.done m.0)) all_kept,
       )
@@ -194,15 +197,17 @@ module _ (l : Level) where
   -- what it does in all, where it comes to its end
   pub ran_whole : (lo : Lost) (a b : Hand) (done : Trace) (list : List (Instantiation NodeRef))
       → IsRun l.setting (at_level l) (known_by lo l.below) done (records_of a.reuse) list (records_of b.reuse)
-      → (own_of l.setting (at_level l)).going.trace ≡ done → IsCounted (suc (length list)) a b → StandOn a.reuse b.reuse → StaysLikeRun l.setting a.reuse b.reuse
+      → (own_of l.setting (at_level l)).going.trace ≡ done → IsCounted (suc (length list)) a b → StandOn a.reuse b.reuse → KeepsOn a.reuse b.reuse
+      → StaysLikeRun l.setting a.reuse b.reuse
       → KeepsAll l.setting (nested_but l.setting (at_level l) (known_by lo l.below) done) b.reuse
       → IsReady l.setting l.past.values b → CountedRun l.setting (at_level l) lo a b
-  ran_whole lo a b done list run trace ran stands only keeps ready = record {
+  ran_whole lo a b done list run trace ran stands more only keeps ready = record {
     list = list;
     enters = let E : Trace → Type 0 = λ es. Enters l.setting (records_of a.reuse) list (nested_but l.setting (at_level l) (known_by lo l.below) es) (records_of b.reuse) in
         subst E (sym trace) run.enters;
     ran = ran;
     stands = stands;
+    more = more;
     only = only;
     keeps = let K : Trace → Type 0 = λ es. KeepsAll l.setting (nested_but l.setting (at_level l) (known_by lo l.below) es) b.reuse in
         subst K (sym trace) keeps;
@@ -213,12 +218,14 @@ module _ (l : Level) where
 
 pub running_begun : (l : Level) (lo : Lost) (p : Progress) (gift : Option (Gift NodeRef)) (a : Hand) (reuse : Reuse)
     → p ≡ started l.call l.below → gift ≡ None → IsIn (at_level l) (instantiations l.setting) → IsReady l.setting l.past.values a
-    → reuse.last ≡ a.reuse.last → reuse.kept ≡ a.reuse.kept → reuse.steps.ran ≡ min (a.reuse.steps.ran + 1) most_counted
+    → reuse.last ≡ a.reuse.last → reuse.kept ≡ a.reuse.kept → reuse.next ≡ a.reuse.next → reuse.steps.ran ≡ min (a.reuse.steps.ran + 1) most_counted
     → Running l lo p.left (received p.waits p.going p.supplies gift) a (record { reuse = reuse; entries = a.entries })
-running_begun l lo p gift a reuse begun none h ready last kept counted =
+running_begun l lo p gift a reuse begun none h ready last kept next counted =
     let b : Hand = record { reuse = reuse; entries = a.entries } in
-    let same = records_same a.reuse reuse last (ap (λ (x : Pool). x.records.items) kept) in
-    let on = stand_same a.reuse reuse last (ap (λ (x : Pool). x.records.items) kept) in
+    let same = records_same a.reuse reuse last (ap (λ (x : Index). x.records.items) kept) in
+    let on = stand_same a.reuse reuse last (ap (λ (x : Index). x.records.items) kept) in
+    let still = ap (λ (x : Pool). values_of x.records.items) next in
+    let more = keeps_same a.reuse reuse still in
     let i = at_level l in
     let I : List (Kept NodeRef) → Type 0 = λ ks. IsRun l.setting i (known_by lo l.below) [] (records_of a.reuse) [] ks in
     let plan = plan_of same_ref l.call in
@@ -230,9 +237,10 @@ running_begun l lo p gift a reuse begun none h ready last kept counted =
       known = λ name depth place y e. absurd (cc);
       ran = λ low. counted;
       stands = on;
-      only = λ m. likes_same l.setting a.reuse reuse (ap (λ (x : Pool). x.records.items) kept) m;
+      more = more;
+      only = λ m. likes_same l.setting a.reuse reuse still m;
       keeps = keeps_none l.setting reuse;
-      ready = ready_on l.setting l.past.values a.entries a.reuse reuse on ready;
+      ready = ready_on l.setting l.past.values a reuse more (within_same a.reuse reuse same still ready.within) ready;
     } in
     let P : Progress → Type 0 = λ x. Running l lo x.left (received x.waits x.going x.supplies gift) a b in
     let G : Option (Gift NodeRef) → Type 0 = λ y. Running l lo plan (received ForNothing at_start (supplies_for l.call) y) a b in
@@ -275,13 +283,14 @@ module _ (l : Level) (lo : Lost) (a b c : Hand) (q : Progress) (k : Call NodeRef
     ran = more_counted a b c (suc (length x.list)) (length inside.list) (suc (length (x.list ++ inside.list)))
         (let m = length-append x.list inside.list in omega (arith, m)) x.ran inside.ran;
     stands = λ at r m. inside.stands at r (x.stands at r m);
+    more = λ j m. inside.more j (x.more j m);
     only = λ m. inside.only (x.only m);
     keeps = keeps_of l.setting
         (nested_but l.setting (at_level l) (known_by lo l.below) q.going.trace ++ entered l.setting l.below l.past d (settled l.call k))
         (nested_but l.setting (at_level l) (known_by lo l.below) (q.going.trace ++ Entered k d ∷ [])) c.reuse
         (sym (nested_but_entered l.setting (at_level l) (known_by lo l.below) q.going.trace k d))
         (keeps_both l.setting (nested_but l.setting (at_level l) (known_by lo l.below) q.going.trace) (entered l.setting l.below l.past d (settled l.call k))
-        b.reuse c.reuse inside.stands come_to.1 inside.keeps);
+        b.reuse c.reuse inside.more come_to.1 inside.keeps);
     ready = inside.ready;
   }
 
@@ -292,13 +301,13 @@ module _ (l : Level) (lo : Lost) (a b c : Hand) (q : Progress) (k : Call NodeRef
     where
       later : AtHandFound l (kept_by c.reuse) s
       later name depth place y e =
-          all_found_on l.setting (for_reference l.setting (entered l.setting l.below) l.past name depth place) b.reuse c.reuse inside.stands
+          all_found_on l.setting (for_reference l.setting (entered l.setting l.below) l.past name depth place) b.reuse c.reuse inside.more
           (x.known name depth place y e)
   entered_as t (Gave v) is = entered_to (Goes (given t (opened k d q.going)) s) (q.left, given t (opened k d q.going), stays, refl) later
     where
       later : AtHandFound l (kept_by c.reuse) s
       later name depth place y e =
-          all_found_on l.setting (for_reference l.setting (entered l.setting l.below) l.past name depth place) b.reuse c.reuse inside.stands
+          all_found_on l.setting (for_reference l.setting (entered l.setting l.below) l.past name depth place) b.reuse c.reuse inside.more
           (x.known name depth place y e)
   entered_as t (Halted why) is = entered_to (Halts why (given t (opened k d q.going)))
       (trace_so ∙ ap (λ es. (q.going.trace ++ Entered k d ∷ []) ++ es) (grown.2 why is) ∙ append-nil (q.going.trace ++ Entered k d ∷ [])) tt
@@ -428,6 +437,7 @@ module _ (l : Level) (lo : Lost) (a b c : Hand) (q : Progress) (n : Expanded) (d
     ran = more_counted a b c (suc (length x.list)) (length gone.list) (suc (length (x.list ++ gone.list)))
         (let m = length-append x.list gone.list in omega (arith, m)) x.ran gone.ran;
     stands = λ at r m. gone.stands at r (x.stands at r m);
+    more = λ j m. gone.more j (x.more j m);
     only = λ m. gone.only (x.only m);
     keeps = keeps_of l.setting
         (nested_but l.setting (at_level l) (known_by lo l.below) last.trace
@@ -436,7 +446,7 @@ module _ (l : Level) (lo : Lost) (a b c : Hand) (q : Progress) (n : Expanded) (d
         (sym (nested_but_referred l.setting (at_level l) (known_by lo l.below) last.trace n d place (supply_of l (Global n) d place)))
         (keeps_both l.setting (nested_but l.setting (at_level l) (known_by lo l.below) last.trace)
         (unless_known (known_by lo l.below) (for_reference l.setting (entered l.setting l.below) l.past) n d place)
-        b.reuse c.reuse gone.stands came_so.1 gone.keeps);
+        b.reuse c.reuse gone.more came_so.1 gone.keeps);
     ready = gone.ready;
   }
 
@@ -456,7 +466,7 @@ module _ (l : Level) (lo : Lost) (a b c : Hand) (q : Progress) (n : Expanded) (d
       let got : at_hand (supplied_with n d v s) d (Global n) ≡ Some (Valued v) = found_last n d v s.globals missing in
       let forward = passes_given (Valued v) more to_use got in
       let kept : AtHandFound l (kept_by c.reuse) s = λ name depth there y e.
-      all_found_on l.setting (for_reference l.setting (entered l.setting l.below) l.past name depth there) b.reuse c.reuse gone.stands
+      all_found_on l.setting (for_reference l.setting (entered l.setting l.below) l.past name depth there) b.reuse c.reuse gone.more
       (x.known name depth there y e) in
       let K : Bool → Type 0 = λ t. KeepsAll l.setting (cond t [] (for_reference l.setting (entered l.setting l.below) l.past n d place)) c.reuse in
       let keeps = subst K other gone.keeps in
@@ -572,7 +582,7 @@ module _ (l : Level) (lo : Lost) (a b : Hand) (left : Plan NodeRef) (g last : Go
   comes_to_end =
       let trace = ap (λ (o : Owned NodeRef). o.going.trace) (sym all ∙ own_passes l.setting.ask (supply_of l) (nested_of l) l.below agrees passes ∙ own_ends l e last) in
       let reached = reach l lo a b left (ends e) g last s x agrees all passes (stuck_end (at_hand s) e) in
-      ran_whole l lo a b last.trace x.list reached.0 trace x.ran x.stands x.only reached.1 x.ready
+      ran_whole l lo a b last.trace x.list reached.0 trace x.ran x.stands x.more x.only reached.1 x.ready
 
 pub running_done : (l : Level) (lo : Lost) (a b : Hand) (p q : Progress) (gift : Option (Gift NodeRef)) (ss : List Stream) (ran : Ran)
     → Stands l p gift ss → Advances l.setting.ask gift p q (Ok (Done ran)) → Running l lo p.left (received p.waits p.going p.supplies gift) a b
@@ -591,7 +601,7 @@ running_failed l lo a b p q gift ss fault o h adv refused x = by_fault fault adv
   where
     go : (why : CodeRefused) (t : Rc Items Allocator) (st : Start NodeRef) → StandsSo l p.left ss st
         → AdvancesSo l.setting.ask p st q (Err (faults.Refused why t)) → Running l lo p.left st a b → CountedRun l.setting (at_level l) lo a b
-    go why t (Halts w g) so to y = ran_whole l lo a b y.done y.list y.run y.reached y.ran y.stands y.only y.keeps y.ready
+    go why t (Halts w g) so to y = ran_whole l lo a b y.done y.list y.run y.reached y.ran y.stands y.more y.only y.keeps y.ready
     go why t (Goes g s) so to y = comes_to_end l lo a b p.left g to.last s (Halted (refused_of why)) y so.1 so.0 (in_room h.room to.passes)
 
     by_fault : (f : RunFault) → AdvancesSo l.setting.ask p (received p.waits p.going p.supplies gift) q (Err f) → IsRefusedSo f o

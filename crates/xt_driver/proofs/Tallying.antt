@@ -20,10 +20,12 @@ use Rattle.spec_reuse.specs.Ledger.{nested_in, nested_but, AllFound, AreOfRun, E
 use Rattle.spec_reuse.proofs.Again.{agrees_self, serves}
 use Rattle.spec_reuse.proofs.Counting.{served_asks, one_after_another, some_gone_over, front_then_all, front_then_front, nothing_entered}
 use Rattle.spec_reuse.proofs.Counting.{call_counted, record_kept, nested_some}
-use Rattle.spec_reuse.proofs.Within.{in_right, nested_of_run}
+use Rattle.spec_reuse.proofs.Within.{in_left, in_right, nested_of_run}
 use Rattle.spec_node.specs.declared.node_ref.NodeRef.{NodeRef}
 use Rattle.xt_engine.specs.declared.event.Ran.{Ran}
-use Rattle.xt_record.specs.Search.{StandOn}
+use Rattle.xt_record.specs.Grown.{values_of}
+use Rattle.xt_record.specs.Search.{next_of, StandOn}
+use Rattle.xt_record.specs.View.{kept_in}
 use Rattle.xt_record.specs.declared.record.Record.{Record}
 use Rattle.xt_record.specs.declared.reuse.Reuse.{Reuse}
 use Rattle.xt_record.proofs.Standing.{stand_on}
@@ -33,9 +35,10 @@ use Rattle.xt_driver.specs.declared.drive.Served.TheVariants as served
 use Rattle.xt_driver.specs.Lost.{is_lost}
 use Rattle.xt_driver.specs.Remembered.{Entry}
 use Rattle.xt_driver.specs.Counted.{Hand, kept_at, kept_by, records_of, KeepsAll, IsMadeToo, IsMadeOf, IsRecorded, AreRecorded, IsReady, IsCounted, Counted}
-use Rattle.xt_driver.specs.Counted.{CountedFront, CountsFor, CountsOver, StaysLikeRun}
+use Rattle.xt_driver.specs.Counted.{CountedFront, CountsFor, CountsOver, IsWithin, KeepsNext, KeepsOn, KeepsSame, KeepsToo, StaysLikeRun}
 use Rattle.xt_driver.specs.Counted.{known_by, CountsServed, CountedRun}
-use Rattle.xt_driver.proofs.Completing.{kept_still, kept_more, found_at_hand, keeps_both, keeps_found, keeps_on, keeps_one, likes_same, likes_more, likes_one}
+use Rattle.xt_driver.proofs.Completing.{kept_more, keeps_same, keeps_more, within_same, within_more, found_at_hand}
+use Rattle.xt_driver.proofs.Completing.{keeps_both, keeps_found, keeps_on, keeps_one, likes_same, likes_more, likes_one}
 
 -- ---- What is remembered
 
@@ -63,10 +66,13 @@ pub recorded_both : (s : Setting NodeRef) (values : List (Bound NodeRef)) (recor
 recorded_both s values records [] others h k = k
 recorded_both s values records (e ∷ es) others h k = (h.0, recorded_both s values records es others h.1 k)
 
--- where what this run kept stands as it did
-pub ready_on : (s : Setting NodeRef) (values : List (Bound NodeRef)) (es : List (Entry NodeRef)) (before after : Reuse) → StandOn before after
-    → AreRecorded s values (kept_by before) es → AreRecorded s values (kept_by after) es
-ready_on s values es before after on h = recorded_later s values (kept_by before) (kept_by after) es (kept_still before after on) h
+-- where what was kept stays kept, and is at hand
+pub ready_on : (s : Setting NodeRef) (values : List (Bound NodeRef)) (b : Hand) (after : Reuse) → KeepsOn b.reuse after → IsWithin after
+    → IsReady s values b → IsReady s values (record { reuse = after; entries = b.entries })
+ready_on s values b after on within h = record {
+  recorded = recorded_later s values (kept_by b.reuse) (kept_by after) b.entries on h.recorded;
+  within = within;
+}
 
 -- ---- The records
 
@@ -95,7 +101,7 @@ more_counted a b c m n l e f g = λ low.
     let second = g (omega (arith, first)) in
     omega (arith, first, second, e)
 
-none_counted : (a b : Hand) → b.reuse.steps.ran ≡ a.reuse.steps.ran → IsCounted 0 a b
+pub none_counted : (a b : Hand) → b.reuse.steps.ran ≡ a.reuse.steps.ran → IsCounted 0 a b
 none_counted a b e = λ low. omega (arith, e, low)
 
 -- ---- One part after another
@@ -107,8 +113,9 @@ counted_then s values is js a b c of_run x y = record {
   enters = one_after_another s (records_of a.reuse) (records_of b.reuse) (records_of c.reuse) x.list y.list is js of_run x.enters y.enters;
   ran = more_counted a b c (length x.list) (length y.list) (length (x.list ++ y.list)) (length-append x.list y.list) x.ran y.ran;
   stands = λ at r h. y.stands at r (x.stands at r h);
+  more = λ k h. y.more k (x.more k h);
   only = λ h. y.only (x.only h);
-  keeps = keeps_both s is js b.reuse c.reuse y.stands x.keeps y.keeps;
+  keeps = keeps_both s is js b.reuse c.reuse y.more x.keeps y.keeps;
   ready = y.ready;
 }
 
@@ -119,6 +126,7 @@ front_then s values is a b c of_run x y = record {
   enters = front_then_all s (records_of a.reuse) (records_of b.reuse) (records_of c.reuse) x.list y.list is of_run x.enters y.enters;
   ran = more_counted a b c (length x.list) (length y.list) (length (x.list ++ y.list)) (length-append x.list y.list) x.ran y.ran;
   stands = λ at r h. y.stands at r (x.stands at r h);
+  more = λ k h. y.more k (x.more k h);
   only = λ h. y.only (x.only h);
   keeps = y.keeps;
   ready = y.ready;
@@ -131,19 +139,21 @@ fronts s values is a b c of_run x y = record {
   enters = front_then_front s (records_of a.reuse) (records_of b.reuse) (records_of c.reuse) x.list y.list is of_run x.enters y.enters;
   ran = more_counted a b c (length x.list) (length y.list) (length (x.list ++ y.list)) (length-append x.list y.list) x.ran y.ran;
   stands = λ at r h. y.stands at r (x.stands at r h);
+  more = λ k h. y.more k (x.more k h);
   only = λ h. y.only (x.only h);
   ready = y.ready;
 }
 
--- nothing more, where this run kept records of all
+-- nothing more, where records of all are kept for the next run
 pub counted_none : (s : Setting NodeRef) (values : List (Bound NodeRef)) (is : List (Instantiation NodeRef)) (reuse : Reuse)
-    (old new : List (Entry NodeRef)) → AllFound s (kept_by reuse) is → AreRecorded s values (kept_by reuse) new
+    (old new : List (Entry NodeRef)) → AllFound s (kept_by reuse) is → IsReady s values (record { reuse = reuse; entries = new })
     → Counted s values is (record { reuse = reuse; entries = old }) (record { reuse = reuse; entries = new })
 counted_none s values is reuse old new found ready = record {
   list = [];
-  enters = nothing_entered s (records_of reuse) is (found_at_hand s reuse is found);
+  enters = nothing_entered s (records_of reuse) is (found_at_hand s reuse is ready.within found);
   ran = none_counted (record { reuse = reuse; entries = old }) (record { reuse = reuse; entries = new }) refl;
   stands = λ at r h. h;
+  more = λ k h. h;
   only = λ h. h;
   keeps = keeps_found s is reuse found;
   ready = ready;
@@ -163,65 +173,104 @@ front_none s values is a ready = record {
   };
   ran = none_counted a a refl;
   stands = λ at r h. h;
+  more = λ k h. h;
   only = λ h. h;
   ready = ready;
 }
 
 -- ---- A record is kept that was at hand
 
+-- what is kept then is at hand where what was kept is
+within_one : (before after : Reuse) (r : Rc Record Allocator) → ((k : Kept NodeRef) → IsIn k (records_of before) → IsIn k (records_of after))
+    → IsIn (kept_at r) (records_of before) → next_of after ≡ next_of before ++ r.value ∷ [] → IsWithin before → IsWithin after
+within_one before after r on at_hand next within = within_more before after (r.value ∷ []) on new next within
+  where
+    new : (k : Kept NodeRef) → IsIn k (kept_at r ∷ []) → IsIn k (records_of after)
+    new k (inl same) = let P : Kept NodeRef → Type 0 = λ x. IsIn x (records_of after) in subst P (sym same) (on (kept_at r) at_hand)
+    new k (inr none) = absurd none
+
 pub kept_on : (s : Setting NodeRef) (values : List (Bound NodeRef)) (is : List (Instantiation NodeRef)) (a b : Hand) (after : Reuse)
     (r : Rc Record Allocator) → Counted s values is a b → IsIn (kept_at r) (records_of b.reuse) → HasLike (instantiations s) (kept_at r).call
-    → after.last ≡ b.reuse.last
-    → after.kept.records.items ≡ b.reuse.kept.records.items ++ r ∷ [] → after.steps ≡ b.reuse.steps
+    → after.last ≡ b.reuse.last → KeepsToo b.reuse after r → after.steps ≡ b.reuse.steps
     → Counted s values is a (record { reuse = after; entries = b.entries })
-kept_on s values is a b after r x at_hand like last kept steps =
-    let same = records_more b.reuse after (r ∷ []) last kept in
+kept_on s values is a b after r x at_hand like last too steps =
+    let same = records_more b.reuse after (r ∷ []) last too.kept in
     let E : List (Kept NodeRef) → Type 0 = λ ks. Enters s (records_of a.reuse) x.list is ks in
-    let on = stand_on b.reuse after (r ∷ []) last kept in
+    let on = stand_on b.reuse after (r ∷ []) last too.kept in
+    let more = keeps_more b.reuse after (r.value ∷ []) too.next in
+    let P : Kept NodeRef → List (Kept NodeRef) → Type 0 = λ k ks. IsIn k ks in
+    let still : (k : Kept NodeRef) → IsIn k (records_of b.reuse) → IsIn k (records_of after)
+    = λ k m. subst (P k) (sym same) (in_left k (records_of b.reuse) (kept_at r ∷ []) m) in
     record {
       list = x.list;
       enters = subst E (sym same) (record_kept s (records_of a.reuse) (records_of b.reuse) x.list is (kept_at r) x.enters at_hand);
       ran = λ low. let l = x.ran low in ap (λ t. t.ran) steps ∙ l;
       stands = λ at y h. on at y (x.stands at y h);
-      only = λ h. likes_one s b.reuse after r kept like (x.only h);
-      keeps = keeps_on s is b.reuse after on x.keeps;
-      ready = ready_on s values b.entries b.reuse after on x.ready;
+      more = λ k h. more k (x.more k h);
+      only = λ h. likes_one s b.reuse after r.value too.next like (x.only h);
+      keeps = keeps_on s is b.reuse after more x.keeps;
+      ready = ready_on s values b after more (within_one b.reuse after r still at_hand too.next x.ready.within) x.ready;
+    }
+
+-- for the next run alone
+pub next_on : (s : Setting NodeRef) (values : List (Bound NodeRef)) (is : List (Instantiation NodeRef)) (a b : Hand) (after : Reuse)
+    (r : Rc Record Allocator) → Counted s values is a b → IsIn (kept_at r) (records_of b.reuse) → HasLike (instantiations s) (kept_at r).call
+    → after.last ≡ b.reuse.last → KeepsNext b.reuse after r → after.steps ≡ b.reuse.steps
+    → Counted s values is a (record { reuse = after; entries = b.entries })
+next_on s values is a b after r x at_hand like last too steps =
+    let same = records_same b.reuse after last too.kept in
+    let E : List (Kept NodeRef) → Type 0 = λ ks. Enters s (records_of a.reuse) x.list is ks in
+    let on = stand_same b.reuse after last too.kept in
+    let more = keeps_more b.reuse after (r.value ∷ []) too.next in
+    let P : Kept NodeRef → List (Kept NodeRef) → Type 0 = λ k ks. IsIn k ks in
+    let still : (k : Kept NodeRef) → IsIn k (records_of b.reuse) → IsIn k (records_of after) = λ k m. subst (P k) (sym same) m in
+    record {
+      list = x.list;
+      enters = subst E (sym same) x.enters;
+      ran = λ low. let l = x.ran low in ap (λ t. t.ran) steps ∙ l;
+      stands = λ at y h. on at y (x.stands at y h);
+      more = λ k h. more k (x.more k h);
+      only = λ h. likes_one s b.reuse after r.value too.next like (x.only h);
+      keeps = keeps_on s is b.reuse after more x.keeps;
+      ready = ready_on s values b after more (within_one b.reuse after r still at_hand too.next x.ready.within) x.ready;
     }
 
 -- where nothing is kept, and records may be judged
 pub same_on : (s : Setting NodeRef) (values : List (Bound NodeRef)) (is : List (Instantiation NodeRef)) (a b : Hand) (after : Reuse)
-    → Counted s values is a b → after.last ≡ b.reuse.last
-    → after.kept.records.items ≡ b.reuse.kept.records.items → after.steps.ran ≡ b.reuse.steps.ran
+    → Counted s values is a b → after.last ≡ b.reuse.last → KeepsSame b.reuse after → after.steps.ran ≡ b.reuse.steps.ran
     → Counted s values is a (record { reuse = after; entries = b.entries })
-same_on s values is a b after x last kept steps =
-    let same = records_same b.reuse after last kept in
+same_on s values is a b after x last none steps =
+    let same = records_same b.reuse after last none.kept in
     let E : List (Kept NodeRef) → Type 0 = λ ks. Enters s (records_of a.reuse) x.list is ks in
-    let on = stand_same b.reuse after last kept in
+    let on = stand_same b.reuse after last none.kept in
+    let more = keeps_same b.reuse after none.next in
     record {
       list = x.list;
       enters = subst E (sym same) x.enters;
       ran = λ low. steps ∙ x.ran low;
       stands = λ at y h. on at y (x.stands at y h);
-      only = λ h. likes_same s b.reuse after kept (x.only h);
-      keeps = keeps_on s is b.reuse after on x.keeps;
-      ready = ready_on s values b.entries b.reuse after on x.ready;
+      more = λ k h. more k (x.more k h);
+      only = λ h. likes_same s b.reuse after none.next (x.only h);
+      keeps = keeps_on s is b.reuse after more x.keeps;
+      ready = ready_on s values b after more (within_same b.reuse after same none.next x.ready.within) x.ready;
     }
 
 pub front_on : (s : Setting NodeRef) (values : List (Bound NodeRef)) (is : List (Instantiation NodeRef)) (a b : Hand) (after : Reuse)
-    → CountedFront s values is a b → after.last ≡ b.reuse.last
-    → after.kept.records.items ≡ b.reuse.kept.records.items → after.steps.ran ≡ b.reuse.steps.ran
+    → CountedFront s values is a b → after.last ≡ b.reuse.last → KeepsSame b.reuse after → after.steps.ran ≡ b.reuse.steps.ran
     → CountedFront s values is a (record { reuse = after; entries = b.entries })
-front_on s values is a b after x last kept steps =
-    let same = records_same b.reuse after last kept in
+front_on s values is a b after x last none steps =
+    let same = records_same b.reuse after last none.kept in
     let E : List (Kept NodeRef) → Type 0 = λ ks. EntersFront s (records_of a.reuse) x.list is ks in
-    let on = stand_same b.reuse after last kept in
+    let on = stand_same b.reuse after last none.kept in
+    let more = keeps_same b.reuse after none.next in
     record {
       list = x.list;
       enters = subst E (sym same) x.enters;
       ran = λ low. steps ∙ x.ran low;
       stands = λ at y h. on at y (x.stands at y h);
-      only = λ h. likes_same s b.reuse after kept (x.only h);
-      ready = ready_on s values b.entries b.reuse after on x.ready;
+      more = λ k h. more k (x.more k h);
+      only = λ h. likes_same s b.reuse after none.next (x.only h);
+      ready = ready_on s values b after more (within_same b.reuse after same none.next x.ready.within) x.ready;
     }
 
 -- ---- A call that is run
@@ -231,7 +280,7 @@ run_whole : (s : Setting NodeRef) (i : Instantiation NodeRef) (l : Lost) (a b c 
     → CountsServed (served.Not l) s i a b → CountedRun s i l b c
     → (list : List (Instantiation NodeRef)) × Enters s (records_of a.reuse) list (nested_in s i) (records_of c.reuse)
     × IsCounted (suc (length list)) a c × StandOn a.reuse c.reuse × (¬ (IsFound s (records_of a.reuse) i)) × KeepsAll s (nested_in s i) c.reuse
-    × StaysLikeRun s a.reuse c.reuse
+    × StaysLikeRun s a.reuse c.reuse × KeepsOn a.reuse c.reuse
 run_whole s i lost.Nothing a b c h x y =
     let first = x.0.list in (
       first ++ y.list,
@@ -243,6 +292,7 @@ run_whole s i lost.Nothing a b c h x y =
       x.1,
       y.keeps,
       λ m. y.only (x.0.only m),
+      λ k m. y.more k (x.0.more k m),
     )
 run_whole s i (lost.Reference l) a b c h x y =
     let first = x.counted.list in (
@@ -254,9 +304,15 @@ run_whole s i (lost.Reference l) a b c h x y =
           (let m = length-append first y.list in omega (arith, m)) x.counted.ran y.ran,
       λ at r k. y.stands at r (x.counted.stands at r k),
       λ k. x.none k.0 k.2,
-      keeps_on s (nested_in s i) b.reuse c.reuse y.stands x.counted.keeps,
+      keeps_on s (nested_in s i) b.reuse c.reuse y.more x.counted.keeps,
       λ m. y.only (x.counted.only m),
+      λ k m. y.more k (x.counted.more k m),
     )
+
+-- the records of handles
+pub kept_values : (rs : List (Rc Record Allocator)) → map kept_in (values_of rs) ≡ map kept_at rs
+kept_values [] = refl
+kept_values (r ∷ rs) = ap (λ ks. kept_at r ∷ ks) (kept_values rs)
 
 -- what was made of it serves it
 made_serves : (s : Setting NodeRef) (i : Instantiation NodeRef) (k : Kept NodeRef) → k ≡ kept_of s i → GoesOn (own_of s i).ending
@@ -270,27 +326,35 @@ made_serves s i k same on =
 
 pub run_counted : (s : Setting NodeRef) (i : Instantiation NodeRef) (l : Lost) (a b c : Hand) (after : Reuse) (ran : Option (Box Ran Allocator))
     → IsIn i (instantiations s) → CountsServed (served.Not l) s i a b → CountedRun s i l b c → IsMadeOf s i ran
-    → IsMadeToo c.reuse.kept.records.items after.kept.records.items i.call ran → after.last ≡ c.reuse.last → after.steps ≡ c.reuse.steps
+    → IsMadeToo c.reuse after i.call ran → after.last ≡ c.reuse.last → after.steps ≡ c.reuse.steps
     → Counted s i.past.values (nested_in s i ++ i ∷ []) a (record { reuse = after; entries = c.entries })
 run_counted s i l a b c after ran h x y of made last steps = go ran of made
   where
     went : (list : List (Instantiation NodeRef)) × Enters s (records_of a.reuse) list (nested_in s i) (records_of c.reuse)
         × IsCounted (suc (length list)) a c × StandOn a.reuse c.reuse × (¬ (IsFound s (records_of a.reuse) i)) × KeepsAll s (nested_in s i) c.reuse
-        × StaysLikeRun s a.reuse c.reuse
+        × StaysLikeRun s a.reuse c.reuse × KeepsOn a.reuse c.reuse
     went = run_whole s i l a b c h x y
 
     by : (more : List (Rc Record Allocator)) → after.kept.records.items ≡ c.reuse.kept.records.items ++ more
-        → (GoesOn (own_of s i).ending → IsFound s (map kept_at more) i)
+        → next_of after ≡ next_of c.reuse ++ values_of more → (GoesOn (own_of s i).ending → IsFound s (map kept_at more) i)
         → ((k : Kept NodeRef) → IsIn k (map kept_at more) → (k.call.target ≡ i.call.target) × (k.call.node ≡ i.call.node))
         → Counted s i.past.values (nested_in s i ++ i ∷ []) a (record { reuse = after; entries = c.entries })
-    by more kept found like =
+    by more kept next found like =
         let same = records_more c.reuse after more last kept in
         let E : List (Kept NodeRef) → Type 0 = λ ks. Enters s (records_of a.reuse) (went.0 ++ i ∷ []) (nested_in s i ++ i ∷ []) ks in
         let F : List (Kept NodeRef) → Type 0 = λ ks. IsFound s ks i in
+        let P : Kept NodeRef → List (Kept NodeRef) → Type 0 = λ k ks. IsIn k ks in
         let on = stand_on c.reuse after more last kept in
+        let here = keeps_more c.reuse after (values_of more) next in
+        let still : (k : Kept NodeRef) → IsIn k (records_of c.reuse) → IsIn k (records_of after)
+        = λ k m. subst (P k) (sym same) (in_left k (records_of c.reuse) (map kept_at more) m) in
+        let new : (k : Kept NodeRef) → IsIn k (map kept_in (values_of more)) → IsIn k (records_of after)
+        = λ k m. subst (P k) (sym same) (in_right k (records_of c.reuse) (map kept_at more) (subst (P k) (kept_values more) m)) in
+        let within = within_more c.reuse after (values_of more) still new next y.ready.within in
         let one = keeps_one s i after (λ ends.
-        let m = found ends in
-        subst F (sym (kept_more c.reuse after more kept)) (m.0, in_right m.0 (kept_by c.reuse) (map kept_at more) m.1, m.2, m.3)) in
+        let m = subst F (sym (kept_values more)) (found ends) in
+        subst F (sym (kept_more c.reuse after (values_of more) next))
+        (m.0, in_right m.0 (kept_by c.reuse) (map kept_in (values_of more)) m.1, m.2, m.3)) in
         record {
           list = went.0 ++ i ∷ [];
           enters = subst E (sym same) (call_counted s (records_of a.reuse) (records_of c.reuse) (map kept_at more) went.0 i went.1 went.4 found like);
@@ -300,19 +364,22 @@ run_counted s i l a b c after ran h x y of made last steps = go ran of made
               let e = ap (λ t. t.ran) steps in
               omega (arith, n, m, e);
           stands = λ at r k. on at r (went.3 at r k);
-          only = λ k. likes_more s c.reuse after more kept (λ y m.
-              let same = like y m in
+          more = λ k m. here k (went.7 k m);
+          only = λ k. likes_more s c.reuse after (values_of more) next (λ y m.
+              let same = like y (subst (P y) (kept_values more) m) in
               (i, h, sym same.0, sym same.1)) (went.6 k);
-          keeps = keeps_both s (nested_in s i) (i ∷ []) c.reuse after on went.5 one;
-          ready = ready_on s i.past.values c.entries c.reuse after on y.ready;
+          keeps = keeps_both s (nested_in s i) (i ∷ []) c.reuse after here went.5 one;
+          ready = ready_on s i.past.values c after here within y.ready;
         }
 
-    go : (o : Option (Box Ran Allocator)) → IsMadeOf s i o → IsMadeToo c.reuse.kept.records.items after.kept.records.items i.call o
+    go : (o : Option (Box Ran Allocator)) → IsMadeOf s i o → IsMadeToo c.reuse after i.call o
         → Counted s i.past.values (nested_in s i ++ i ∷ []) a (record { reuse = after; entries = c.entries })
-    go None never same = by [] (same ∙ sym (append-nil c.reuse.kept.records.items)) (λ on. absurd (never on)) (λ k m. absurd m)
+    go None never same =
+        by [] (same.kept ∙ sym (append-nil c.reuse.kept.records.items)) (same.next ∙ sym (append-nil (next_of c.reuse))) (λ on. absurd (never on))
+        (λ k m. absurd m)
     go (Some r) is new =
         let same : kept_at new.0 ≡ kept_of s i = new.2 ∙ is in
-        by (new.0 ∷ []) new.1 (λ on. made_serves s i (kept_at new.0) same on) (λ k m. like k m same)
+        by (new.0 ∷ []) new.1.kept new.1.next (λ on. made_serves s i (kept_at new.0) same on) (λ k m. like k m same)
       where
         like : (k : Kept NodeRef) → IsIn k (kept_at new.0 ∷ []) → kept_at new.0 ≡ kept_of s i
             → (k.call.target ≡ i.call.target) × (k.call.node ≡ i.call.node)

@@ -125,6 +125,7 @@ along_begun s i k ss a h f asks none ready = record {
   asks = asks;
   ran = λ low. omega (arith, low);
   stands = λ at r m. m;
+  more = λ l m. m;
   only = λ m. m;
   keeps = keeps_none s a.reuse;
   ready = ready;
@@ -156,6 +157,7 @@ tells_held s i k done rest ss a b (Asked question answer) n x = record {
   asks = x.asks.1;
   ran = x.ran;
   stands = x.stands;
+  more = x.more;
   only = x.only;
   keeps = keeps_still s i done (Asked question answer) b.reuse refl x.keeps;
   ready = x.ready;
@@ -167,6 +169,7 @@ tells_held s i k done rest ss a b (Saw Position d p v) n x = record {
   asks = x.asks;
   ran = x.ran;
   stands = x.stands;
+  more = x.more;
   only = x.only;
   keeps = keeps_still s i done (Saw Position d p v) b.reuse refl x.keeps;
   ready = x.ready;
@@ -178,6 +181,7 @@ tells_held s i k done rest ss a b (Saw Size d p v) n x = record {
   asks = x.asks;
   ran = x.ran;
   stands = x.stands;
+  more = x.more;
   only = x.only;
   keeps = keeps_still s i done (Saw Size d p v) b.reuse refl x.keeps;
   ready = x.ready;
@@ -189,6 +193,7 @@ tells_held s i k done rest ss a b (Saw Rule d p v) n x = record {
   asks = x.asks;
   ran = x.ran;
   stands = x.stands;
+  more = x.more;
   only = x.only;
   keeps = keeps_still s i done (Saw Rule d p v) b.reuse refl x.keeps;
   ready = x.ready;
@@ -202,6 +207,7 @@ tells_held s i k done rest ss a b (Held first contents) n x = record {
   asks = x.asks;
   ran = x.ran;
   stands = x.stands;
+  more = x.more;
   only = x.only;
   keeps = keeps_still s i done (Held first contents) b.reuse refl x.keeps;
   ready = x.ready;
@@ -218,7 +224,7 @@ differs : (s : Setting NodeRef) (i : Instantiation NodeRef) (k : Kept NodeRef) (
     → CountsLost s i k lost.Nothing a b
 differs s i k done rest ss a b e read never x =
     let h = event_differs s i k done rest e (records_of a.reuse) (records_of b.reuse) x.list x.along read never in
-    (record { list = x.list; enters = h.0; ran = x.ran; stands = x.stands; only = x.only; ready = x.ready }, h.1)
+    (record { list = x.list; enters = h.0; ran = x.ran; stands = x.stands; more = x.more; only = x.only; ready = x.ready }, h.1)
 
 tells_other : (s : Setting NodeRef) (i : Instantiation NodeRef) (k : Kept NodeRef) (done rest : List (Event NodeRef)) (ss : List Stream) (a b : Hand)
     (e : Event NodeRef) → IsNext next.Differs i.call i.below ss e → CountedAlong s i k done (e ∷ rest) ss a b
@@ -258,10 +264,11 @@ tells_entered s i k done rest ss us a b c call depth o is on more over x =
       asks = x.asks;
       ran = more_counted a b c (length x.list) (length y.list) (length (x.list ++ y.list)) (length-append x.list y.list) x.ran y.ran;
       stands = λ at r m. y.stands at r (x.stands at r m);
+      more = λ l m. y.more l (x.more l m);
       only = λ m. y.only (x.only m);
       keeps = keeps_of s (nested_along s i done ++ entered s i.below i.past depth (settled i.call call)) (nested_along s i (done ++ Entered call depth ∷ []))
           c.reuse (sym (nested_entered s i done call depth))
-          (keeps_both s (nested_along s i done) (entered s i.below i.past depth (settled i.call call)) b.reuse c.reuse y.stands x.keeps y.keeps);
+          (keeps_both s (nested_along s i done) (entered s i.below i.past depth (settled i.call call)) b.reuse c.reuse y.more x.keeps y.keeps);
       ready = y.ready;
     }
 
@@ -283,10 +290,11 @@ tells_refused s i k done rest ss a b c call depth o is stops over x =
         enters = h.0;
         ran = more_counted a b c (length x.list) (length y.list) (length (x.list ++ y.list)) (length-append x.list y.list) x.ran y.ran;
         stands = λ at r m. y.stands at r (x.stands at r m);
+        more = λ l m. y.more l (x.more l m);
         only = λ m. y.only (x.only m);
         keeps = keeps_of s (nested_along s i done ++ entered s i.below i.past depth (settled i.call call)) (nested_in s i) c.reuse
             (sym (ap (nested_along s i) own ∙ nested_entered s i done call depth))
-            (keeps_both s (nested_along s i done) (entered s i.below i.past depth (settled i.call call)) b.reuse c.reuse y.stands x.keeps y.keeps);
+            (keeps_both s (nested_along s i done) (entered s i.below i.past depth (settled i.call call)) b.reuse c.reuse y.more x.keeps y.keeps);
         ready = y.ready;
       },
       h.1,
@@ -386,7 +394,7 @@ module _ (s : Setting NodeRef) (i : Instantiation NodeRef) (k : Kept NodeRef) (d
 
   both_kept : KeepsAll s (nested_along s i done ++ for_reference s (entered s i.below) i.past name depth place) c.reuse
   both_kept =
-      keeps_both s (nested_along s i done) (for_reference s (entered s i.below) i.past name depth place) b.reuse c.reuse there.stands z.keeps there.keeps
+      keeps_both s (nested_along s i done) (for_reference s (entered s i.below) i.past name depth place) b.reuse c.reuse there.more z.keeps there.keeps
 
   -- it has the value that was seen
   refers_on : given_to s i (Global name) depth place ≡ x → us ≡ ss
@@ -399,6 +407,7 @@ module _ (s : Setting NodeRef) (i : Instantiation NodeRef) (k : Kept NodeRef) (d
     asks = z.asks;
     ran = in_all;
     stands = λ at r m. there.stands at r (z.stands at r m);
+    more = λ l m. there.more l (z.more l m);
     only = λ m. there.only (z.only m);
     keeps = keeps_of s (nested_along s i done ++ for_reference s (entered s i.below) i.past name depth place)
         (nested_along s i (done ++ Saw (Global name) depth place x ∷ [])) c.reuse (sym (nested_referred s i done name depth place x)) both_kept;
@@ -415,6 +424,7 @@ module _ (s : Setting NodeRef) (i : Instantiation NodeRef) (k : Kept NodeRef) (d
           enters = h.0;
           ran = in_all;
           stands = λ at r m. there.stands at r (z.stands at r m);
+          more = λ l m. there.more l (z.more l m);
           only = λ m. there.only (z.only m);
           ready = there.ready;
         },
@@ -442,6 +452,7 @@ module _ (s : Setting NodeRef) (i : Instantiation NodeRef) (k : Kept NodeRef) (d
               (nested_of_run s i z.along.of_run) h.0 front;
           ran = in_all;
           stands = λ at r m. there.stands at r (z.stands at r m);
+          more = λ l m. there.more l (z.more l m);
           only = λ m. there.only (z.only m);
           ready = there.ready;
         },
@@ -465,6 +476,7 @@ module _ (s : Setting NodeRef) (i : Instantiation NodeRef) (k : Kept NodeRef) (d
           enters = h.0;
           ran = in_all;
           stands = λ at r m. there.stands at r (z.stands at r m);
+          more = λ l m. there.more l (z.more l m);
           only = λ m. there.only (z.only m);
           keeps = keeps_of s (nested_along s i done ++ for_reference s (entered s i.below) i.past name depth place) (nested_in s i) c.reuse
               (sym (ap (nested_along s i) own ∙ nested_referred s i done name depth place (given_to s i (Global name) depth place))) both_kept;
@@ -576,6 +588,7 @@ along_whole s i k done rest ss a b none x =
         enters = h.0;
         ran = x.ran;
         stands = x.stands;
+        more = x.more;
         only = x.only;
         keeps = keeps_of s (nested_along s i done) (nested_in s i) b.reuse (sym (ap (nested_along s i) own)) x.keeps;
         ready = x.ready;

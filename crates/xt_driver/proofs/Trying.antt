@@ -18,8 +18,10 @@ use Rattle.spec_reuse.proofs.Counting.{call_served}
 use Rattle.spec_reuse.proofs.Within.{in_left, in_right, nested_of_run}
 use Rattle.spec_node.specs.declared.node_ref.NodeRef.{NodeRef}
 use Rattle.xt_record.specs.Asked.{Judges}
-use Rattle.xt_record.specs.Search.{PassedOver, Stands, InKept, InLast}
+use Rattle.xt_record.specs.Grown.{values_of}
+use Rattle.xt_record.specs.Search.{next_of, PassedOver, Stands, InKept, InLast}
 use Rattle.xt_record.specs.View.{kept_in, AsksHold, MayServe}
+use Rattle.xt_record.specs.declared.index.Index.{Index}
 use Rattle.xt_record.specs.declared.pool.Pool.{Pool}
 use Rattle.xt_record.specs.declared.record.Record.{Record}
 use Rattle.xt_record.specs.declared.reuse.Found.{Found}
@@ -32,9 +34,9 @@ use Rattle.xt_driver.specs.declared.lost.Lost.TheVariants as lost
 use Rattle.xt_driver.specs.declared.lost.LostReference.{LostReference}
 use Rattle.xt_driver.specs.declared.outcome.Outcome.{Outcome as Came}
 use Rattle.xt_driver.specs.Counted.{Hand, kept_at, kept_by, records_of, IsKept, kept_before, kept_now, IsKeptToo, IsUnserved, IsAnswer, IsReady, Counted}
-use Rattle.xt_driver.specs.Counted.{CountedFront, CountedLost, CountsLost, CountsFollowed, CountsServed}
-use Rattle.xt_driver.proofs.Completing.{is_at, in_some, stands_kept, kept_still, kept_more, keeps_both, keeps_one}
-use Rattle.xt_driver.proofs.Tallying.{fronts, front_then, front_none, front_on, same_on, kept_on}
+use Rattle.xt_driver.specs.Counted.{CountedFront, CountedLost, CountsLost, CountsFollowed, CountsServed, KeepsSame}
+use Rattle.xt_driver.proofs.Completing.{is_at, in_some, kept_more, keeps_both, keeps_one}
+use Rattle.xt_driver.proofs.Tallying.{fronts, front_then, front_none, front_on, same_on, kept_on, next_on}
 
 -- ---- Records and their places
 
@@ -115,10 +117,13 @@ split (suc m) (suc n) = go (split m n)
 abbrev judged_hand : Reuse → Hand → Hand
 judged_hand reuse b = record { reuse = reuse; entries = b.entries }
 
+judges_same : (before after : Reuse) → Judges before after → KeepsSame before after
+judges_same before after j = record { kept = ap (λ (x : Index). x.records.items) j.kept; next = ap (λ (p : Pool). values_of p.records.items) j.next }
+
 pub front_judged : (s : Setting NodeRef) (i : Instantiation NodeRef) (a b : Hand) (reuse : Reuse) (from : ℕ) → Judges b.reuse reuse
     → Tried s i a b from → CountedFront s i.past.values (nested_in s i) a (record { reuse = reuse; entries = b.entries })
 front_judged s i a b reuse from j t =
-    front_on s i.past.values (nested_in s i) a b reuse t.counted j.last (ap (λ (p : Pool). p.records.items) j.kept) j.ran
+    front_on s i.past.values (nested_in s i) a b reuse t.counted j.last (judges_same b.reuse reuse j) j.ran
 
 pub tried_next : (s : Setting NodeRef) (i : Instantiation NodeRef) (a b after : Hand) (reuse : Reuse) (from : ℕ) (f : Found)
     → Judges b.reuse reuse → PassedOver s.ask i.call i.below b.reuse from (Some f) → Stands b.reuse f.next f.record.value
@@ -165,12 +170,12 @@ with_served : (s : Setting NodeRef) (i : Instantiation NodeRef) (a b : Hand) (k 
     → IsIn k (kept_by b.reuse) → Serves s i k → ledger.AsksHold s.ask k.trace → Counted s i.past.values (nested_in s i ++ i ∷ []) a b
 with_served s i a b k x there serves asks = record {
   list = x.list;
-  enters = call_served s (records_of a.reuse) (records_of b.reuse) x.list i k x.enters
-      (in_right k (map kept_at b.reuse.last.now.records.items) (kept_by b.reuse) there) serves asks;
+  enters = call_served s (records_of a.reuse) (records_of b.reuse) x.list i k x.enters (x.ready.within k there) serves asks;
   ran = x.ran;
   stands = x.stands;
+  more = x.more;
   only = x.only;
-  keeps = keeps_both s (nested_in s i) (i ∷ []) b.reuse b.reuse (λ at r h. h) x.keeps (keeps_one s i b.reuse (λ ends. (k, there, serves, asks)));
+  keeps = keeps_both s (nested_in s i) (i ∷ []) b.reuse b.reuse (λ k m. m) x.keeps (keeps_one s i b.reuse (λ ends. (k, there, serves, asks)));
   ready = x.ready;
 }
 
@@ -179,8 +184,7 @@ pub tried_served : (s : Setting NodeRef) (i : Instantiation NodeRef) (a b after 
     (o : Box Came Allocator) → Judges b.reuse reuse → Stands b.reuse f.next f.record.value → IsIn i (instantiations s) → Tried s i a b from
     → Counted s i.past.values (nested_in s i) (record { reuse = reuse; entries = b.entries }) after × Serves s i (kept_in f.record.value)
     → AsksHold s.ask (kept_in f.record.value).trace
-    → IsKeptToo (Ok (served.As o)) after.reuse.kept.records.items last.kept.records.items f
-    → last.last ≡ after.reuse.last → last.steps ≡ after.reuse.steps
+    → IsKeptToo (Ok (served.As o)) after.reuse last f → last.last ≡ after.reuse.last → last.steps ≡ after.reuse.steps
     → Counted s i.past.values (nested_in s i ++ i ∷ []) a (record { reuse = last; entries = after.entries })
 tried_served s i a b after reuse last from f o j stands h t x asks kept same steps = go kept
   where
@@ -190,26 +194,29 @@ tried_served s i a b after reuse last from f o j stands h t x asks kept same ste
     there : IsIn (kept_at f.record) (records_of after.reuse)
     there = x.0.enters.stays (kept_at f.record) (stands_in reuse f.next f.record.value (judged_on b.reuse reuse j f.next f.record.value stands))
 
-    go : IsKept after.reuse.kept.records.items last.kept.records.items f
+    with_one : next_of last ≡ next_of after.reuse ++ f.record.value ∷ []
+        → Counted s i.past.values (nested_in s i) a (record { reuse = last; entries = after.entries })
         → Counted s i.past.values (nested_in s i ++ i ∷ []) a (record { reuse = last; entries = after.entries })
-    go (kept_before low e) =
-        let before = stands_kept reuse f.next f.record.value (judged_on b.reuse reuse j f.next f.record.value stands) low in
-        let P : List (Rc Record Allocator) → Type 0 = λ rs. IsIn (kept_at f.record) (map kept_at rs) in
-        with_served s i a (record { reuse = last; entries = after.entries }) (kept_at f.record)
-        (same_on s i.past.values (nested_in s i) a after last all same e (ap (λ y. y.ran) steps))
-        (subst P (sym e) (kept_still reuse after.reuse x.0.stands (kept_at f.record) before)) x.1 (asks_there s.ask (kept_in f.record.value).trace asks)
-    go (kept_now e) =
+    with_one e counted =
         let K : List (Kept NodeRef) → Type 0 = λ ks. IsIn (kept_at f.record) ks in
-        with_served s i a (record { reuse = last; entries = after.entries }) (kept_at f.record)
-        (kept_on s i.past.values (nested_in s i) a after last f.record all there (like_served s i (kept_at f.record) h x.1) same e steps)
-        (subst K (sym (kept_more after.reuse last (f.record ∷ []) e)) (in_right (kept_at f.record) (kept_by after.reuse) (kept_at f.record ∷ []) (inl refl)))
+        with_served s i a (record { reuse = last; entries = after.entries }) (kept_at f.record) counted
+        (subst K (sym (kept_more after.reuse last (f.record.value ∷ []) e))
+        (in_right (kept_at f.record) (kept_by after.reuse) (kept_at f.record ∷ []) (inl refl)))
         x.1 (asks_there s.ask (kept_in f.record.value).trace asks)
+
+    go : IsKept after.reuse last f → Counted s i.past.values (nested_in s i ++ i ∷ []) a (record { reuse = last; entries = after.entries })
+    go (kept_before low e) =
+        with_one e.next
+        (next_on s i.past.values (nested_in s i) a after last f.record all there (like_served s i (kept_at f.record) h x.1) same e steps)
+    go (kept_now e) =
+        with_one e.next
+        (kept_on s i.past.values (nested_in s i) a after last f.record all there (like_served s i (kept_at f.record) h x.1) same e steps)
 
 -- a global was refused
 pub tried_lost : (s : Setting NodeRef) (i : Instantiation NodeRef) (a b after : Hand) (reuse last : Reuse) (from : ℕ) (k : Kept NodeRef)
     (l : Box LostReference Allocator) → Judges b.reuse reuse → IsIn i (instantiations s) → Tried s i a b from
     → CountsLost s i k (lost.Reference l) (record { reuse = reuse; entries = b.entries }) after
-    → last.kept.records.items ≡ after.reuse.kept.records.items → last.last ≡ after.reuse.last → last.steps ≡ after.reuse.steps
+    → KeepsSame after.reuse last → last.last ≡ after.reuse.last → last.steps ≡ after.reuse.steps
     → CountedLost s i (lost.Reference l) a (record { reuse = last; entries = after.entries })
 tried_lost s i a b after reuse last from k l j h t x kept same steps = record {
   counted = same_on s i.past.values (nested_in s i) a after last (front_then s i.past.values (nested_in s i) a (judged_hand reuse b) after
@@ -229,15 +236,14 @@ unserved P (Ok (served.Not lost.Nothing)) is h = h
 unserved P (Ok (served.Not (lost.Reference l))) is h = absurd is
 unserved P (Err m) is h = absurd is
 
-pub kept_none : (r : Result Served Memory) (before after : List (Rc Record Allocator)) (f : Found) → IsUnserved r
-    → IsKeptToo r before after f → after ≡ before
+pub kept_none : (r : Result Served Memory) (before after : Reuse) (f : Found) → IsUnserved r → IsKeptToo r before after f → KeepsSame before after
 kept_none (Ok (served.As o)) before after f is h = absurd is
 kept_none (Ok (served.Not l)) before after f is h = h
 kept_none (Err m) before after f is h = absurd is
 
 -- what is tried further, where nothing is kept
 pub tried_still : (s : Setting NodeRef) (i : Instantiation NodeRef) (a b : Hand) (last : Reuse) (from : ℕ) → Tried s i a b from
-    → last.last ≡ b.reuse.last → last.kept.records.items ≡ b.reuse.kept.records.items → last.steps ≡ b.reuse.steps
+    → last.last ≡ b.reuse.last → KeepsSame b.reuse last → last.steps ≡ b.reuse.steps
     → Tried s i a (record { reuse = last; entries = b.entries }) from
 tried_still s i a b last from t same kept steps = record {
   counted = front_on s i.past.values (nested_in s i) a b last t.counted same kept (ap (λ y. y.ran) steps);
@@ -249,8 +255,7 @@ pub answered : (s : Setting NodeRef) (i : Instantiation NodeRef) (a b after : Ha
     → Judges b.reuse reuse → Stands b.reuse f.next f.record.value → IsIn i (instantiations s) → Tried s i a b from
     → CountsFollowed v s i (kept_in f.record.value) (record { reuse = reuse; entries = b.entries }) after
     → AsksHold s.ask (kept_in f.record.value).trace → IsAnswer v
-    → IsKeptToo (Ok v) after.reuse.kept.records.items last.kept.records.items f → last.last ≡ after.reuse.last
-    → last.steps ≡ after.reuse.steps → CountsServed v s i a (record { reuse = last; entries = after.entries })
+    → IsKeptToo (Ok v) after.reuse last f → last.last ≡ after.reuse.last → last.steps ≡ after.reuse.steps → CountsServed v s i a (record { reuse = last; entries = after.entries })
 answered s i a b after reuse last from f (served.As o) j stands h t x asks answer kept same steps =
     tried_served s i a b after reuse last from f o j stands h t x asks kept same steps
 answered s i a b after reuse last from f (served.Not lost.Nothing) j stands h t x asks answer kept same steps = absurd answer

@@ -34,7 +34,7 @@ use Rattle.xt_driver.specs.Remembered.{Entry, Forgets}
 use Rattle.xt_driver.specs.Referring.{entry_of}
 use Rattle.xt_driver.specs.Turning.{HeldAs, IsHeldAs, IsTurnedAs, meant_in}
 use Rattle.xt_driver.specs.Counted.{Hand, kept_by, records_of, KeepsAll, IsRecorded, AreRecorded, Counted, CountsOver, IsOfTurn, for_turn, CountedWhole}
-use Rattle.xt_driver.specs.Counted.{KeepsOnly, StaysLikeRun}
+use Rattle.xt_driver.specs.Counted.{IsWithin, KeepsOnly, StaysLikeRun}
 use Rattle.xt_driver.proofs.Finding.{recorded_at, entry_in, evaluated_found, aside_ready, held_goes}
 use Rattle.xt_driver.proofs.Completing.{keeps_of}
 use Rattle.xt_driver.proofs.Tallying.{counted_none, counted_then}
@@ -52,7 +52,7 @@ pub turn_recalled : (s : Setting NodeRef) (past : Past NodeRef) (g : means.Named
     → CountsOver s past.values (for_turn s past g levels) (record { reuse = reuse; entries = all }) (record { reuse = reuse; entries = all })
 turn_recalled s past g levels t all reuse from same = λ of_run ready.
     let R : Option NodeRef → Type 0 = λ o. IsRecorded s past.values (kept_by reuse) o in
-    let h = subst R from.element_is (recorded_at s past.values (kept_by reuse) all from.entry from.among ready) in
+    let h = subst R from.element_is (recorded_at s past.values (kept_by reuse) all from.entry from.among ready.recorded) in
     counted_none s past.values (for_turn s past g levels) reuse all all
     (evaluated_found s past (kept_by reuse) g.name levels nowhere g.element h of_run (ends t.held from.entry from.held same)) ready
   where
@@ -69,8 +69,8 @@ pub turn_forgot : (s : Setting NodeRef) (past : Past NodeRef) (g : means.NamedGl
     → CountsOver s past.values (for_turn s past g levels) (record { reuse = reuse; entries = new }) after
     → CountsOver s past.values (for_turn s past g levels) (record { reuse = reuse; entries = old }) after
 turn_forgot s past g levels name old new reuse after forgets over = λ of_run ready.
-    let y = over of_run (aside_ready s past.values (kept_by reuse) forgets.is ready).1 in
-    record { list = y.list; enters = y.enters; ran = y.ran; stands = y.stands; only = y.only; keeps = y.keeps; ready = y.ready }
+    let y = over of_run (record { recorded = (aside_ready s past.values (kept_by reuse) forgets.is ready.recorded).1; within = ready.within }) in
+    record { list = y.list; enters = y.enters; ran = y.ran; stands = y.stands; more = y.more; only = y.only; keeps = y.keeps; ready = y.ready }
 
 pub turn_with : (s : Setting NodeRef) (past : Past NodeRef) (g : means.NamedGlobal NodeRef) (levels : ℕ) (under : List Expanded) (call : Call NodeRef)
     (a b : Hand) → under ≡ g.name ∷ past.under → call ≡ global_call s.root g.element nowhere
@@ -109,14 +109,14 @@ pub record CountedTurns (s : Setting NodeRef) (levels : ℕ) (gs : List (means.N
   pub counted : Counted s values done a b
 
 pub turns_begun : (s : Setting NodeRef) (levels : ℕ) (gs : List (means.NamedGlobal NodeRef)) (values : List (Bound NodeRef)) (c : Call NodeRef)
-    (reuse : Reuse) (all : List (Entry NodeRef)) → values ≡ [] → all ≡ []
+    (reuse : Reuse) (all : List (Entry NodeRef)) → values ≡ [] → all ≡ [] → IsWithin reuse
     → CountedTurns s levels gs values c (entered_by_run s levels gs [] c) (record { reuse = reuse; entries = [] }) (record { reuse = reuse; entries = all })
-turns_begun s levels gs values c reuse all none empty =
+turns_begun s levels gs values c reuse all none empty within =
     let R : List (Entry NodeRef) → Type 0 = λ es. AreRecorded s values (kept_by reuse) es in
     record {
       done = [];
       parts = ap (λ vs. entered_by_run s levels gs vs c) (sym none);
-      counted = counted_none s values [] reuse [] all (λ i h. absurd h) (subst R (sym empty) tt);
+      counted = counted_none s values [] reuse [] all (λ i h. absurd h) (record { recorded = subst R (sym empty) tt; within = within });
     }
 
 turn_part : (s : Setting NodeRef) (levels : ℕ) (g : means.NamedGlobal NodeRef) (gs : List (means.NamedGlobal NodeRef)) (values : List (Bound NodeRef))
@@ -162,9 +162,10 @@ turns_on s levels g gs values all c (held.Value v) None is a b d of_run same e a
         enters = m.1.enters;
         ran = m.1.ran;
         stands = m.1.stands;
+        more = m.1.more;
         only = m.1.only;
         keeps = m.1.keeps;
-        ready = recorded_turn s values (kept_by d.reuse) new d.entries m.1.ready;
+        ready = record { recorded = recorded_turn s values (kept_by d.reuse) new d.entries m.1.ready.recorded; within = m.1.ready.within };
       };
     } in
     let P : List (Bound NodeRef) → Type 0 = λ vs. CountedTurns s levels gs vs c is a d in

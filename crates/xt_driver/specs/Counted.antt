@@ -1,7 +1,7 @@
 -- What a run counts as it goes on, and what it keeps.
 --     Hand            the records that a run may reuse, how many instantiations it counted, and what it remembers
---     KeepsAll        of these that come to their ends there are records among those that this run kept
---     KeepsOnly       each record that this run kept is of the unit and the node of one that it has
+--     KeepsAll        of these that come to their ends there are records among those that this run keeps for the next
+--     KeepsOnly       each record that this run keeps for the next is of the unit and the node of one that it has
 --     Counted         going over these, so many more are counted
 --     CountedFront    going over a front of these, which comes to its end
 --     CountedAlong    going along a record
@@ -30,7 +30,7 @@ use Rattle.xt_engine.specs.declared.turn.Entered.{Entered as Given}
 use Rattle.xt_engine.specs.declared.turn.Entered.TheVariants as given
 use Rattle.xt_engine.specs.Advances.{ran_of}
 use Rattle.xt_record.specs.Kept.{kept_with}
-use Rattle.xt_record.specs.Search.{most, StandOn}
+use Rattle.xt_record.specs.Search.{most, next_of, StandOn}
 use Rattle.xt_record.specs.View.{kept_in, AsksHold}
 use Rattle.xt_record.specs.declared.record.Record.{Record}
 use Rattle.xt_record.specs.declared.reuse.Found.{Found}
@@ -66,32 +66,55 @@ hand_of reuse memo = record { reuse = reuse; entries = entries_of memo }
 abbrev pub kept_at : Rc Record Allocator → Kept NodeRef
 kept_at r = kept_in r.value
 
--- the records that this run kept
+-- the records that this run keeps for the next
 abbrev pub kept_by : Reuse → List (Kept NodeRef)
-kept_by reuse = map kept_at reuse.kept.records.items
+kept_by reuse = map kept_in (next_of reuse)
 
--- the records of the last finished run, and then those that this run kept
+-- the records of the last finished run, and then those that this run finds again by their calls
 abbrev pub records_of : Reuse → List (Kept NodeRef)
-records_of reuse = map kept_at reuse.last.now.records.items ++ kept_by reuse
+records_of reuse = map kept_at reuse.last.now.records.items ++ map kept_at reuse.kept.records.items
+
+-- what is kept for the next run is at hand
+abbrev pub IsWithin : Reuse → Type 0
+IsWithin reuse = (k : Kept NodeRef) → IsIn k (kept_by reuse) → IsIn k (records_of reuse)
+
+-- and stays kept
+abbrev pub KeepsOn : (before after : Reuse) → Type 0
+KeepsOn before after = (k : Kept NodeRef) → IsIn k (kept_by before) → IsIn k (kept_by after)
 
 -- ---- What is kept
 
--- the record that was found too, unless it stands among those that this run kept
-pub data IsKept (before after : List (Rc Record Allocator)) (found : Found) : Type 0 where
-  kept_before : found.next ≤ most → after ≡ before → IsKept before after found
-  kept_now : after ≡ before ++ found.record ∷ [] → IsKept before after found
+-- nothing more is, for calls after this one and for the next run
+pub record KeepsSame (before after : Reuse) : Type 0 where
+  pub kept : after.kept.records.items ≡ before.kept.records.items
+  pub next : next_of after ≡ next_of before
+
+-- this record is, for both
+pub record KeepsToo (before after : Reuse) (r : Rc Record Allocator) : Type 0 where
+  pub kept : after.kept.records.items ≡ before.kept.records.items ++ r ∷ []
+  pub next : next_of after ≡ next_of before ++ r.value ∷ []
+
+-- it is kept for the next run alone
+pub record KeepsNext (before after : Reuse) (r : Rc Record Allocator) : Type 0 where
+  pub kept : after.kept.records.items ≡ before.kept.records.items
+  pub next : next_of after ≡ next_of before ++ r.value ∷ []
+
+-- the record that was found is, for the next run alone where it stands among those that this run kept for calls
+pub data IsKept (before after : Reuse) (found : Found) : Type 0 where
+  kept_before : found.next ≤ most → KeepsNext before after found.record → IsKept before after found
+  kept_now : KeepsToo before after found.record → IsKept before after found
 
 -- where it served
-abbrev pub IsKeptToo : Result Served Memory → (before after : List (Rc Record Allocator)) → Found → Type 0
+abbrev pub IsKeptToo : Result Served Memory → (before after : Reuse) → Found → Type 0
 IsKeptToo (Ok (served.As o)) before after found = IsKept before after found
-IsKeptToo (Ok (served.Not l)) before after found = after ≡ before
+IsKeptToo (Ok (served.Not l)) before after found = KeepsSame before after
 IsKeptToo (Err memory) before after found = Unit {0}
 
 -- what an engine made of the call too, if it came to its end
-abbrev pub IsMadeToo : (before after : List (Rc Record Allocator)) → Call NodeRef → Option (Box Ran Allocator) → Type 0
-IsMadeToo before after c None = after ≡ before
+abbrev pub IsMadeToo : (before after : Reuse) → Call NodeRef → Option (Box Ran Allocator) → Type 0
+IsMadeToo before after c None = KeepsSame before after
 IsMadeToo before after c (Some ran) =
-    (r : Rc Record Allocator) × (after ≡ before ++ r ∷ []) × (kept_in r.value ≡ kept_with c (ran_of ran.value))
+    (r : Rc Record Allocator) × KeepsToo before after r × (kept_in r.value ≡ kept_with c (ran_of ran.value))
 
 -- it serves, or something was lost on the way
 abbrev pub IsAnswer : Served → Type 0
@@ -111,7 +134,7 @@ abbrev pub IsMadeOf : Setting NodeRef → Instantiation NodeRef → Option (Box 
 IsMadeOf s i None = ¬ (GoesOn (own_of s i).ending)
 IsMadeOf s i (Some ran) = kept_with i.call (ran_of ran.value) ≡ kept_of s i
 
--- of each of these that comes to its end there is a record among those that this run kept
+-- of each of these that comes to its end there is a record among those that this run keeps for the next
 pub record KeepsAll (s : Setting NodeRef) (is : List (Instantiation NodeRef)) (reuse : Reuse) : Type 0 where
   pub found : (i : Instantiation NodeRef) → IsIn i is → GoesOn (own_of s i).ending → IsFound s (kept_by reuse) i
 
@@ -119,10 +142,11 @@ pub record KeepsAll (s : Setting NodeRef) (is : List (Instantiation NodeRef)) (r
 abbrev pub AreLikeRun : Setting NodeRef → List (Kept NodeRef) → Type 0
 AreLikeRun s records = (k : Kept NodeRef) → IsIn k records → HasLike (instantiations s) k.call
 
--- where those that this run kept were so, they still are
+-- where those that this run keeps for the next were so, they still are
 abbrev pub StaysLikeRun : Setting NodeRef → (before after : Reuse) → Type 0
 StaysLikeRun s before after = AreLikeRun s (kept_by before) → AreLikeRun s (kept_by after)
 
+-- the same as a fact of its own: a caller that compares the function computed comes to the limit of steps
 pub record KeepsOnly (s : Setting NodeRef) (before after : Reuse) : Type 0 where
   pub so : StaysLikeRun s before after
 
@@ -147,9 +171,10 @@ abbrev pub AreRecorded : Setting NodeRef → List (Bound NodeRef) → List (Kept
 AreRecorded s values records [] = Unit {0}
 AreRecorded s values records (e ∷ es) = IsRecorded s values records e.element × AreRecorded s values records es
 
--- there are records of all that is remembered among those that this run kept
-abbrev pub IsReady : Setting NodeRef → List (Bound NodeRef) → Hand → Type 0
-IsReady s values hand = AreRecorded s values (kept_by hand.reuse) hand.entries
+-- there are records of all that is remembered among those that this run keeps for the next, and these are at hand
+pub record IsReady (s : Setting NodeRef) (values : List (Bound NodeRef)) (hand : Hand) : Type 0 where
+  pub recorded : AreRecorded s values (kept_by hand.reuse) hand.entries
+  pub within : IsWithin hand.reuse
 
 -- ---- What is counted
 
@@ -167,6 +192,7 @@ pub record Counted (s : Setting NodeRef) (values : List (Bound NodeRef)) (is : L
   pub enters : Enters s (records_of before.reuse) list is (records_of after.reuse)
   pub ran : IsCounted (length list) before after
   pub stands : StandOn before.reuse after.reuse
+  pub more : KeepsOn before.reuse after.reuse
   pub only : StaysLikeRun s before.reuse after.reuse
   pub keeps : KeepsAll s is after.reuse
   pub ready : IsReady s values after
@@ -176,6 +202,7 @@ pub record CountedFront (s : Setting NodeRef) (values : List (Bound NodeRef)) (i
   pub enters : EntersFront s (records_of before.reuse) list is (records_of after.reuse)
   pub ran : IsCounted (length list) before after
   pub stands : StandOn before.reuse after.reuse
+  pub more : KeepsOn before.reuse after.reuse
   pub only : StaysLikeRun s before.reuse after.reuse
   pub ready : IsReady s values after
 
@@ -223,6 +250,7 @@ pub record CountedAlong (s : Setting NodeRef) (i : Instantiation NodeRef) (k : K
   pub asks : AsksHold s.ask rest
   pub ran : IsCounted (length list) before after
   pub stands : StandOn before.reuse after.reuse
+  pub more : KeepsOn before.reuse after.reuse
   pub only : StaysLikeRun s before.reuse after.reuse
   pub keeps : KeepsAll s (nested_along s i done) after.reuse
   pub ready : IsReady s i.past.values after
@@ -274,6 +302,7 @@ pub record CountedRun (s : Setting NodeRef) (i : Instantiation NodeRef) (l : Los
   pub enters : Enters s (records_of before.reuse) list (nested_but s i (known_by l i.below) (own_of s i).going.trace) (records_of after.reuse)
   pub ran : IsCounted (suc (length list)) before after
   pub stands : StandOn before.reuse after.reuse
+  pub more : KeepsOn before.reuse after.reuse
   pub only : StaysLikeRun s before.reuse after.reuse
   pub keeps : KeepsAll s (nested_but s i (known_by l i.below) (own_of s i).going.trace) after.reuse
   pub ready : IsReady s i.past.values after

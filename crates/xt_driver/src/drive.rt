@@ -23,7 +23,7 @@ use crate::keep::{keep_ended, next_turn, tried};
 use crate::level::{Needed, Step, advance, begin, take_global, take_stream};
 use crate::lost::{Lost, regained_reference};
 use crate::memo::{Memo, Referred};
-use crate::outcome::{Ended, Outcome, cut_short, done, evaluated, refused, too_deep};
+use crate::outcome::{Ended, Outcome, cut_short, done, evaluated, refused, too_deep, whole_again};
 use std::alloc::Global;
 use xt_engine::{Call, Engine, Event};
 use xt_questions::World;
@@ -42,6 +42,35 @@ pub enum Served {
 /// What a call means that no other enters: all as for one that is entered. Since `serve` is called here too, Rattle's own
 /// compiler gives it a frame of its own, and a level that is run takes less of the stack.
 pub fn first_means<E: Engine, W: World>(
+    alloc: Global,
+    engine: &mut E,
+    world: &mut W,
+    globals: &Globals,
+    memo: &mut Memo,
+    reuse: &mut Reuse<'_>,
+    call: &Call,
+    levels: u64,
+) -> Result<Box<Outcome>, Memory>
+    requires remembers { Remembers (setting_of (W.state world.now).truth globals.now) (past_of globals.now) (entries_of memo.now) }
+    requires sure { IsSure (W.state world.now).truth reuse.now }
+    ensures keeps { OnOk result (Keeps (setting_of (W.state world.old).truth globals.now) (past_of globals.now) (entries_of memo.old) (entries_of memo.new)) }
+    ensures lasts { IfOk result (λ o. Lasts (setting_of (W.state world.old).truth globals.now) (past_of globals.now) (levels - o.value.spare) (entries_of memo.new) (call_of call.now) (outcome_of o.value)) }
+    ensures meaning { IfOk result (λ o. outcome_of o.value ≡ meaning (setting_of (W.state world.old).truth globals.now) levels (past_of globals.now) 0 (call_of call.now)) }
+    ensures counts { OnOk result (CountsOver (setting_of (W.state world.old).truth globals.now) (past_of globals.now).values (entered (setting_of (W.state world.old).truth globals.now) levels (past_of globals.now) 0 (call_of call.now)) (hand_of reuse.old memo.old) (hand_of reuse.new memo.new)) }
+    ensures sure { OnOk result (IsSure (W.state world.old).truth reuse.new) }
+    ensures truth { (W.state world.new).truth ≡ (W.state world.old).truth }
+    ensures name { W.name world.new ≡ W.name world.old }
+    ensures last { reuse.new.last ≡ reuse.old.last }
+    ensures spared { reuse.new.spared ≡ reuse.old.spared }
+{
+    match reuse.said(alloc, call, levels)? {
+        Some(said) => whole_again(alloc, said, levels),
+        None => first_anew(alloc, engine, world, globals, memo, reuse, call, levels),
+    }
+}
+
+// The same, where no tree says it by itself.
+fn first_anew<E: Engine, W: World>(
     alloc: Global,
     engine: &mut E,
     world: &mut W,
@@ -83,6 +112,36 @@ pub fn first_means<E: Engine, W: World>(
 // the call enters, with itself, those are counted that are run, each once.
 #[cycle(drive)]
 fn means<E: Engine, W: World>(
+    alloc: Global,
+    engine: &mut E,
+    world: &mut W,
+    globals: &Globals,
+    memo: &mut Memo,
+    reuse: &mut Reuse<'_>,
+    call: &Call,
+    levels: u64,
+) -> Result<Box<Outcome>, Memory>
+    requires remembers { Remembers (setting_of (W.state world.now).truth globals.now) (past_of globals.now) (entries_of memo.now) }
+    requires sure { IsSure (W.state world.now).truth reuse.now }
+    ensures keeps { OnOk result (Keeps (setting_of (W.state world.old).truth globals.now) (past_of globals.now) (entries_of memo.old) (entries_of memo.new)) }
+    ensures lasts { IfOk result (λ o. Lasts (setting_of (W.state world.old).truth globals.now) (past_of globals.now) (levels - o.value.spare) (entries_of memo.new) (call_of call.now) (outcome_of o.value)) }
+    ensures meaning { IfOk result (λ o. outcome_of o.value ≡ meaning (setting_of (W.state world.old).truth globals.now) levels (past_of globals.now) 0 (call_of call.now)) }
+    ensures counts { OnOk result (CountsOver (setting_of (W.state world.old).truth globals.now) (past_of globals.now).values (entered (setting_of (W.state world.old).truth globals.now) levels (past_of globals.now) 0 (call_of call.now)) (hand_of reuse.old memo.old) (hand_of reuse.new memo.new)) }
+    ensures sure { OnOk result (IsSure (W.state world.old).truth reuse.new) }
+    ensures truth { (W.state world.new).truth ≡ (W.state world.old).truth }
+    ensures name { W.name world.new ≡ W.name world.old }
+    ensures last { reuse.new.last ≡ reuse.old.last }
+    ensures spared { reuse.new.spared ≡ reuse.old.spared }
+{
+    match reuse.said(alloc, call, levels)? {
+        Some(said) => whole_again(alloc, said, levels),
+        None => means_anew(alloc, engine, world, globals, memo, reuse, call, levels),
+    }
+}
+
+// The same, where no tree says it by itself.
+#[cycle(drive)]
+fn means_anew<E: Engine, W: World>(
     alloc: Global,
     engine: &mut E,
     world: &mut W,

@@ -34,14 +34,17 @@ pub fn keep_ended(
     requires { IsMade (call_of call.now) ended.ran }
     ensures outcome { IfOk result (λ o. o ≡ ended.outcome) }
     ensures sure { OnOk result ((ask : Question NodeRef → Answer NodeRef) → IsSure ask reuse.old → MadeHolds ask ended.ran → IsSure ask reuse.new) }
-    ensures kept { OnOk result (IsMadeToo reuse.old.kept.records.items reuse.new.kept.records.items (call_of call.now) ended.ran) }
+    ensures kept { OnOk result (IsMadeToo reuse.old reuse.new (call_of call.now) ended.ran) }
     ensures last { reuse.new.last ≡ reuse.old.last }
     ensures spared { reuse.new.spared ≡ reuse.old.spared }
     ensures steps { reuse.new.steps ≡ reuse.old.steps }
 {
     let Ended { outcome, ran } = ended;
     match ran {
-        None => Ok(outcome),
+        None => {
+            reuse.leave();
+            Ok(outcome)
+        }
         Some(ran) => {
             keep_run(alloc, reuse, call, ran)?;
             Ok(outcome)
@@ -53,7 +56,7 @@ pub fn keep_ended(
 fn keep_run(alloc: Global, reuse: &mut Reuse<'_>, call: &Call, ran: Box<Ran>) -> Result<(), Memory>
     requires { IsTrue same_ref (kept_with (call_of call.now) (ran_of ran.value)) }
     ensures sure { OnOk result ((ask : Question NodeRef → Answer NodeRef) → IsSure ask reuse.old → AsksHold ask (ran_of ran.value).trace → IsSure ask reuse.new) }
-    ensures kept { OnOk result (IsMadeToo reuse.old.kept.records.items reuse.new.kept.records.items (call_of call.now) (Some ran)) }
+    ensures kept { OnOk result (IsMadeToo reuse.old reuse.new (call_of call.now) (Some ran)) }
     ensures last { reuse.new.last ≡ reuse.old.last }
     ensures spared { reuse.new.spared ≡ reuse.old.spared }
     ensures steps { reuse.new.steps ≡ reuse.old.steps }
@@ -76,7 +79,7 @@ pub fn tried(
     ensures last { reuse.new.last ≡ reuse.old.last }
     ensures spared { reuse.new.spared ≡ reuse.old.spared }
     ensures steps { reuse.new.steps ≡ reuse.old.steps }
-    ensures kept { OnOk result (IsKeptToo served reuse.old.kept.records.items reuse.new.kept.records.items found) }
+    ensures kept { OnOk result (IsKeptToo served reuse.old reuse.new found) }
     ensures came { OnOk result (IsOk served) }
     ensures served { IfOk result (λ o. IfSome o (λ s. served ≡ Ok s)) }
     ensures unserved { IfOk result (λ o. IfNone o (IsUnserved served)) }
@@ -103,13 +106,13 @@ pub fn next_turn(found: &Found) -> u64
 // Keeps it, if this run does not yet: those that it kept stand before all of the last run.
 fn keep_found(alloc: Global, reuse: &mut Reuse<'_>, found: Found) -> Result<(), Memory>
     ensures sure { OnOk result ((ask : Question NodeRef → Answer NodeRef) → IsSure ask reuse.old → AsksHold ask (kept_in found.record.value).trace → IsSure ask reuse.new) }
-    ensures kept { OnOk result (IsKept reuse.old.kept.records.items reuse.new.kept.records.items found) }
+    ensures kept { OnOk result (IsKept reuse.old reuse.new found) }
     ensures last { reuse.new.last ≡ reuse.old.last }
     ensures spared { reuse.new.spared ≡ reuse.old.spared }
     ensures steps { reuse.new.steps ≡ reuse.old.steps }
 {
     if found.next <= LAST_KEPT {
-        return Ok(());
+        return reuse.plant(alloc, &found.record);
     }
     reuse.keep(alloc, found.record)
 }

@@ -18,6 +18,7 @@ use std::alloc::Global;
 use std::rc::Rc;
 use xt_engine::{Call, Entered, Ran, Refused, RunFault};
 use xt_questions::{copy_place, copy_value};
+use xt_record::Said;
 use xt_streams::quiet;
 use xt_text::Memory;
 use xt_tree::{Fragment, Items, Value};
@@ -146,6 +147,18 @@ pub fn cut_short(
         spare: _,
     } = Box::into_inner(last);
     on_heap(alloc, content, ending, 0)
+}
+
+/// What comes of a call with so many levels left that a tree says by itself.
+pub fn whole_again(alloc: Global, said: Said, levels: u64) -> Result<Box<Outcome>, Memory>
+    ensures outcome { IfOk result (λ o. outcome_of o.value ≡ record { content = stream_of said.whole.value.content.value; ending = ending_with said.record.value.ran.value }) }
+    ensures spare { IfOk result (λ o. o.value.spare ≡ (levels - 1) - said.whole.value.levels) }
+{
+    let Said { record, whole } = said;
+    let content = whole.content.clone()?;
+    let ending = end_with(alloc, &record.ran.value)?;
+    let spare = levels.saturating_sub(1).saturating_sub(whole.levels);
+    on_heap(alloc, content, ending, spare)
 }
 
 // How a run ends that is done, with the value of a global that has a select.

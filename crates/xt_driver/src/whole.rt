@@ -13,7 +13,7 @@ ghost use Rattle.xt_driver.specs.View.{held_of, ending_of, outcome_of, past_of, 
 ghost use Rattle.xt_driver.specs.Remembered.{Remembers};
 ghost use Rattle.xt_driver.specs.Referring.{entries_of};
 ghost use Rattle.xt_driver.specs.Turning.{IsHeldAs, Turns, TurnsAs};
-ghost use Rattle.xt_driver.specs.Counted.{for_turn, hand_of, CountedWhole, CountsOver, KeepsAll, KeepsOnly, StaysLikeRun};
+ghost use Rattle.xt_driver.specs.Counted.{for_turn, hand_of, CountedWhole, CountsOver, IsWithin, KeepsAll, KeepsOnly, StaysLikeRun};
 ghost use Rattle.spec_reuse.specs.Instantiation.{entered_by_run, instantiations};
 ghost use Rattle.spec_reuse.specs.Ledger.{AreOfRun};
 
@@ -246,9 +246,9 @@ fn run_in<E: Engine, W: World>(
 ) -> Result<Whole, Memory>
     requires { IsSure (W.state world.now).truth reuse.now }
     ensures run { IfOk result (λ w. let s = setting_in (W.state world.old).truth root named.now in whole_of w ≡ meant.run s levels s.globals [] [] (meant.root_call s)) }
-    ensures counts { let s = setting_in (W.state world.old).truth root named.now in AreOfRun s (entered_by_run s levels s.globals [] (meant.root_call s)) → OnOk result (CountedWhole s (entered_by_run s levels s.globals [] (meant.root_call s)) reuse.old reuse.new) }
-    ensures kept { let s = setting_in (W.state world.old).truth root named.now in AreOfRun s (entered_by_run s levels s.globals [] (meant.root_call s)) → OnOk result (KeepsAll s (entered_by_run s levels s.globals [] (meant.root_call s)) reuse.new) }
-    ensures only { let s = setting_in (W.state world.old).truth root named.now in AreOfRun s (entered_by_run s levels s.globals [] (meant.root_call s)) → OnOk result (StaysLikeRun s reuse.old reuse.new) }
+    ensures counts { let s = setting_in (W.state world.old).truth root named.now in IsWithin reuse.old → AreOfRun s (entered_by_run s levels s.globals [] (meant.root_call s)) → OnOk result (CountedWhole s (entered_by_run s levels s.globals [] (meant.root_call s)) reuse.old reuse.new) }
+    ensures kept { let s = setting_in (W.state world.old).truth root named.now in IsWithin reuse.old → AreOfRun s (entered_by_run s levels s.globals [] (meant.root_call s)) → OnOk result (KeepsAll s (entered_by_run s levels s.globals [] (meant.root_call s)) reuse.new) }
+    ensures only { let s = setting_in (W.state world.old).truth root named.now in IsWithin reuse.old → AreOfRun s (entered_by_run s levels s.globals [] (meant.root_call s)) → OnOk result (StaysLikeRun s reuse.old reuse.new) }
     ensures sure { OnOk result (IsSure (W.state world.old).truth reuse.new) }
     ensures truth { (W.state world.new).truth ≡ (W.state world.old).truth }
     ensures name { W.name world.new ≡ W.name world.old }
@@ -296,7 +296,8 @@ fn run_in<E: Engine, W: World>(
 /// What it counts are instantiations of this run, in its order: none of which a record was found, and of one call that comes
 /// to its end one. Of each that comes to its end it keeps a record that serves it: one that did, or what the engine made. So
 /// the next run, which is given these alone, has all that this one came through. Each record that it keeps is of the unit and
-/// the node of an instantiation of this run.
+/// the node of an instantiation of this run. All this is so where what is kept for the next run is at hand before it, as it
+/// is where nothing is.
 ///
 /// # Errors
 /// Want of memory. What is true in the world stays in any case.
@@ -310,9 +311,9 @@ pub fn run<E: Engine, W: World>(
 ) -> Result<Whole, Memory>
     requires { IsSure (W.state world.now).truth reuse.now }
     ensures run { IfOk result (λ w. whole_of w ≡ run_of (setting_in (W.state world.old).truth root globals.now)) }
-    ensures counts { let s = setting_in (W.state world.old).truth root globals.now in OnOk result (CountedWhole s (instantiations s) reuse.old reuse.new) }
-    ensures kept { let s = setting_in (W.state world.old).truth root globals.now in OnOk result (KeepsAll s (instantiations s) reuse.new) }
-    ensures only { let s = setting_in (W.state world.old).truth root globals.now in OnOk result (KeepsOnly s reuse.old reuse.new) }
+    ensures counts { let s = setting_in (W.state world.old).truth root globals.now in IsWithin reuse.old → OnOk result (CountedWhole s (instantiations s) reuse.old reuse.new) }
+    ensures kept { let s = setting_in (W.state world.old).truth root globals.now in IsWithin reuse.old → OnOk result (KeepsAll s (instantiations s) reuse.new) }
+    ensures only { let s = setting_in (W.state world.old).truth root globals.now in IsWithin reuse.old → OnOk result (KeepsOnly s reuse.old reuse.new) }
     ensures sure { OnOk result (IsSure (W.state world.old).truth reuse.new) }
     ensures truth { (W.state world.new).truth ≡ (W.state world.old).truth }
     ensures name { W.name world.new ≡ W.name world.old }

@@ -1,5 +1,5 @@
 -- What a run keeps is complete.
-use Rattle.std.proofs.Common.{◌≡◌, ℕ, List, [], map, Option, None, Some, Result, Ok, Err, refl, sym, ap, subst, ◌∙◌}
+use Rattle.std.proofs.Common.{◌≡◌, ℕ, List, [], ◌∷◌, map, Option, None, Some, Result, Ok, Err, refl, sym, ap, subst, ◌∙◌}
 use Rattle.std.specs.Prelude.{IfOk, IfSome, OnOk}
 use Rattle.std.specs.Option.{is_none, is_some}
 use Rattle.std.specs.declared.alloc.Global.{Global}
@@ -12,6 +12,7 @@ use Rattle.spec_run.specs.Documents.{Parameters}
 use Rattle.spec_run.specs.Meaning.{Setting, run_of}
 use Rattle.spec_run.specs.Outcome.{Done, Failed, outcome_by, refused_dynamic}
 use Rattle.spec_run.specs.Plan.{Refused as Refusal}
+use Rattle.spec_reuse.specs.Among.{IsIn}
 use Rattle.spec_reuse.specs.Instantiation.{instantiations}
 use Rattle.spec_reuse.specs.Ledger.{IsFound}
 use Rattle.spec_cost.specs.Paying.{KeepsRun}
@@ -21,10 +22,13 @@ use Rattle.xt_engine.specs.declared.global.NamedGlobal.{NamedGlobal}
 use Rattle.xt_world.specs.Numbered.{ref_to}
 use Rattle.xt_world.specs.View.{truth_in}
 use Rattle.xt_world.specs.declared.stylesheet.Stylesheet as world
+use Rattle.xt_record.specs.Grown.{values_of}
+use Rattle.xt_record.specs.Search.{next_of}
+use Rattle.xt_record.specs.View.{kept_in}
 use Rattle.xt_record.specs.declared.pool.Pool.{Pool}
 use Rattle.xt_record.specs.declared.record.Record.{Record}
 use Rattle.xt_record.specs.declared.reuse.Reuse.{Reuse}
-use Rattle.xt_driver.specs.Counted.{AreLikeRun, KeepsAll, KeepsOnly, kept_at, kept_by}
+use Rattle.xt_driver.specs.Counted.{AreLikeRun, IsWithin, KeepsAll, KeepsOnly, kept_at, kept_by}
 use Rattle.xt_driver.specs.View.{setting_in, whole_of}
 use Rattle.xt_driver.specs.declared.whole.Whole.{Whole}
 use Rattle.xt_held.specs.Complete.{Completes, KeepsFor}
@@ -38,34 +42,45 @@ use Rattle.xt_held.specs.declared.outcome.Recorded.{Recorded}
 
 -- ---- The run
 
+-- the records of a pool
+kept_values : (rs : List (Rc Record Global)) → map kept_in (values_of rs) ≡ map kept_at rs
+kept_values [] = refl
+kept_values (r ∷ rs) = ap (λ ks. kept_at r ∷ ks) (kept_values rs)
+
+-- at the start all that is kept for the next run is at hand, since nothing is
+pub begun_within : (reuse : Reuse) → next_of reuse ≡ [] → IsWithin reuse
+begun_within reuse none kept among = absurd (subst (λ (vs : List Record). IsIn kept (map kept_in vs)) none among)
+
 -- what comes of the run is what it came to with the records that it keeps
 recorded_so : (s : Setting NodeRef) (reuse : Reuse) (r : Result Whole Memory) (t : Result Recorded Memory) → IfOk t (λ over. r ≡ Ok over.whole)
-    → IfOk t (λ over. over.records ≡ reuse.kept) → IfOk r (λ w. whole_of w ≡ run_of s) → OnOk r (KeepsAll s (instantiations s) reuse)
+    → IfOk t (λ over. over.records ≡ reuse.next) → IfOk r (λ w. whole_of w ≡ run_of s) → OnOk r (KeepsAll s (instantiations s) reuse)
     → OnOk r (AreLikeRun s (kept_by reuse)) → IfOk t (λ over. Completes s over.whole over.records)
 recorded_so s reuse r (Err memory) told kept run keeps only = tt
 recorded_so s reuse r (Ok over) told kept run keeps only =
     let all = subst (λ (x : Result Whole Memory). OnOk x (KeepsAll s (instantiations s) reuse)) told keeps in
     let like = subst (λ (x : Result Whole Memory). OnOk x (AreLikeRun s (kept_by reuse))) told only in
+    let same : kept_by reuse ≡ kept_among over.records =
+    kept_values reuse.next.records.items ∙ ap (λ (pool : Pool). kept_among pool) (sym kept) in
     record {
       is = subst (λ (x : Result Whole Memory). IfOk x (λ w. whole_of w ≡ run_of s)) told run;
       keeps = record {
-        all = λ i among ends. subst (λ (pool : Pool). IsFound s (kept_among pool) i) (sym kept) (all.found i among ends);
-        only = subst (λ (pool : Pool). AreLikeRun s (kept_among pool)) (sym kept) like;
+        all = λ i among ends. subst (λ ks. IsFound s ks i) same (all.found i among ends);
+        only = subst (λ ks. AreLikeRun s ks) same like;
       };
     }
 
 -- at the start it has kept nothing
-like_from : (s : Setting NodeRef) (before after : Reuse) → before.kept.records.items ≡ [] → (r : Result Whole Memory)
+like_from : (s : Setting NodeRef) (before after : Reuse) → next_of before ≡ [] → (r : Result Whole Memory)
     → OnOk r (KeepsOnly s before after) → OnOk r (AreLikeRun s (kept_by after))
 like_from s before after none (Err memory) h = tt
 like_from s before after none (Ok whole) h =
-    h.so (subst (λ (rs : List (Rc Record Global)). AreLikeRun s (map kept_at rs)) (sym none) (λ kept among. absurd among))
+    h.so (subst (λ (vs : List Record). AreLikeRun s (map kept_in vs)) (sym none) (λ kept among. absurd among))
 
 -- by numbers, in the setting that is held of it
 pub recorded_complete : (held : world.Stylesheet) (parameters : Parameters) (document : Document ℕ) (root : NodeRef) → root ≡ ref_to document.root
     → (globals : List NamedGlobal) → globals ≡ held.globals.items → (truth : Ask) → truth ≡ truth_in held parameters document
-    → (before reuse : Reuse) → before.kept.records.items ≡ [] → (r : Result Whole Memory) (t : Result Recorded Memory)
-    → IfOk t (λ over. r ≡ Ok over.whole) → IfOk t (λ over. over.records ≡ reuse.kept) → IfOk r (λ w. whole_of w ≡ run_of (setting_in truth root globals))
+    → (before reuse : Reuse) → next_of before ≡ [] → (r : Result Whole Memory) (t : Result Recorded Memory)
+    → IfOk t (λ over. r ≡ Ok over.whole) → IfOk t (λ over. over.records ≡ reuse.next) → IfOk r (λ w. whole_of w ≡ run_of (setting_in truth root globals))
     → OnOk r (KeepsAll (setting_in truth root globals) (instantiations (setting_in truth root globals)) reuse)
     → OnOk r (KeepsOnly (setting_in truth root globals) before reuse)
     → IfOk t (λ over. Completes (setting_on held parameters document) over.whole over.records)

@@ -28,7 +28,10 @@ use Rattle.xt_edit.specs.declared.edit.Edit.{Edit}
 use Rattle.xt_edit.specs.declared.edit.Edited.{Edited}
 use Rattle.xt_edit.specs.declared.fault.EditFault.{EditFault}
 use Rattle.xt_touch.specs.View.{since_of}
+use Rattle.xt_record.specs.Grown.{values_of, AreTrees}
 use Rattle.xt_record.specs.Sure.{AllHold}
+use Rattle.xt_record.specs.declared.tree.Tree.{Tree}
+use Rattle.xt_record.proofs.Chaining.{none_some}
 use Rattle.xt_record.specs.declared.record.Record.{Record}
 use Rattle.xt_held.specs.OutcomeView.{Fits, is_done, outcome_of, since_after}
 use Rattle.xt_touch.specs.declared.since.Since.{Since}
@@ -58,10 +61,14 @@ run_spared (Some (Stylesheet held rules method)) before parameters source kept c
 
 -- where no records were kept and no modules are there, all that is known of what was kept is so
 pub nothing_kept : (parameters : Parameters) (source : Option (Document ℕ)) (kept : Kept) (changes : List WorldChange) → kept.records.records.items ≡ []
-    → KeptSpared None parameters source kept changes
-nothing_kept parameters source kept changes none = record {
+    → kept.records.trees.items ≡ [] → KeptSpared None parameters source kept changes
+nothing_kept parameters source kept changes none no_trees = record {
   was = λ question. Gone;
-  answered = subst (λ (rs : List (Rc Record Global)). AllHold (λ question. Gone) rs) (sym none) tt;
+  answered = record {
+    hold = subst (λ (rs : List (Rc Record Global)). AllHold (λ question. Gone) rs) (sym none) tt;
+    trees = subst (λ (ts : List Tree). AreTrees (values_of kept.records.records.items) ts) (sym no_trees)
+        (λ turn t w here whole. absurd (none_some here));
+  };
   agreed = record { agrees = tt; own = λ keeps. tt };
 }
 

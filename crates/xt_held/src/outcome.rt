@@ -314,7 +314,7 @@ fn with_records(
     did: u64,
 ) -> Result<Recorded, Memory>
     ensures run { IfOk result (λ over. whole ≡ Ok over.whole) }
-    ensures kept { IfOk result (λ over. over.records ≡ reuse.entry.kept) }
+    ensures next { IfOk result (λ over. over.records ≡ reuse.entry.next) }
     ensures records { IfOk result (λ over. (ask : Ask) → IsSure ask reuse.entry → AreAnswered ask over.records) }
     ensures ran { IfOk result (λ over. over.counts.ran ≡ reuse.entry.steps.ran) }
     ensures asked { IfOk result (λ over. (ask : Ask) → IsSure ask reuse.entry → over.counts.asked ≤ marked_of (since_of reuse.entry.spared.now.since.now) reuse.entry.last.now) }

@@ -3,14 +3,14 @@ use Rattle.std.proofs.Common.{◌≡◌, ℕ, zero, suc, ◌<◌, ◌≤◌, Boo
 use Rattle.std.proofs.Math.Logic.{∥∥₁_elim, ∥∥₁_map, ∥∥₁_prop}
 use Rattle.std.proofs.lemmas.Bool.Decides.{Decides-eqb}
 use Rattle.std.specs.Coded.{le_prop}
-use Rattle.std.specs.Prelude.{IfSome, IsSomeAnd}
+use Rattle.std.specs.Prelude.{IfSome}
 use Rattle.std.specs.Map.{lookup}
 use Rattle.std.specs.declared.rc.Rc.{Rc}
 use Rattle.std.specs.declared.alloc.Global.{Global}
 use Rattle.indexmap.specs.IndexMap.{IndexMap, get}
 use Rattle.xt_record.specs.Chain.{earlier, key_in, keys_in, same_key, IsChained, IsLatest}
 use Rattle.xt_record.specs.declared.record.Record.{Record}
-use Rattle.xt_record.specs.declared.pool.Key.{Key}
+use Rattle.xt_record.specs.declared.key.Key.{Key}
 
 -- ---- Options and lists
 
@@ -48,7 +48,7 @@ module _ {K : Type 0} where
   at_end (x ∷ ks) k₀ zero e = absurd (omega arith)
   at_end (x ∷ ks) k₀ (suc t) e = at_end ks k₀ t (omega arith)
 
-  from_more : {P : Type 0} (ks : List K) (k₀ k : K) (t : ℕ) → slice_get (ks ++ k₀ ∷ []) t ≡ Some k → (slice_get ks t ≡ Some k → P)
+  pub from_more : {P : Type 0} (ks : List K) (k₀ k : K) (t : ℕ) → slice_get (ks ++ k₀ ∷ []) t ≡ Some k → (slice_get ks t ≡ Some k → P)
       → (t ≡ length ks → k₀ ≡ k → P) → P
   from_more [] k₀ k zero at f g = g (omega arith) (some_is at)
   from_more [] k₀ k (suc t) at f g = absurd (none_some at)
@@ -154,6 +154,13 @@ keys_more : (rs : List (Rc Record Global)) (r : Rc Record Global) → keys_in (r
 keys_more [] r = refl
 keys_more (x ∷ rs) r = ap (λ (ks : List Key). key_in x.value ∷ ks) (keys_more rs r)
 
+-- the keys that stand beside the records
+pub keyed_more : (rs all : List (Rc Record Global)) (r : Rc Record Global) (ks now : List Key) (k : Key) → k ≡ key_in r.value
+    → all ≡ rs ++ r ∷ [] → now ≡ ks ++ k ∷ [] → ∥ ks ≡ keys_in rs ∥₁ → ∥ now ≡ keys_in all ∥₁
+keyed_more rs all r ks now k of more_rs more_ks keyed = ∥∥₁_map keyed (λ e.
+    more_ks ∙ ap (λ (xs : List Key). xs ++ k ∷ []) e ∙ ap (λ (x : Key). keys_in rs ++ x ∷ []) of ∙ sym (keys_more rs r)
+    ∙ ap (λ (xs : List (Rc Record Global)). keys_in xs) (sym more_rs))
+
 pub keys_count : (rs : List (Rc Record Global)) → length (keys_in rs) ≡ length rs
 keys_count [] = refl
 keys_count (x ∷ rs) = omega (arith, keys_count rs)
@@ -233,3 +240,46 @@ reached lt reaches = ∥∥₁_map reaches (λ r. record { below = lt; has = r.h
 pub reached_within : (rs : List (Rc Record Global)) {key : Key} {end found : ℕ} → ∥ Reaches (keys_in rs) key end found ∥₁ → found < length rs
 reached_within rs {key = key} {found = found} reaches =
     ∥∥₁_elim reaches le_prop (λ r. omega (arith, within (keys_in rs) found key r.has, keys_count rs))
+
+-- ---- One goes along all, from the last on
+
+-- from here up to the turn none has the key
+pub record IsPassed (ks : List Key) (key : Key) (turn end : ℕ) : Type 0 where
+  pub count : end ≤ length ks
+  pub turn_is : end ≤ turn
+  pub passed : (t : ℕ) → end ≤ t → t < turn → slice_get ks t ≡ Some key → ⊥
+
+pub pass_begun : (ks : List Key) (key : Key) (turn count end : ℕ) → count ≡ length ks → end ≤ turn → end ≤ count
+    → ((t : ℕ) → end ≤ t → t < turn → count ≤ t) → IsPassed ks key turn end
+pass_begun ks key turn count end is low few behind = record {
+  count = omega (arith, is, few);
+  turn_is = low;
+  passed = λ t le lt at. absurd (omega (arith, within ks t key at, behind t le lt, is));
+}
+
+pub pass_one : (ks : List Key) (key : Key) (turn end at : ℕ) → suc at ≡ end → (slice_get ks at ≡ Some key → ⊥) → IsPassed ks key turn end
+    → IsPassed ks key turn at
+pass_one ks key turn end at is other h = record {
+  count = omega (arith, is, h.count);
+  turn_is = omega (arith, is, h.turn_is);
+  passed = λ t le lt there. split at t (λ more. h.passed t (omega (arith, is, more)) lt there)
+      (λ few. let same : t ≡ at = omega (arith, le, few) in other (subst (λ n. slice_get ks n ≡ Some key) same there));
+}
+
+pub pass_found : (rs : List (Rc Record Global)) (ks : List Key) (key : Key) (turn end at : ℕ) → ∥ ks ≡ keys_in rs ∥₁ → suc at ≡ end
+    → slice_get ks at ≡ Some key → IsPassed ks key turn end → ∥ IsLatest (keys_in rs) key turn (Some at) ∥₁
+pass_found rs ks key turn end at keyed is here h = ∥∥₁_map keyed (λ e.
+    subst (λ (xs : List Key). IsLatest xs key turn (Some at)) e (record {
+      below = let lt : at < turn = omega (arith, is, h.turn_is) in lt;
+      has = here;
+      last = λ t lt there. let le : t ≤ at = split at t (λ more. absurd (h.passed t (omega (arith, is, more)) lt there)) (λ few. few) in le;
+    }))
+
+pub pass_none : (rs : List (Rc Record Global)) (ks : List Key) (key : Key) (turn end : ℕ) → ∥ ks ≡ keys_in rs ∥₁ → end ≡ 0 → IsPassed ks key turn end
+    → ∥ IsLatest (keys_in rs) key turn None ∥₁
+pass_none rs ks key turn end keyed is h = ∥∥₁_map keyed (λ e.
+    subst (λ (xs : List Key). IsLatest xs key turn None) e (record {
+      below = tt;
+      has = tt;
+      last = λ t lt there. absurd (h.passed t (omega (arith, is)) lt there);
+    }))

@@ -10,7 +10,7 @@ use Rattle.xt_spared.specs.declared.spared.Spared.{Spared}
 use Rattle.xt_record.specs.Sure.{AllHold, AllJudged, AllSpared, AsksSpared, IsTrueOf, verdict_of}
 use Rattle.xt_record.specs.declared.record.Record.{Record}
 use Rattle.xt_record.specs.declared.reuse.Verdict.{Verdict}
-use Rattle.xt_record.specs.declared.reuse.Verdict.TheVariants.{Unasked, Holds, Fails}
+use Rattle.xt_record.specs.declared.reuse.Verdict.TheVariants.{Unasked}
 
 module _ (ask : Question NodeRef → Answer NodeRef) where
   abbrev HoldsIn : Record → Type 0

@@ -9,4 +9,9 @@ pub mod Sparing
 pub mod Chaining
 pub mod Passing
 pub mod Standing
-pub mod Whole
+pub mod Streams
+pub mod Grown
+pub mod Naming
+pub mod Reaching
+pub mod Holes
+pub mod Saying

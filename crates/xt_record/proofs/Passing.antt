@@ -1,5 +1,5 @@
 -- What a search passes over.
-use Rattle.std.proofs.Common.{◌≡◌, ℕ, ◌-◌, ◌*◌, ◌^◌, ◌<◌, ◌≤◌, List, [], ◌∷◌, zero, suc, length, slice_get, Option, None, Some, refl, sym, ap, subst, ◌∙◌, arith}
+use Rattle.std.proofs.Common.{◌≡◌, ℕ, ◌<◌, ◌≤◌, List, [], ◌∷◌, zero, suc, length, slice_get, Option, None, Some, sym, ap, subst, ◌∙◌, arith}
 use Rattle.std.proofs.Math.Logic.{∥∥₁_elim}
 use Rattle.std.specs.Prelude.{IfSome, IsSomeAnd}
 use Rattle.std.specs.declared.rc.Rc.{Rc}
@@ -11,7 +11,7 @@ use Rattle.spec_reuse.specs.Serving.{IsOf}
 use Rattle.spec_node.specs.declared.node_ref.NodeRef.{NodeRef}
 use Rattle.xt_record.specs.View.{kept_in, DoesNotServe, DoesNotSuit, IsAt, MayServe}
 use Rattle.xt_record.specs.Chain.{key_in, key_of, keys_in, part_number, unit_number, IsLatest}
-use Rattle.xt_record.specs.Search.{kept_place, last_place, most, PassedAmong, PassedOver, Stands, InKept, InLast}
+use Rattle.xt_record.specs.Search.{kept_place, last_place, most, PassedAmong, PassedOver, InKept, InLast}
 use Rattle.xt_record.specs.declared.record.Record.{Record}
 use Rattle.xt_record.specs.declared.reuse.Found.{Found}
 use Rattle.xt_record.specs.declared.reuse.Reuse.{Reuse}

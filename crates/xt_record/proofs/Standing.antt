@@ -1,13 +1,15 @@
 -- Where records stand in a search, and that they stay there.
-use Rattle.std.proofs.Common.{◌≡◌, ℕ, zero, suc, ◌-◌, ◌<◌, List, [], ◌∷◌, ◌++◌, slice_get, Some, Bor, sym, ap, subst, ◌∙◌, arith}
+use Rattle.std.proofs.Common.{◌≡◌, ℕ, zero, suc, ◌<◌, List, [], ◌∷◌, ◌++◌, slice_get, Some, Bor, sym, ap, subst, ◌∙◌, arith}
 use Rattle.std.specs.declared.rc.Rc.{Rc}
 use Rattle.std.specs.declared.alloc.Global.{Global}
 use Rattle.xt_record.specs.View.{IsAt}
-use Rattle.xt_record.specs.Asked.{Judges}
+use Rattle.xt_record.specs.Asked.{Judges, StaysSo}
 use Rattle.xt_record.specs.Search.{kept_place, last_place, most, StandOn, Stands, InKept, InLast, StandsAmong}
+use Rattle.xt_record.specs.declared.index.Index.{Index}
 use Rattle.xt_record.specs.declared.pool.Pool.{Pool}
 use Rattle.xt_record.specs.declared.record.Record.{Record}
 use Rattle.xt_record.specs.declared.reuse.Reuse.{Reuse}
+use Rattle.xt_record.specs.declared.reuse.Steps.{Steps}
 use Rattle.xt_record.proofs.Chaining.{none_some, some_is, within}
 use Rattle.xt_record.proofs.Passing.{at_most}
 
@@ -65,8 +67,32 @@ stand_on before after more last kept at r (InLast s) =
 
 pub judged_on : (before after : Reuse) → Judges before after → StandOn before after
 judged_on before after h at r (InKept s) =
-    let Among : Pool → Type 0 = λ x. StandsAmong kept_place x.records.items at r in
+    let Among : Index → Type 0 = λ x. StandsAmong kept_place x.records.items at r in
     InKept (subst Among (sym h.kept) s)
 judged_on before after h at r (InLast s) =
     let Among : Bor Pool → Type 0 = λ x. StandsAmong last_place x.now.records.items at r in
     InLast (subst Among (sym h.last) s)
+
+-- ---- Judged in several steps
+
+pub judges_more : {before between after : Reuse} → Judges before between → Judges between after → Judges before after
+judges_more h k = record {
+  last = k.last ∙ h.last;
+  spared = k.spared ∙ h.spared;
+  kept = k.kept ∙ h.kept;
+  next = k.next ∙ h.next;
+  ran = k.ran ∙ h.ran;
+  asked = omega (arith, h.asked, k.asked);
+}
+
+pub judges_so : {before between after : Reuse} → Judges before between → StaysSo between after → after.next ≡ between.next → Judges before after
+judges_so {between = between} {after = after} h k next =
+    let judged : Judges between after = record {
+      last = k.last;
+      spared = k.spared;
+      kept = k.kept;
+      next = next;
+      ran = ap (λ (s : Steps). s.ran) k.steps;
+      asked = omega (arith, ap (λ (s : Steps). s.asked) k.steps);
+    } in
+    judges_more h judged

@@ -4,6 +4,7 @@
 --     marked_left those of the records that were not judged yet
 --     Asks        what asking some of them counts
 --     Judges      what a run that judges records leaves as it was
+--     StaysSo     what it leaves as it was where it does not even that
 use Rattle.std.specs.Prelude.{◌≡◌, ℕ, ◌+◌, ◌≤◌, Bool, true, false, List, [], ◌∷◌}
 use Rattle.std.specs.declared.rc.Rc.{Rc}
 use Rattle.std.specs.declared.alloc.Global.{Global}
@@ -60,5 +61,14 @@ pub record Judges (before after : Reuse) : Type 0 where
   pub last : after.last ≡ before.last
   pub spared : after.spared ≡ before.spared
   pub kept : after.kept ≡ before.kept
+  pub next : after.next ≡ before.next
   pub ran : after.steps.ran ≡ before.steps.ran
   pub asked : before.steps.asked ≤ after.steps.asked
+
+-- nothing was judged, kept for later calls or counted
+pub record StaysSo (before after : Reuse) : Type 0 where
+  pub last : after.last ≡ before.last
+  pub spared : after.spared ≡ before.spared
+  pub verdicts : after.verdicts ≡ before.verdicts
+  pub kept : after.kept ≡ before.kept
+  pub steps : after.steps ≡ before.steps

@@ -12,7 +12,7 @@ use Rattle.spec_node.specs.declared.node_ref.NodeRef.{NodeRef}
 use Rattle.spec_node.specs.declared.node_ref.Part.{Part}
 use Rattle.spec_node.specs.declared.node_ref.Part.TheVariants as parts
 use Rattle.xt_engine.specs.View.{call_of}
-use Rattle.xt_record.specs.declared.pool.Key.{Key}
+use Rattle.xt_record.specs.declared.key.Key.{Key}
 use Rattle.xt_record.specs.declared.record.Record.{Record}
 
 -- built-in rules have one number, whatever their mode

@@ -2,6 +2,9 @@ pub mod Kept
 pub mod View
 pub mod Names
 pub mod Chain
+pub mod Grown
+pub mod Taken
+pub mod Reached
 pub mod Asked
 pub mod Sure
 pub mod Search

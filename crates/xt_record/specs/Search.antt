@@ -3,6 +3,7 @@
 --     Stands                   the record at a place
 --     PassedAmong, PassedOver  none that was passed over may serve
 --     StandOn                  what stood at a place still does
+--     next_of                  what the next run is given
 use Rattle.std.specs.Prelude.{◌≡◌, ℕ, ◌-◌, ◌*◌, ◌^◌, ◌<◌, List, Option, IfSome}
 use Rattle.std.specs.declared.rc.Rc.{Rc}
 use Rattle.std.specs.declared.alloc.Global.{Global}
@@ -10,6 +11,7 @@ use Rattle.spec_meaning.specs.Question.{Question, Answer}
 use Rattle.spec_run.specs.Plan.{Call}
 use Rattle.spec_node.specs.declared.node_ref.NodeRef.{NodeRef}
 use Rattle.xt_record.specs.View.{kept_in, DoesNotServe, IsAt, MayServe}
+use Rattle.xt_record.specs.Grown.{values_of}
 use Rattle.xt_record.specs.declared.record.Record.{Record}
 use Rattle.xt_record.specs.declared.reuse.Found.{Found}
 use Rattle.xt_record.specs.declared.reuse.Reuse.{Reuse}
@@ -50,3 +52,9 @@ PassedOver ask call below reuse from found =
 -- each record stands where it stood
 abbrev pub StandOn : Reuse → Reuse → Type 0
 StandOn before after = (at : ℕ) (r : Record) → Stands before at r → Stands after at r
+
+-- ---- What goes on
+
+-- the records that the next run is given
+abbrev pub next_of : Reuse → List Record
+next_of reuse = values_of reuse.next.records.items

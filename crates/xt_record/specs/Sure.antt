@@ -1,5 +1,5 @@
 -- What is sure of the records that a run may reuse.
-use Rattle.std.specs.Prelude.{◌≡◌, ◌+◌, ◌≤◌, Bool, true, false, List, [], ◌∷◌}
+use Rattle.std.specs.Prelude.{◌≡◌, ◌+◌, ◌≤◌, Bool, true, false, List, [], ◌∷◌, IfSome}
 use Rattle.std.specs.declared.rc.Rc.{Rc}
 use Rattle.std.specs.declared.alloc.Global.{Global}
 use Rattle.spec_meaning.specs.Question.{Question, Answer}
@@ -9,6 +9,8 @@ use Rattle.xt_touch.specs.View.{since_of}
 use Rattle.xt_spared.specs.View.{IsSparedBy}
 use Rattle.xt_spared.specs.declared.spared.Spared.{Spared}
 use Rattle.xt_record.specs.View.{kept_in, AsksHold}
+use Rattle.xt_record.specs.Chain.{keys_in}
+use Rattle.xt_record.specs.Grown.{values_of, AreTrees}
 use Rattle.xt_record.specs.Asked.{marked_left, marked_of}
 use Rattle.xt_record.specs.declared.pool.Pool.{Pool}
 use Rattle.xt_record.specs.declared.record.Record.{Record}
@@ -39,9 +41,10 @@ AllJudged ask [] (r ∷ rs) = ⊥
 AllJudged ask (v ∷ vs) [] = ⊥
 AllJudged ask (v ∷ vs) (r ∷ rs) = IsTrueOf ask v r.value × AllJudged ask vs rs
 
--- the questions of all that a run kept have their answers
-abbrev pub AreAnswered : (Question NodeRef → Answer NodeRef) → Pool → Type 0
-AreAnswered ask pool = AllHold ask pool.records.items
+-- the questions of all that a run kept have their answers, and its trees are so
+pub record AreAnswered (ask : Question NodeRef → Answer NodeRef) (pool : Pool) : Type 0 where
+  pub hold : AllHold ask pool.records.items
+  pub trees : AreTrees (values_of pool.records.items) pool.trees.items
 
 -- ---- What need not be asked again
 
@@ -60,11 +63,16 @@ AllSpared ask spared (r ∷ rs) = AsksSpared ask spared (kept_in r.value).trace 
 
 -- ---- What a run may reuse
 
--- the questions of what this run kept have these answers, and those of the last run are as they were found to be, and each question of the last run
--- that is spared has its answer. No more questions were asked than these changes mark of the records of the last run that were judged
+-- the questions of what this run kept have these answers, those of the last run are as they were found to be, and each question of the last run
+-- that is spared has its answer. No more questions were asked than these changes mark of the records of the last run that were judged. The trees are
+-- so, and those of the last run were put in order as they stand, if they were
 pub record IsSure (ask : Question NodeRef → Answer NodeRef) (reuse : Reuse) : Type 0 where
   pub kept : AllHold ask reuse.kept.records.items
   pub judged : AllJudged ask reuse.verdicts.items reuse.last.now.records.items
   pub spared : AllSpared ask reuse.spared.now reuse.last.now.records.items
   pub counted : reuse.steps.asked + marked_left (since_of reuse.spared.now.since.now) reuse.verdicts.items reuse.last.now.records.items
       ≤ marked_of (since_of reuse.spared.now.since.now) reuse.last.now
+  pub next : AllHold ask reuse.next.records.items
+  pub grown : AreTrees (values_of reuse.next.records.items) reuse.next.trees.items
+  pub trees : AreTrees (values_of reuse.last.now.records.items) reuse.last.now.trees.items
+  pub ordered : IfSome reuse.in_order (λ index. keys_in index.records.items ≡ keys_in reuse.last.now.records.items)

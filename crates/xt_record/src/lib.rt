@@ -14,18 +14,25 @@
 
 mod asking;
 mod calls;
+mod frames;
+mod growing;
+mod index;
 mod keeping;
+mod key;
 mod matching;
 mod places;
 mod pool;
 mod record;
 mod reuse;
 mod same;
+mod taking;
+mod tree;
 
 pub use calls::same_call;
 pub use keeping::a_record_lasts;
 pub use places::a_record_stands;
 pub use pool::Pool;
 pub use record::Record;
-pub use reuse::{Found, Reuse, Steps};
+pub use reuse::{Found, Reuse, Said, Steps};
 pub use same::{same_rule_if, same_streams, same_value};
+pub use tree::Summary;

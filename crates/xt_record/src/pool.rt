@@ -1,50 +1,41 @@
-// Records, by their calls.
-ghost use Rattle.std.specs.Prelude.{◌≡◌, ◌<◌, ◌≤◌, ◌++◌, ◌∷◌, [], true, length, get_or, map, slice_get, slice_index_or, IfOk, IfSome, IfNone, OnOk, Some};
+// What a run keeps.
+ghost use Rattle.std.specs.Bool.{Decides};
+ghost use Rattle.std.specs.Prelude.{◌≡◌, ℕ, ◌<◌, ◌≤◌, ◌+◌, ◌-◌, ◌++◌, ◌∷◌, [], suc, length, get_or, slice_get, IfOk, IfSome, IfNone, OnOk, Some};
 ghost use Rattle.spec_reuse.specs.Serving.{IsOf};
-ghost use Rattle.indexmap.specs.IndexMap.{get};
-ghost use Rattle.xt_engine.specs.View.{call_of, target_of};
+ghost use Rattle.xt_engine.specs.View.{call_of};
 ghost use Rattle.xt_record.specs.View.{kept_in, DoesNotSuit};
-ghost use Rattle.xt_record.specs.Chain.{earlier, key_of, keys_in, part_number, same_key, unit_number, IsChained, IsLatest};
+ghost use Rattle.xt_record.specs.Chain.{key_of, keys_in, IsLatest};
 
 use crate::Record;
+use crate::key::{Key, key_of};
 use crate::matching::is_of;
-use indexmap::IndexMap;
+use crate::tree::{Summary, Tree};
 use std::alloc::Global;
 use std::rc::Rc;
-use xt_engine::{Call, Target};
+use xt_engine::Call;
 use xt_text::Memory;
-use xt_tree::Part;
 
-/// The records that a run kept.
+/// The records that a run keeps, each behind those of what its call entered.
 #[derive(Drop)]
 pub struct Pool {
-    // In the order in which they were kept.
-    records: Vec<Rc<Record>>,
-    // The turn of the latest of each key, and of each record that of the one before it with the same key; its own where it
-    // is the first. A key has no list of its own, which would be memory taken and given back for nearly each record.
-    latest: IndexMap<Key, usize>,
-    before: Vec<usize>,
-    ghost paired: { length before.items ≡ length records.items },
-    ghost chained: { ∥ IsChained (keys_in records.items) (get same_key latest) before.items ∥₁ },
-}
-
-// The numbers of a unit and of a node. Built-in rules have one number, whatever their mode.
-#[derive(Clone, Copy, Debug, PartialEq, Eq, Hash)]
-struct Key {
-    unit: u64,
-    node: u64,
-    part: u64,
+    pub(crate) records: Vec<Rc<Record>>,
+    // The numbers by which each is found, and its tree.
+    keys: Vec<Key>,
+    pub(crate) trees: Vec<Tree>,
+    ghost keyed: { ∥ keys.items ≡ keys_in records.items ∥₁ },
+    ghost paired: { length trees.items ≡ length records.items },
 }
 
 impl Pool {
     /// No records. Takes no memory.
     pub fn new(alloc: Global) -> Pool
-        ensures { result.records.items ≡ [] }
+        ensures records { result.records.items ≡ [] }
+        ensures trees { result.trees.items ≡ [] }
     {
         Pool {
             records: Vec::new(alloc),
-            latest: IndexMap::new(alloc),
-            before: Vec::new(alloc),
+            keys: Vec::new(alloc),
+            trees: Vec::new(alloc),
         }
     }
 
@@ -62,73 +53,64 @@ impl Pool {
         self.records.len()
     }
 
-    /// Adds a record.
-    pub(crate) fn add(&mut self, kept: Rc<Record>) -> Result<(), Memory>
-        ensures { OnOk result (self.new.records.items ≡ self.old.records.items ++ kept ∷ []) }
+    /// Adds a record with its tree.
+    pub(crate) fn add(&mut self, kept: Rc<Record>, tree: Tree) -> Result<(), Memory>
+        ensures records { OnOk result (self.new.records.items ≡ self.old.records.items ++ kept ∷ []) }
+        ensures trees { OnOk result (self.new.trees.items ≡ self.old.trees.items ++ tree ∷ []) }
     {
-        // What can fail comes first, so that all three go in step.
+        // What can fail comes first, so that all go in step.
         self.records.reserve(1)?;
-        self.before.reserve(1)?;
+        self.keys.reserve(1)?;
+        self.trees.reserve(1)?;
         let key = key_of(&kept.call);
-        let turn = self.records.len();
-        let before = self.latest.insert(key, turn)?;
-        self.before.push(before.unwrap_or(turn)).unwrap();
+        self.keys.push(key).unwrap();
+        self.trees.push(tree).unwrap();
         self.records.push(kept).unwrap();
         Ok(())
     }
 
-    /// The turn of the latest record before this turn that has the key of this call.
+    /// The turn of the latest record before this turn that has the key of this call. It goes over all behind it.
     pub(crate) fn latest_before(&self, call: &Call, turn: usize) -> Option<usize>
         ensures below { IfSome result (λ t. t < turn) }
         ensures latest { ∥ IsLatest (keys_in self.now.records.items) (key_of (call_of call.now)) turn result ∥₁ }
     {
-        if turn == 0 {
-            return None;
-        }
         let key = key_of(call);
-        if self.has_key(turn, key) {
-            return self.earlier(turn);
+        let mut end = nearer(turn, self.keys.len());
+        while end > 0 {
+            let at = end - 1;
+            if self.has_key(at, key) {
+                return Some(at);
+            }
+            end = at;
         }
-        self.latest_below(key, turn)
+        None
     }
 
-    // Where it says so, the record at this turn has this key.
+    // Whether the record at this turn has this key.
     fn has_key(&self, turn: usize, key: Key) -> bool
-        ensures { result ≡ true → slice_get (keys_in self.now.records.items) turn ≡ Some key }
+        requires { turn < length self.now.keys.items }
+        ensures { Decides result (slice_get self.now.keys.items turn ≡ Some key) }
     {
-        if turn >= self.records.len() {
+        self.keys[turn] == key
+    }
+
+    /// Whether the record at this turn has the key of this call.
+    pub(crate) fn is_at(&self, turn: usize, call: &Call) -> bool {
+        if turn >= self.keys.len() {
             return false;
         }
-        let record = &self.records[turn];
-        key_of(&record.call) == key
+        self.has_key(turn, key_of(call))
     }
 
-    // The turn of the latest record before that at this turn which has the same key.
-    fn earlier(&self, turn: usize) -> Option<usize>
-        requires { turn < length self.now.records.items }
-        ensures below { IfSome result (λ t. t < turn) }
-        ensures turn { result ≡ earlier turn (slice_index_or self.now.before.items turn turn) }
+    /// What the tree of the record at this turn says, where it says all by itself.
+    pub(crate) fn whole_at(&self, turn: usize) -> Option<&Rc<Summary>>
+        ensures within { IfSome result (λ w. turn < length self.now.records.items) }
+        ensures tree { IfSome result (λ w. IfSome (slice_get self.now.trees.items turn) (λ t. t.whole ≡ Some w.now)) }
     {
-        let before = self.before[turn];
-        if before < turn { Some(before) } else { None }
-    }
-
-    // The turn of the latest record before this turn that has this key, where the one at this turn has another or there is
-    // none. The latest of all is mostly before it.
-    fn latest_below(&self, key: Key, turn: usize) -> Option<usize>
-        ensures below { IfSome result (λ t. t < turn) }
-        ensures latest { ∥ IsLatest (keys_in self.now.records.items) key turn result ∥₁ }
-    {
-        let Some(mut latest) = self.latest.get(&key).copied() else {
+        if turn >= self.trees.len() {
             return None;
-        };
-        while latest >= turn {
-            match self.earlier(latest) {
-                None => return None,
-                Some(before) => latest = before,
-            }
         }
-        Some(latest)
+        self.trees[turn].whole.as_ref()
     }
 
     /// The record at this turn, where it is of the call and there are the levels for it.
@@ -157,34 +139,64 @@ impl Pool {
         }
         Ok(Some(record.clone()?))
     }
-}
 
-fn key_of(call: &Call) -> Key
-    ensures { result ≡ key_of (call_of call.now) }
-{
-    Key {
-        unit: unit_number(&call.target),
-        node: call.node.node.number,
-        part: part_number(call.node.part),
+    /// The record at this turn.
+    pub(crate) fn record_at(&self, turn: usize) -> &Rc<Record>
+        requires { turn < length self.now.records.items }
+        ensures { slice_get self.now.records.items turn ≡ Some result.now }
+    {
+        &self.records[turn]
+    }
+
+    /// Its tree.
+    pub(crate) fn tree_at(&self, turn: usize) -> &Tree
+        requires { turn < length self.now.trees.items }
+        ensures { slice_get self.now.trees.items turn ≡ Some result.now }
+    {
+        &self.trees[turn]
+    }
+
+    /// The turns of what was entered by the call of the record at this turn, the first at the end.
+    pub(crate) fn turns_below(&self, alloc: Global, turn: usize) -> Result<Vec<usize>, Memory> {
+        if turn >= self.trees.len() {
+            return Ok(Vec::new(alloc));
+        }
+        self.turns_between(alloc, self.first_of(turn), turn)
+    }
+
+    /// The turns of what no other entered, the first at the end.
+    pub(crate) fn turns_of_all(&self, alloc: Global) -> Result<Vec<usize>, Memory> {
+        self.turns_between(alloc, 0, self.trees.len())
+    }
+
+    // Those of the trees that stand side by side from the first turn up to the end.
+    fn turns_between(&self, alloc: Global, first: usize, end: usize) -> Result<Vec<usize>, Memory> {
+        let mut turns = Vec::new(alloc);
+        let mut end = end.min(self.trees.len());
+        while end > first {
+            let turn = end - 1;
+            turns.push(turn)?;
+            end = self.first_of(turn);
+        }
+        Ok(turns)
+    }
+
+    /// The turn of the first record of the tree at this turn.
+    pub(crate) fn first_of(&self, turn: usize) -> usize
+        requires { turn < length self.now.trees.items }
+        ensures within { result ≤ turn }
+        ensures first { IfSome (slice_get self.now.trees.items turn) (λ t. 0 < t.size → result ≡ suc turn - t.size) }
+    {
+        let size = self.trees[turn].size;
+        (turn + 1).saturating_sub(size).min(turn)
     }
 }
 
-fn unit_number(target: &Target) -> u64
-    ensures { result ≡ unit_number (target_of target.now) }
+// The turn, or the count where it is less.
+fn nearer(turn: usize, count: usize) -> usize
+    ensures turn { result ≤ turn }
+    ensures count { result ≤ count }
+    ensures behind { (t : ℕ) → result ≤ t → t < turn → count ≤ t }
 {
-    match target {
-        Target::Unit(element) => element.node.number,
-        Target::BuiltIn(_) => u64::MAX,
-    }
-}
-
-// Apart for the parts of one node, as long as they are few.
-fn part_number(part: Part) -> u64
-    ensures { result ≡ part_number part }
-{
-    match part {
-        Part::Itself => 0,
-        Part::Attribute(number) => number,
-        Part::Namespace(number) => u64::MAX - number,
-    }
+    if turn < count { turn } else { count }
 }

@@ -1,18 +1,24 @@
 // What a run may reuse.
-ghost use Rattle.std.specs.Prelude.{◌≡◌, ◌<◌, ◌≤◌, ◌+◌, ◌++◌, ◌∷◌, [], length, get_or, min, IfOk, IfSome, IfNone, OnOk};
+ghost use Rattle.std.specs.Prelude.{◌≡◌, ◌<◌, ◌≤◌, ◌+◌, ◌++◌, ◌∷◌, [], true, length, get_or, slice_get, min, suc, IfOk, IfSome, IfNone, OnOk, Some};
 ghost use Rattle.std.specs.Bool.{Decides};
 ghost use Rattle.spec_meaning.specs.Question.{Question, Answer};
 ghost use Rattle.spec_node.specs.declared.node_ref.NodeRef.{NodeRef};
 ghost use Rattle.xt_engine.specs.View.{call_of};
 ghost use Rattle.xt_record.specs.View.{AsksHold, DoesNotServe, DoesNotSuit, IsAt, MayServe, kept_in};
-ghost use Rattle.xt_record.specs.Asked.{Judges, marked_of};
+ghost use Rattle.xt_record.specs.Asked.{Judges, marked_of, StaysSo};
+ghost use Rattle.xt_record.specs.Chain.{key_of, keys_in, IsLatest};
+ghost use Rattle.xt_record.specs.Grown.{values_of, IsSaidAt, IsTakenOver};
 ghost use Rattle.xt_record.specs.Sure.{AreAnswered, IsSure, verdict_of};
-ghost use Rattle.xt_record.specs.Search.{PassedAmong, PassedOver, Stands, StandsAmong, kept_place, last_place, most};
+ghost use Rattle.xt_record.specs.Search.{PassedAmong, PassedOver, Stands, StandsAmong, kept_place, last_place, most, next_of};
 ghost use Rattle.xt_record.specs.declared.reuse.Verdict.TheVariants as Verdict;
-ghost use Rattle.xt_spared.specs.View.{Spares};
+ghost use Rattle.xt_spared.specs.View.{IsSparedBy, Spares};
+ghost use Rattle.xt_touch.specs.Named.{Covers};
 ghost use Rattle.xt_touch.specs.View.{since_of};
 
 use crate::asking::asks_hold;
+use crate::frames::Frames;
+use crate::index::Index;
+use crate::tree::Summary;
 use crate::{Pool, Record};
 use std::alloc::Global;
 use std::rc::Rc;
@@ -51,8 +57,13 @@ pub struct Found {
     pub record: Rc<Record>,
     /// From where to look for the next.
     pub next: u64,
-    /// Whether this run keeps it already.
-    pub is_kept: bool,
+}
+
+/// A tree of the last run that says by itself what a call comes to.
+#[derive(Drop)]
+pub struct Said {
+    pub record: Rc<Record>,
+    pub whole: Rc<Summary>,
 }
 
 /// What a run may reuse: the records of the last finished run, and those that it keeps itself. It finds what may serve
@@ -64,9 +75,20 @@ pub struct Reuse<'a> {
     spared: &'a Spared<'a>,
     // One for each record of the last run.
     verdicts: Vec<Verdict>,
-    kept: Pool,
+    // Those of the last run by their calls, once many were looked for.
+    in_order: Option<Index>,
+    // How many were looked for without.
+    looks: u8,
+    // What was made or served in this run, but for trees that were taken over.
+    kept: Index,
+    // All that the next run is given, and which calls are under way.
+    next: Pool,
+    frames: Frames,
     steps: Steps,
 }
+
+// So many records of the last run are looked for one by one, before they are put in order by their calls.
+const FEW: u8 = 64;
 
 impl<'a> Reuse<'a> {
     /// Nothing is kept yet and nothing counted, and no question of the last run was asked. Those that are spared have the
@@ -76,14 +98,20 @@ impl<'a> Reuse<'a> {
         ensures last { IfOk result (λ reuse. reuse.last.now ≡ last.now) }
         ensures spared { IfOk result (λ reuse. reuse.spared.now ≡ spared.now) }
         ensures kept { IfOk result (λ reuse. reuse.kept.records.items ≡ []) }
+        ensures next { IfOk result (λ reuse. next_of reuse ≡ []) }
         ensures ran { IfOk result (λ reuse. reuse.steps.ran ≡ 0) }
         ensures asked { IfOk result (λ reuse. reuse.steps.asked ≡ 0) }
     {
+        let frames = Frames::new(alloc, last)?;
         Ok(Reuse {
             last,
             spared,
             verdicts: vec![in alloc; Verdict::Unasked; last.count()]?,
-            kept: Pool::new(alloc),
+            in_order: None,
+            looks: 0,
+            kept: Index::new(alloc),
+            next: Pool::new(alloc),
+            frames,
             steps: Steps { ran: 0, asked: 0 },
         })
     }
@@ -93,6 +121,32 @@ impl<'a> Reuse<'a> {
     /// nothing is found twice, and none that is passed over may serve. Where the questions of a record were not asked in this
     /// run, those that are not spared are asked up to the first that has another answer, and counted.
     pub fn find<W: World>(
+        &mut self,
+        alloc: Global,
+        world: &mut W,
+        call: &Call,
+        below: u64,
+        from: u64,
+    ) -> Result<Option<Found>, Memory>
+        requires sure { IsSure (W.state world.now).truth self.now }
+        ensures sure { OnOk result (IsSure (W.state world.old).truth self.new) }
+        ensures serves { IfOk result (λ o. IfSome o (λ f. MayServe (W.state world.old).truth (call_of call.now) below (kept_in f.record.value))) }
+        ensures next { IfOk result (λ o. IfSome o (λ f. from < f.next)) }
+        ensures stands { IfOk result (λ o. IfSome o (λ f. Stands self.old f.next f.record.value)) }
+        ensures complete { IfOk result (PassedOver (W.state world.old).truth (call_of call.now) below self.old from) }
+        ensures judges { Judges self.old self.new }
+        ensures truth { (W.state world.new).truth ≡ (W.state world.old).truth }
+        ensures name { W.name world.new ≡ W.name world.old }
+    {
+        let found = self.find_any(alloc, world, call, below, from)?;
+        let turn = turn_of(&found);
+        let count = self.next.count();
+        self.frames.go_along(alloc, self.last, turn, count)?;
+        Ok(found)
+    }
+
+    // The same, where it does not matter which call is under way.
+    fn find_any<W: World>(
         &mut self,
         alloc: Global,
         world: &mut W,
@@ -158,11 +212,7 @@ impl<'a> Reuse<'a> {
         let suiting = self.kept.suiting(alloc, turn, call, below)?;
         match suiting {
             None => Ok(None),
-            Some(kept) => Ok(Some(Found {
-                record: kept,
-                next,
-                is_kept: true,
-            })),
+            Some(kept) => Ok(Some(Found { record: kept, next })),
         }
     }
 
@@ -186,17 +236,53 @@ impl<'a> Reuse<'a> {
         ensures name { W.name world.new ≡ W.name world.old }
     {
         let mut end = (2 * LAST).saturating_sub(from.max(LAST)) as usize;
-        while let Some(turn) = self.last.latest_before(call, end) {
+        while let Some(turn) = self.latest_before(alloc, call, end)? {
             if let Some(record) = self.of_last(alloc, world, turn, call, below)? {
                 return Ok(Some(Found {
                     record,
                     next: 2 * LAST - turn as u64,
-                    is_kept: false,
                 }));
             }
             end = turn;
         }
         Ok(None)
+    }
+
+    // The turn of the latest record of the last run before this turn that has the key of this call.
+    fn latest_before(
+        &mut self,
+        alloc: Global,
+        call: &Call,
+        turn: usize,
+    ) -> Result<Option<usize>, Memory>
+        ensures sure { OnOk result ((ask : Question NodeRef → Answer NodeRef) → IsSure ask self.old → IsSure ask self.new) }
+        ensures below { IfOk result (λ o. IfSome o (λ t. t < turn)) }
+        ensures latest { IfOk result (λ o. (ask : Question NodeRef → Answer NodeRef) → IsSure ask self.old → ∥ IsLatest (keys_in self.old.last.now.records.items) (key_of (call_of call.now)) turn o ∥₁) }
+        ensures stays { StaysSo self.old self.new }
+        ensures next { self.new.next ≡ self.old.next }
+    {
+        if self.looks < FEW {
+            self.looks = self.looks + 1;
+            return Ok(self.last.latest_before(call, turn));
+        }
+        self.put_in_order(alloc)?;
+        match &self.in_order {
+            None => Ok(self.last.latest_before(call, turn)),
+            Some(index) => Ok(index.latest_before(call, turn)),
+        }
+    }
+
+    // Makes the index of the last run's.
+    fn put_in_order(&mut self, alloc: Global) -> Result<(), Memory>
+        ensures sure { OnOk result ((ask : Question NodeRef → Answer NodeRef) → IsSure ask self.old → IsSure ask self.new) }
+        ensures stays { StaysSo self.old self.new }
+        ensures next { self.new.next ≡ self.old.next }
+    {
+        if self.in_order.is_some() {
+            return Ok(());
+        }
+        self.in_order = Some(index_of(alloc, self.last.records())?);
+        Ok(())
     }
 
     // The record of the last run at this turn, where it may serve the call.
@@ -260,12 +346,139 @@ impl<'a> Reuse<'a> {
     pub fn keep(&mut self, alloc: Global, kept: Rc<Record>) -> Result<(), Memory>
         ensures sure { OnOk result ((ask : Question NodeRef → Answer NodeRef) → IsSure ask self.old → AsksHold ask (kept_in kept.value).trace → IsSure ask self.new) }
         ensures kept { OnOk result (self.new.kept.records.items ≡ self.old.kept.records.items ++ kept ∷ []) }
+        ensures next { OnOk result (next_of self.new ≡ next_of self.old ++ kept.value ∷ []) }
         ensures last { self.new.last ≡ self.old.last }
         ensures spared { self.new.spared ≡ self.old.spared }
         ensures steps { self.new.steps ≡ self.old.steps }
     {
-        let _ = alloc;
+        self.plant(alloc, &kept)?;
         self.kept.add(kept)
+    }
+
+    /// Keeps it for the next run alone, behind what the call entered that is under way. That call is done with.
+    pub fn plant(&mut self, alloc: Global, kept: &Rc<Record>) -> Result<(), Memory>
+        ensures sure { OnOk result ((ask : Question NodeRef → Answer NodeRef) → IsSure ask self.old → AsksHold ask (kept_in kept.now.value).trace → IsSure ask self.new) }
+        ensures next { OnOk result (next_of self.new ≡ next_of self.old ++ kept.now.value ∷ []) }
+        ensures stays { StaysSo self.old self.new }
+    {
+        let mark = self.frames.close(self.next.count());
+        self.next.plant(alloc, kept.clone()?, mark)
+    }
+
+    /// The call that is under way is done with, and nothing is kept of it.
+    pub fn leave(&mut self)
+        ensures sure { (ask : Question NodeRef → Answer NodeRef) → IsSure ask self.old → IsSure ask self.new }
+        ensures next { self.new.next ≡ self.old.next }
+        ensures stays { StaysSo self.old self.new }
+    {
+        let _ = self.frames.close(0);
+    }
+
+    /// What a tree of the last run says by itself of a call, where one stood in its place, with so many levels left. It is
+    /// kept for the next run. Where there is none the call is under way.
+    pub fn said(&mut self, alloc: Global, call: &Call, levels: u64) -> Result<Option<Said>, Memory>
+        ensures sure { OnOk result ((ask : Question NodeRef → Answer NodeRef) → IsSure ask self.old → IsSure ask self.new) }
+        ensures said { IfOk result (λ o. IfSome o (λ x. (ask : Question NodeRef → Answer NodeRef) → IsSure ask self.old → IsTakenOver ask (values_of self.old.last.now.records.items) (next_of self.old) (next_of self.new) (call_of call.now) levels x.whole.value x.record.value)) }
+        ensures unsaid { IfOk result (λ o. IfNone o (next_of self.new ≡ next_of self.old)) }
+        ensures stays { StaysSo self.old self.new }
+    {
+        if levels == 0 {
+            return Ok(None);
+        }
+        let count = self.next.count();
+        match self.frames.open(alloc, self.last, call, count)? {
+            None => Ok(None),
+            Some(turn) => self.said_at(alloc, turn, call, levels),
+        }
+    }
+
+    // The tree of the record at this turn of the last run, where it says all of the call.
+    fn said_at(
+        &mut self,
+        alloc: Global,
+        turn: usize,
+        call: &Call,
+        levels: u64,
+    ) -> Result<Option<Said>, Memory>
+        ensures sure { OnOk result ((ask : Question NodeRef → Answer NodeRef) → IsSure ask self.old → IsSure ask self.new) }
+        ensures said { IfOk result (λ o. IfSome o (λ x. (ask : Question NodeRef → Answer NodeRef) → IsSure ask self.old → IsTakenOver ask (values_of self.old.last.now.records.items) (next_of self.old) (next_of self.new) (call_of call.now) levels x.whole.value x.record.value)) }
+        ensures unsaid { IfOk result (λ o. IfNone o (next_of self.new ≡ next_of self.old)) }
+        ensures stays { StaysSo self.old self.new }
+    {
+        let Some(said) = self.tree_for(alloc, turn, call, levels)? else {
+            return Ok(None);
+        };
+        self.next.take_over(self.last, turn)?;
+        let _ = self.frames.close(0);
+        Ok(Some(said))
+    }
+
+    // The record at this turn of the last run with what its tree says, where that is all of the call.
+    fn tree_for(
+        &self,
+        alloc: Global,
+        turn: usize,
+        call: &Call,
+        levels: u64,
+    ) -> Result<Option<Said>, Memory>
+        ensures said { IfOk result (λ o. IfSome o (λ x. (ask : Question NodeRef → Answer NodeRef) → IsSure ask self.now → IsSaidAt ask (values_of self.now.last.now.records.items) self.now.last.now.trees.items turn (call_of call.now) levels x.whole.value x.record.value)) }
+        ensures within { IfOk result (λ o. IfSome o (λ x. turn < length self.now.last.now.records.items)) }
+    {
+        match self.whole_for(turn, levels) {
+            None => Ok(None),
+            Some(whole) => self.said_by(alloc, whole, turn, call, levels),
+        }
+    }
+
+    // What the tree of the record at this turn of the last run says, where that is for fewer levels and need not be asked.
+    fn whole_for(&self, turn: usize, levels: u64) -> Option<&Rc<Summary>>
+        ensures within { IfSome result (λ w. turn < length self.now.last.now.records.items) }
+        ensures tree { IfSome result (λ w. IfSome (slice_get self.now.last.now.trees.items turn) (λ t. t.whole ≡ Some w.now)) }
+        ensures room { IfSome result (λ w. suc w.now.value.levels ≤ levels) }
+        ensures spares { IfSome result (λ w. (question : Question NodeRef) → Covers w.now.value.named question → IsSparedBy self.now.spared.now question) }
+    {
+        let whole = self.last.whole_at(turn)?;
+        if !has_room(whole, levels) {
+            return None;
+        }
+        if !self.spares_all(whole) {
+            return None;
+        }
+        Some(whole)
+    }
+
+    // Where it says so, no question of a tree need be asked.
+    fn spares_all(&self, whole: &Rc<Summary>) -> bool
+        ensures { result ≡ true → (question : Question NodeRef) → Covers whole.now.value.named question → IsSparedBy self.now.spared.now question }
+    {
+        self.spared.spares_all(&whole.named)
+    }
+
+    // The record at this turn of the last run with this, which its tree says, where it is of the call.
+    fn said_by(
+        &self,
+        alloc: Global,
+        whole: &Rc<Summary>,
+        turn: usize,
+        call: &Call,
+        levels: u64,
+    ) -> Result<Option<Said>, Memory>
+        requires within { turn < length self.now.last.now.records.items }
+        requires tree { IfSome (slice_get self.now.last.now.trees.items turn) (λ t. t.whole ≡ Some whole.now) }
+        requires room { suc whole.now.value.levels ≤ levels }
+        requires spares { (question : Question NodeRef) → Covers whole.now.value.named question → IsSparedBy self.now.spared.now question }
+        ensures said { IfOk result (λ o. IfSome o (λ x. (ask : Question NodeRef → Answer NodeRef) → IsSure ask self.now → IsSaidAt ask (values_of self.now.last.now.records.items) self.now.last.now.trees.items turn (call_of call.now) levels x.whole.value x.record.value)) }
+        ensures within { IfOk result (λ o. IfSome o (λ x. turn < length self.now.last.now.records.items)) }
+    {
+        let copy = whole.clone()?;
+        let suiting = self.last.suiting(alloc, turn, call, levels)?;
+        match suiting {
+            None => Ok(None),
+            Some(record) => Ok(Some(Said {
+                record,
+                whole: copy,
+            })),
+        }
     }
 
     /// Counts an instantiation that is run.
@@ -274,6 +487,7 @@ impl<'a> Reuse<'a> {
         ensures last { self.new.last ≡ self.old.last }
         ensures spared { self.new.spared ≡ self.old.spared }
         ensures kept { self.new.kept ≡ self.old.kept }
+        ensures next { self.new.next ≡ self.old.next }
         ensures ran { self.new.steps.ran ≡ min (self.old.steps.ran + 1) u64.MAX }
         ensures asked { self.new.steps.asked ≡ self.old.steps.asked }
     {
@@ -282,7 +496,7 @@ impl<'a> Reuse<'a> {
 
     /// What the run kept, whose questions have their answers, and what it cost.
     pub fn ended(self) -> (Pool, Steps)
-        ensures kept { result.0 ≡ self.entry.kept }
+        ensures next { result.0 ≡ self.entry.next }
         ensures steps { result.1 ≡ self.entry.steps }
         ensures answered { (ask : Question NodeRef → Answer NodeRef) → IsSure ask self.entry → AreAnswered ask result.0 }
         ensures asked { (ask : Question NodeRef → Answer NodeRef) → IsSure ask self.entry → result.1.asked ≤ marked_of (since_of self.entry.spared.now.since.now) self.entry.last.now }
@@ -291,11 +505,18 @@ impl<'a> Reuse<'a> {
             last,
             spared,
             verdicts,
+            in_order,
+            looks,
             kept,
+            next,
+            frames,
             steps,
         } = self;
         drop(verdicts);
-        (kept, steps)
+        drop(in_order);
+        drop(kept);
+        drop(frames);
+        (next, steps)
     }
 }
 
@@ -307,4 +528,30 @@ fn verdict_of(holds: bool) -> Verdict
     } else {
         Verdict::Fails
     }
+}
+
+// Where it says so, what a tree says is for fewer levels.
+fn has_room(whole: &Rc<Summary>, levels: u64) -> bool
+    ensures { result ≡ true → suc whole.now.value.levels ≤ levels }
+{
+    whole.levels < levels
+}
+
+// The turn of a record of the last run that was found.
+fn turn_of(found: &Option<Found>) -> Option<usize> {
+    match found {
+        None => None,
+        Some(found) => Some((2 * LAST).saturating_sub(found.next) as usize),
+    }
+}
+
+// These records, in order by their calls.
+fn index_of(alloc: Global, records: &[Rc<Record>]) -> Result<Index, Memory>
+    ensures { IfOk result (λ index. keys_in index.records.items ≡ keys_in records.now) }
+{
+    let mut index = Index::new(alloc);
+    for kept in records {
+        index.add(kept.clone()?)?;
+    }
+    Ok(index)
 }

@@ -139,6 +139,12 @@ free_for (Failed why messages) counts h = free_at why.code counts h
 
 -- ---- What changes speak of, and what is adopted
 
+-- what a change brings by the first number that is free, where that number is given otherwise
+pub brings_from : (numbered : ℕ → NumberedDocuments) (is_of_module : Bool) (held : Held) (ready : Ready) (first other : ℕ) → first ≡ other
+    → Brings (numbered first) is_of_module held ready → Brings (numbered other) is_of_module held ready
+brings_from numbered is_of_module held ready first other same h =
+    subst (λ (n : ℕ). Brings (numbered n) is_of_module held ready) same h
+
 documents_by : (held : Held) (batch : Option Batch)
     → documents_of held ≡ unwrap_or (option_map (λ (b : Batch). documents_of held) batch) (present_by batch (edited_basis held)).documents
 documents_by held None = refl

@@ -1,12 +1,13 @@
 -- How the replies of a demonstration are counted, and that these are the counts of a run of the machine.
 use Rattle.std.proofs.Common.{◌≡◌, ℕ, zero, suc, ◌+◌, ◌*◌, ◌≤◌, List, [], ◌∷◌, ◌++◌, length, refl, sym, ◌∙◌, ap, subst, arith, append_assoc, append-nil, length-append}
-use Rattle.std.specs.Prelude.{cond, codes}
+use Rattle.std.specs.Prelude.{cond, codes, decimal}
 use Rattle.std.specs.List.{flat_map}
 use Rattle.std.proofs.lemmas.List.Concat.{flat_map-append}
 use Rattle.std.proofs.lemmas.List.Sums.{sum_by-append}
 use Rattle.spec_session.specs.Command.{Command}
-use Rattle.spec_session.specs.Reply.{Reply, reply_bytes}
+use Rattle.spec_session.specs.Reply.{Reply, reply_bytes, with_newline}
 use Rattle.spec_session.specs.Machine.{State, initial, Run}
+use Rattle.spec_session.specs.Served.{Demonstrates}
 use Rattle.spec_session.specs.Generated.{Place, behind, begins_with, changes, first_place, generated, replies_with, show_command}
 use Rattle.xt_held.specs.declared.held.Held.{Held}
 use Rattle.xt_session.specs.declared.counts.Counts.{Counts}
@@ -22,6 +23,18 @@ pub record HasCounted (size : ℕ) (left : List Command) (state : State) (counts
   pub refused : counts.refused ≡ replies_with (codes "no ") replies
   pub bytes : counts.bytes ≡ length (flat_map reply_bytes replies)
   pub few : counts.all + length left ≤ 10003
+
+-- the text that tells these counts is the summary
+pub demonstrates : (size : ℕ) (counts : Counts) (text : List ℕ) → HasAnswered size counts
+    → text ≡ with_newline (codes "demo " ++ decimal size ++ codes " ok " ++ decimal counts.accepted ++ codes " no " ++ decimal counts.refused
+    ++ codes " bytes " ++ decimal counts.bytes) → Demonstrates size text
+demonstrates size counts text h is = record {
+  replies = h.replies;
+  state = h.state;
+  run = h.run;
+  is_summary = is ∙ (λ i. with_newline (codes "demo " ++ decimal size ++ codes " ok " ++ decimal (h.accepted i)
+      ++ codes " no " ++ decimal (h.refused i) ++ codes " bytes " ++ decimal (h.bytes i)));
+}
 
 -- ---- The number of commands
 

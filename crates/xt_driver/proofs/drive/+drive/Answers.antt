@@ -50,6 +50,9 @@ use Rattle.xt_driver.proofs.Telling.{along_begun, along_whole, along_to, along_d
 use Rattle.xt_driver.proofs.Running.{Running, over_from, for_from, running_begun, running_entered, running_referred, running_done, running_failed, done_same, failed_same}
 use Rattle.xt_driver.proofs.Finding.{looked_given, counts_evaluated, evaluated_idle}
 use Rattle.xt_driver.proofs.Coming.{Ask, sure_there, of_streamed, of_taken, of_takes, of_reference, as_served, on_is, on_all, of_evaluates}
+use Rattle.xt_record.specs.Grown.{values_of}
+use Rattle.xt_record.proofs.Ok.{if_both}
+use Rattle.xt_driver.proofs.Said.{counts_from, counts_said, lasts_said, means_said, outcome_said, said_in, unsaid_in}
 use Rattle.xt_driver.proofs.drive.+drive.Goals as goal
 
 pub run_call-loop-standing-smaller-in-Continue-branch-4 : goal.run_call-loop-standing-smaller-in-Continue-branch-4
@@ -812,7 +815,7 @@ serve-loop-found-preserved g t c =
           let lost_so = unserved (λ v. OfRun s i mid (CountsFollowed v s i k mid later)) c.follow-served.result none followed h ready_now in
           let next = tried_next s i begun now later c.find.new.self from found c.find.ensures.judges passed stands h t lost_so in
           let still = tried_still s i begun later c.tried.new.reuse found.next next tells.last
-          (kept_none c.follow-served.result later.reuse.kept.records.items c.tried.new.reuse.kept.records.items found none tells.kept) tells.steps in
+          (kept_none c.follow-served.result later.reuse c.tried.new.reuse found none tells.kept) tells.steps in
           let F : ℕ → Type 0 = λ n. Tried s i begun (hand_of c.tried.new.reuse c.follow-served.new.memo) n in
           subst F (sym c.next_turn-from.ensures.same) still;
       sure = sure_there inv.truth (c.in_ok-tried-in-Some.ensures.sure there (sure_there c.find.ensures.truth (on_is c.follow-served.result c.in_ok-tried-in-Some.ensures.came c.follow-served.ensures.sure)) may.asks);
@@ -872,8 +875,8 @@ serve-returns-in-Some-2-clause-sure g t c =
     = some_of (λ f. MayServe there (call_of c.args.call.now) c.args.below (kept_in f.record.value)) c.in_ok-find.field-0 found c.in-Some.is c.in_ok-find.ensures.serves in
     sure_there inv.truth (c.in_ok-tried-in-Some.ensures.sure there (sure_there c.find.ensures.truth (on_is c.follow-served.result c.in_ok-tried-in-Some.ensures.came c.follow-served.ensures.sure)) may.asks)
 
-pub means-returns-in-As-clause-lasts : goal.means-returns-in-As-clause-lasts
-means-returns-in-As-clause-lasts g t c =
+pub means_anew-returns-in-As-clause-lasts : goal.means_anew-returns-in-As-clause-lasts
+means_anew-returns-in-As-clause-lasts g t c =
     let truth = (g.W.World.state c.args.world.now).truth in
     let globals = c.args.globals.now in
     let s = setting_of truth globals in
@@ -884,8 +887,8 @@ means-returns-in-As-clause-lasts g t c =
     let room : suc (c.args.levels - 1) ≡ c.args.levels = omega arith in
     (served_as s past v (suc (c.args.levels - 1)) c.args.levels mid call c.in-As.outcome c.in_ok-outcome.ensures.served c.in-As.is room).1
 
-pub means-returns-in-As-clause-meaning : goal.means-returns-in-As-clause-meaning
-means-returns-in-As-clause-meaning g t c =
+pub means_anew-returns-in-As-clause-meaning : goal.means_anew-returns-in-As-clause-meaning
+means_anew-returns-in-As-clause-meaning g t c =
     let truth = (g.W.World.state c.args.world.now).truth in
     let globals = c.args.globals.now in
     let s = setting_of truth globals in
@@ -896,8 +899,8 @@ means-returns-in-As-clause-meaning g t c =
     let room : suc (c.args.levels - 1) ≡ c.args.levels = omega arith in
     (served_as s past v (suc (c.args.levels - 1)) c.args.levels mid call c.in-As.outcome c.in_ok-outcome.ensures.served c.in-As.is room).0
 
-pub means-run_call-requires : goal.means-run_call-requires
-means-run_call-requires g t c =
+pub means_anew-run_call-requires : goal.means_anew-run_call-requires
+means_anew-run_call-requires g t c =
     let truth = (g.W.World.state c.args.world.now).truth in
     let globals = c.args.globals.now in
     let past = past_of globals in
@@ -909,13 +912,13 @@ means-run_call-requires g t c =
     let lost = served_not (setting_of truth globals) past c.in_ok-outcome.field-0 (suc (c.args.levels - 1)) mid (call_of c.args.call.now) c.in-Not.lost c.in_ok-outcome.ensures.served c.in-Not.is in
     λ κs lives. (omega (arith, room), (lives.0, (lives.1.0, (lives.1.1, (remembers, (sure_there (sym there) c.in_ok-outcome.ensures.sure, lost_there at past c.in-Not.lost there lost))))))
 
-pub means-returns-in_ok-ended-in-Not-clause-keeps : goal.means-returns-in_ok-ended-in-Not-clause-keeps
-means-returns-in_ok-ended-in-Not-clause-keeps g t c =
+pub means_anew-returns-in_ok-ended-in-Not-clause-keeps : goal.means_anew-returns-in_ok-ended-in-Not-clause-keeps
+means_anew-returns-in_ok-ended-in-Not-clause-keeps g t c =
     let globals = c.args.globals.now in
     on_any c.keep_ended.result (keeps_there (λ a. setting_of a globals) (past_of globals) (entries_of c.args.memo.now) (entries_of c.serve.new.memo) (entries_of c.run_call.new.memo) c.serve.ensures.truth c.in_ok-outcome.ensures.keeps c.in_ok-ended-in-Not.ensures.keeps)
 
-pub means-returns-in_ok-ended-in-Not-clause-lasts : goal.means-returns-in_ok-ended-in-Not-clause-lasts
-means-returns-in_ok-ended-in-Not-clause-lasts g t c =
+pub means_anew-returns-in_ok-ended-in-Not-clause-lasts : goal.means_anew-returns-in_ok-ended-in-Not-clause-lasts
+means_anew-returns-in_ok-ended-in-Not-clause-lasts g t c =
     let truth = (g.W.World.state c.args.world.now).truth in
     let globals = c.args.globals.now in
     let past = past_of globals in
@@ -929,8 +932,8 @@ means-returns-in_ok-ended-in-Not-clause-lasts g t c =
     let lasts = subst Q room (subst P c.serve.ensures.truth c.in_ok-ended-in-Not.ensures.lasts) in
     if_ok c.keep_ended.result c.keep_ended.ensures.outcome (λ o h. subst R (sym h) lasts)
 
-pub means-returns-in_ok-ended-in-Not-clause-meaning : goal.means-returns-in_ok-ended-in-Not-clause-meaning
-means-returns-in_ok-ended-in-Not-clause-meaning g t c =
+pub means_anew-returns-in_ok-ended-in-Not-clause-meaning : goal.means_anew-returns-in_ok-ended-in-Not-clause-meaning
+means_anew-returns-in_ok-ended-in-Not-clause-meaning g t c =
     let truth = (g.W.World.state c.args.world.now).truth in
     let globals = c.args.globals.now in
     let past = past_of globals in
@@ -941,8 +944,8 @@ means-returns-in_ok-ended-in-Not-clause-meaning g t c =
     ∙ ap (λ n. meaning (setting_of truth globals) n past 0 call) room in
     if_ok c.keep_ended.result c.keep_ended.ensures.outcome (λ o h. ap (λ (x : Box Came Allocator). outcome_of x.value) h ∙ meant)
 
-pub means-returns-in_ok-ended-in-Not-clause-sure : goal.means-returns-in_ok-ended-in-Not-clause-sure
-means-returns-in_ok-ended-in-Not-clause-sure g t c =
+pub means_anew-returns-in_ok-ended-in-Not-clause-sure : goal.means_anew-returns-in_ok-ended-in-Not-clause-sure
+means_anew-returns-in_ok-ended-in-Not-clause-sure g t c =
     on_all c.keep_ended.result c.keep_ended.ensures.sure (λ keeps. sure_there c.serve.ensures.truth (keeps (g.W.World.state c.serve.new.world).truth c.in_ok-ended-in-Not.ensures.sure c.in_ok-ended-in-Not.ensures.asks))
 
 pub need-returns-in-Some-clause-keeps : goal.need-returns-in-Some-clause-keeps
@@ -1070,7 +1073,8 @@ run_call-loop-standing-init g t c =
       stands = subst Q (sym (ap streams_of c.in_ok-standing.ensures.parts)) (subst P (sym (ap gift_of c.in_ok-standing.ensures.given)) (stands_begun l p refl c.in_ok-standing.ensures.started));
       onward = onward_begun l all begun.spare p (gift_of begun.given) refl c.requires.remembers c.in_ok-standing.ensures.started (ap gift_of c.in_ok-standing.ensures.given);
       running = λ h ready. running_begun l c.args.lost.now p (gift_of begun.given) (hand_of c.args.reuse.now c.args.memo.now) c.count_run.new.self
-          c.in_ok-standing.ensures.started (ap gift_of c.in_ok-standing.ensures.given) h ready c.count_run.ensures.last c.count_run.ensures.kept c.count_run.ensures.ran;
+          c.in_ok-standing.ensures.started (ap gift_of c.in_ok-standing.ensures.given) h ready c.count_run.ensures.last c.count_run.ensures.kept
+          c.count_run.ensures.next c.count_run.ensures.ran;
       sure = c.count_run.ensures.sure truth c.requires.sure;
       truth = refl;
       name = refl;
@@ -1256,15 +1260,15 @@ serve-returns-in-Some-2-clause-counts g t c =
     let may : MayServe there i.call i.below k = some_of (λ f. MayServe there i.call i.below (kept_in f.record.value)) c.in_ok-find.field-0 found c.in-Some.is c.in_ok-find.ensures.serves in
     let A : Ask → Type 0 = λ a. AsksHold a k.trace in
     let asks = subst A inv.truth may.asks in
-    let K : Result Served Memory → Type 0 = λ r. IsKeptToo r later.reuse.kept.records.items c.tried.new.reuse.kept.records.items found in
+    let K : Result Served Memory → Type 0 = λ r. IsKeptToo r later.reuse c.tried.new.reuse found in
     λ h ready.
     let t = inv.tried h ready in
     let ready_now = (front_judged s i first now c.find.new.self from c.find.ensures.judges t).ready in
     let went = as_served (λ x. OfRun s i mid (CountsFollowed x s i k mid later)) v c.follow-served.result is followed h ready_now in
     answered s i first now later c.find.new.self c.tried.new.reuse from found v c.find.ensures.judges stands h t went asks answer (subst K is tells.kept) tells.last tells.steps
 
-pub means-returns-in-As-clause-counts : goal.means-returns-in-As-clause-counts
-means-returns-in-As-clause-counts g t c =
+pub means_anew-returns-in-As-clause-counts : goal.means_anew-returns-in-As-clause-counts
+means_anew-returns-in-As-clause-counts g t c =
     let truth = (g.W.World.state c.args.world.now).truth in
     let globals = c.args.globals.now in
     let s = setting_of truth globals in
@@ -1276,8 +1280,8 @@ means-returns-in-As-clause-counts g t c =
     let P : Served → Type 0 = λ v. OfRun s i first (CountsServed v s i first later) in
     means_served s i c.args.levels first later room (subst P c.in-As.is c.in_ok-outcome.ensures.counts)
 
-pub means-returns-in_ok-ended-in-Not-clause-counts : goal.means-returns-in_ok-ended-in-Not-clause-counts
-means-returns-in_ok-ended-in-Not-clause-counts g t c =
+pub means_anew-returns-in_ok-ended-in-Not-clause-counts : goal.means_anew-returns-in_ok-ended-in-Not-clause-counts
+means_anew-returns-in_ok-ended-in-Not-clause-counts g t c =
     let truth = (g.W.World.state c.args.world.now).truth in
     let globals = c.args.globals.now in
     let s = setting_of truth globals in
@@ -1477,8 +1481,67 @@ run_call-returns-in-Failed-clause-made_of g t c =
     let adv : Advances truth gift (prog old.run) (prog new.run) (Err fault) = stepped gift (prog old.run) (prog new.run) l.call below inv.truth c.in-Failed.is c.in_ok-inner.ensures.steps in
     failed_same l (prog old.run) (prog new.run) gift ss fault c.in_ok-outcome-in-Failed.outcome.value stands adv c.in_ok-outcome-in-Failed.ensures
 
-pub means-returns-then-levels-eq0-clause-counts : goal.means-returns-then-levels-eq0-clause-counts
-means-returns-then-levels-eq0-clause-counts g t c =
+pub means_anew-returns-then-levels-eq0-clause-counts : goal.means_anew-returns-then-levels-eq0-clause-counts
+means_anew-returns-then-levels-eq0-clause-counts g t c =
     let globals = c.args.globals.now in
     on_any c.too_deep.result (means_none (setting_of (g.W.World.state c.args.world.now).truth globals) (past_of globals) (call_of c.args.call.now) c.args.levels
     (hand_of c.args.reuse.now c.args.memo.now) (omega arith))
+
+-- ---- A tree says it by itself
+
+pub means-returns-in-Some-clause-lasts : goal.means-returns-in-Some-clause-lasts
+means-returns-in-Some-clause-lasts g t c =
+    let truth = (g.W.World.state c.args.world.now).truth in
+    let globals = c.args.globals.now in
+    let s = setting_of truth globals in
+    let past = past_of globals in
+    let call = call_of c.args.call.now in
+    let x = c.in-Some.said in
+    let last = values_of c.args.reuse.now.last.now.records.items in
+    let said = (said_in truth c.args.reuse.now c.said.new.self call c.args.levels c.in_ok-said.field-0 x c.in-Some.is c.in_ok-said.ensures.said
+    c.requires.sure).said in
+    if_ok c.whole_again.result (if_both _ _ c.whole_again.result c.whole_again.ensures.outcome c.whole_again.ensures.spare) (λ o both.
+    let spare = both.1 in
+    let low = said.room in
+    lasts_said s last call c.args.levels x.whole.value x.record.value refl said past (entries_of c.args.memo.now) (c.args.levels - o.value.spare)
+    (outcome_of o.value) (omega (arith, spare, low))
+    (outcome_said s last call c.args.levels x.whole.value x.record.value refl said (outcome_of o.value) both.0))
+
+pub means-returns-in-Some-clause-meaning : goal.means-returns-in-Some-clause-meaning
+means-returns-in-Some-clause-meaning g t c =
+    let truth = (g.W.World.state c.args.world.now).truth in
+    let globals = c.args.globals.now in
+    let s = setting_of truth globals in
+    let past = past_of globals in
+    let call = call_of c.args.call.now in
+    let x = c.in-Some.said in
+    let last = values_of c.args.reuse.now.last.now.records.items in
+    let said = (said_in truth c.args.reuse.now c.said.new.self call c.args.levels c.in_ok-said.field-0 x c.in-Some.is c.in_ok-said.ensures.said
+    c.requires.sure).said in
+    if_ok c.whole_again.result c.whole_again.ensures.outcome (λ o is.
+    means_said s last call c.args.levels x.whole.value x.record.value refl said past (outcome_of o.value)
+    (outcome_said s last call c.args.levels x.whole.value x.record.value refl said (outcome_of o.value) is))
+
+pub means-returns-in-Some-clause-counts : goal.means-returns-in-Some-clause-counts
+means-returns-in-Some-clause-counts g t c =
+    let truth = (g.W.World.state c.args.world.now).truth in
+    let globals = c.args.globals.now in
+    let s = setting_of truth globals in
+    let call = call_of c.args.call.now in
+    let x = c.in-Some.said in
+    let last = values_of c.args.reuse.now.last.now.records.items in
+    let taken = said_in truth c.args.reuse.now c.said.new.self call c.args.levels c.in_ok-said.field-0 x c.in-Some.is c.in_ok-said.ensures.said
+    c.requires.sure in
+    on_any c.whole_again.result (counts_said s last call c.args.levels x.whole.value x.record.value refl taken.said c.args.reuse.now c.said.new.self refl
+    c.said.ensures.stays taken.next (past_of globals) (entries_of c.args.memo.now))
+
+pub means-returns-in-None-clause-counts : goal.means-returns-in-None-clause-counts
+means-returns-in-None-clause-counts g t c =
+    let truth = (g.W.World.state c.args.world.now).truth in
+    let globals = c.args.globals.now in
+    let s = setting_of truth globals in
+    let past = past_of globals in
+    let none = unsaid_in c.args.reuse.now c.said.new.self c.in_ok-said.field-0 c.in-None.is c.in_ok-said.ensures.unsaid in
+    on_all c.means_anew.result c.means_anew.ensures.counts (λ over.
+    counts_from s past.values (entered s c.args.levels past 0 (call_of c.args.call.now)) c.args.reuse.now c.said.new.self (entries_of c.args.memo.now)
+    (hand_of c.means_anew.new.reuse c.means_anew.new.memo) c.said.ensures.stays none over)

@@ -18,25 +18,28 @@ use Rattle.xt_engine.specs.Progress.{received}
 use Rattle.xt_driver.proofs.drive.+drive.Given as goal
 
 abbrev pub decreases-means : goal.decreases-means
-decreases-means g l = 8 * l.levels
+decreases-means g l = 1 + 8 * l.levels
+
+abbrev pub decreases-means_anew : goal.decreases-means_anew
+decreases-means_anew g l = 8 * l.levels
 
 abbrev pub decreases-refer : goal.decreases-refer
-decreases-refer g l = 1 + 8 * l.levels
+decreases-refer g l = 2 + 8 * l.levels
 
 abbrev pub decreases-need : goal.decreases-need
-decreases-need g l = 2 + 8 * l.levels
+decreases-need g l = 3 + 8 * l.levels
 
 abbrev pub decreases-follow : goal.decreases-follow
-decreases-follow g l = 3 + 8 * l.below
+decreases-follow g l = 4 + 8 * l.below
 
 abbrev pub decreases-go_on : goal.decreases-go_on
-decreases-go_on g l = 2 + 8 * l.below
+decreases-go_on g l = 3 + 8 * l.below
 
 abbrev pub decreases-run_call : goal.decreases-run_call
-decreases-run_call g l = 3 + 8 * l.below
+decreases-run_call g l = 4 + 8 * l.below
 
 abbrev pub decreases-serve : goal.decreases-serve
-decreases-serve g l = 4 + 8 * l.below
+decreases-serve g l = 5 + 8 * l.below
 
 -- the candidates so far did not serve
 abbrev pub invariant-serve-loop-found : goal.invariant-serve-loop-found

@@ -1,8 +1,11 @@
-use Rattle.std.proofs.Common.{Option, sym, subst}
+use Rattle.std.proofs.Common.{Option, sym, ap, subst}
 use Rattle.std.specs.Prelude.{Box}
 use Rattle.std.specs.declared.alloc.Global.{Global}
 use Rattle.xt_engine.specs.declared.event.Ran.{Ran}
 use Rattle.xt_engine.specs.View.{call_of}
+use Rattle.xt_record.specs.Grown.{values_of}
+use Rattle.xt_record.specs.declared.index.Index.{Index}
+use Rattle.xt_record.specs.declared.pool.Pool.{Pool}
 use Rattle.xt_driver.specs.Made.{MadeHolds}
 use Rattle.xt_driver.specs.Counted.{IsMadeToo}
 use Rattle.xt_driver.proofs.keep.keep_ended.Goals as goal
@@ -14,7 +17,16 @@ returns-in_ok-keep_run-in-Some-clause-sure c = λ ask before asks.
 
 pub returns-in_ok-keep_run-in-Some-clause-kept : goal.returns-in_ok-keep_run-in-Some-clause-kept
 returns-in_ok-keep_run-in-Some-clause-kept c =
-    let old = c.args.reuse.now.kept.records.items in
-    let new = c.keep_run.new.reuse.kept.records.items in
-    let P : Option (Box Ran Global) → Type 0 = λ r. IsMadeToo old new (call_of c.args.call.now) r in
+    let P : Option (Box Ran Global) → Type 0 = λ r. IsMadeToo c.args.reuse.now c.keep_run.new.reuse (call_of c.args.call.now) r in
     subst P (sym c.in-Some.is) c.in_ok-keep_run-in-Some.ensures.kept
+
+pub returns-in-None-clause-sure : goal.returns-in-None-clause-sure
+returns-in-None-clause-sure c = λ ask sure holds. c.leave.ensures.sure ask sure
+
+pub returns-in-None-clause-kept : goal.returns-in-None-clause-kept
+returns-in-None-clause-kept c =
+    let Made : Option (Box Ran Global) → Type 0 = λ o. IsMadeToo c.args.reuse.now c.leave.new.self (call_of c.args.call.now) o in
+    subst Made (sym c.in-None.is) (record {
+      kept = ap (λ (x : Index). x.records.items) c.leave.ensures.stays.kept;
+      next = ap (λ (x : Pool). values_of x.records.items) c.leave.ensures.next;
+    })

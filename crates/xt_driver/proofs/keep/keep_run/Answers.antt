@@ -6,6 +6,7 @@ use Rattle.xt_engine.specs.View.{call_of}
 use Rattle.xt_engine.specs.Advances.{ran_of}
 use Rattle.xt_record.specs.Kept.{kept_with}
 use Rattle.xt_record.specs.View.{kept_in, AsksHold}
+use Rattle.xt_record.proofs.Ok.{on_both}
 use Rattle.xt_driver.proofs.Coming.{on_all}
 use Rattle.xt_driver.proofs.keep.keep_run.Goals as goal
 
@@ -21,4 +22,5 @@ pub returns-clause-kept : goal.returns-clause-kept
 returns-clause-kept c =
     let same = ap kept_in c.in_ok-shared.ensures.ok ∙ c.new-kept.ensures ∙ ap (λ k. kept_with k (ran_of c.into_inner-ran.result)) c.in_ok-call.ensures
     ∙ ap (λ r. kept_with (call_of c.args.call.now) (ran_of r)) c.into_inner-ran.ensures in
-    on_all c.keep.result c.keep.ensures.kept (λ kept. (c.in_ok-shared.shared, kept, same))
+    on_all c.keep.result (on_both _ _ c.keep.result c.keep.ensures.kept c.keep.ensures.next) (λ kept.
+    (c.in_ok-shared.shared, record { kept = kept.0; next = kept.1 }, same))

@@ -15,17 +15,18 @@ returns-clause-run g c =
 pub returns-clause-counts : goal.returns-clause-counts
 returns-clause-counts g c =
     let s = setting_in (g.W.World.state c.args.world.now).truth c.args.root c.args.globals.now in
-    whole_at (λ is. OnOk c.run_in.result (CountedWhole s is c.args.reuse.now c.run_in.new.reuse)) s c.levels_of_a_run.result c.levels_of_a_run.ensures
-    c.run_in.ensures.counts
+    λ within. whole_at (λ is. OnOk c.run_in.result (CountedWhole s is c.args.reuse.now c.run_in.new.reuse)) s c.levels_of_a_run.result
+    c.levels_of_a_run.ensures (c.run_in.ensures.counts within)
 
 pub returns-clause-kept : goal.returns-clause-kept
 returns-clause-kept g c =
     let s = setting_in (g.W.World.state c.args.world.now).truth c.args.root c.args.globals.now in
-    whole_at (λ is. OnOk c.run_in.result (KeepsAll s is c.run_in.new.reuse)) s c.levels_of_a_run.result c.levels_of_a_run.ensures c.run_in.ensures.kept
+    λ within. whole_at (λ is. OnOk c.run_in.result (KeepsAll s is c.run_in.new.reuse)) s c.levels_of_a_run.result c.levels_of_a_run.ensures
+    (c.run_in.ensures.kept within)
 
 pub returns-clause-only : goal.returns-clause-only
 returns-clause-only g c =
     let s = setting_in (g.W.World.state c.args.world.now).truth c.args.root c.args.globals.now in
-    only_so s c.args.reuse.now c.run_in.new.reuse c.run_in.result
+    λ within. only_so s c.args.reuse.now c.run_in.new.reuse c.run_in.result
     (whole_at (λ is. OnOk c.run_in.result (StaysLikeRun s c.args.reuse.now c.run_in.new.reuse)) s c.levels_of_a_run.result c.levels_of_a_run.ensures
-    c.run_in.ensures.only)
+    (c.run_in.ensures.only within))

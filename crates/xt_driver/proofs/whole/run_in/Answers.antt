@@ -21,8 +21,8 @@ loop-global-init g c =
     record {
       same = ap (λ vs. run s c.args.levels s.globals (map held_of vs) c.new-told.result.items (root_call s)) c.new-values.ensures.items ∙ ap (λ t. run s c.args.levels s.globals [] t (root_call s)) c.new-told.ensures.items;
       remembers = nothing_yet s (at_turn (map held_of c.new-values.result.items)) c.nothing_remembered-memo.ensures;
-      turns = λ of_run. turns_begun s c.args.levels s.globals (map held_of c.new-values.result.items) (root_call s) c.args.reuse.now (entries_of c.nothing_remembered-memo.result)
-          (ap (map held_of) c.new-values.ensures.items) c.nothing_remembered-memo.ensures;
+      turns = λ within of_run. turns_begun s c.args.levels s.globals (map held_of c.new-values.result.items) (root_call s) c.args.reuse.now (entries_of c.nothing_remembered-memo.result)
+          (ap (map held_of) c.new-values.ensures.items) c.nothing_remembered-memo.ensures within;
       sure = c.requires;
       truth = refl;
       name = refl;
@@ -65,11 +65,11 @@ loop-global-preserved g c =
     record {
       same = held ∙ sym next ∙ inv.same;
       remembers = remembers_next s values all (named_of n) memo t.held c.in_ok-refusal.refusal turns.remembers c.in-None.is c.in_ok-refusal.ensures.held;
-      turns = λ of_run. turns_on s levels (named_of n) gs values all call t.held c.in_ok-refusal.refusal (entered_by_run s levels s.globals [] call)
+      turns = λ within of_run. turns_on s levels (named_of n) gs values all call t.held c.in_ok-refusal.refusal (entered_by_run s levels s.globals [] call)
           (record { reuse = c.args.reuse.now; entries = [] }) (hand_of c.loop-global.reuse c.loop-global.memo) (hand_of c.turn.new.reuse c.turn.new.memo) of_run
           turns.turned.held c.in-None.is c.in_ok-refusal.ensures.held
           (turns_next s levels named i n values call (entered_by_run s levels s.globals [] call) (record { reuse = c.args.reuse.now; entries = [] })
-          (hand_of c.loop-global.reuse c.loop-global.memo) (omega arith) c.global-item.is (inv.turns of_run))
+          (hand_of c.loop-global.reuse c.loop-global.memo) (omega arith) c.global-item.is (inv.turns within of_run))
           (over_at root named (named_of n) levels (hand_of c.loop-global.reuse c.loop-global.memo) (hand_of c.turn.new.reuse c.turn.new.memo) inv.truth
           c.as_slice.ensures.value refl c.in_ok-turned.ensures.counts);
       sure = sure_there inv.truth c.in_ok-turned.ensures.sure;
@@ -157,12 +157,12 @@ returns-in-Some-clause-counts g c =
     let all = map held_of c.take_turn.new.values.items in
     let gs = map named_of (drop (i + 1) named) in
     let first : Hand = record { reuse = c.args.reuse.now; entries = [] } in
-    λ of_run. on_ok c.halted.result c.halted.ensures (λ w h.
+    λ within of_run. on_ok c.halted.result c.halted.ensures (λ w h.
     (turns_refused s levels (named_of n) gs values all call t.held c.in_ok-refusal.refusal c.in-Some.why (entered_by_run s levels s.globals [] call)
     first (hand_of c.loop-global.reuse c.loop-global.memo) (hand_of c.turn.new.reuse c.turn.new.memo) of_run turns.turned.held c.in-Some.is
     c.in_ok-refusal.ensures.held
     (turns_next s levels named i n values call (entered_by_run s levels s.globals [] call) first (hand_of c.loop-global.reuse c.loop-global.memo) (omega arith)
-    c.global-item.is (inv.turns of_run))
+    c.global-item.is (inv.turns within of_run))
     (over_at root named (named_of n) levels (hand_of c.loop-global.reuse c.loop-global.memo) (hand_of c.turn.new.reuse c.turn.new.memo) inv.truth
     c.as_slice.ensures.value refl c.in_ok-turned.ensures.counts)).0)
 
@@ -183,12 +183,12 @@ returns-in-Some-clause-kept g c =
     let all = map held_of c.take_turn.new.values.items in
     let gs = map named_of (drop (i + 1) named) in
     let first : Hand = record { reuse = c.args.reuse.now; entries = [] } in
-    λ of_run. on_ok c.halted.result c.halted.ensures (λ w h.
+    λ within of_run. on_ok c.halted.result c.halted.ensures (λ w h.
     (turns_refused s levels (named_of n) gs values all call t.held c.in_ok-refusal.refusal c.in-Some.why (entered_by_run s levels s.globals [] call)
     first (hand_of c.loop-global.reuse c.loop-global.memo) (hand_of c.turn.new.reuse c.turn.new.memo) of_run turns.turned.held c.in-Some.is
     c.in_ok-refusal.ensures.held
     (turns_next s levels named i n values call (entered_by_run s levels s.globals [] call) first (hand_of c.loop-global.reuse c.loop-global.memo) (omega arith)
-    c.global-item.is (inv.turns of_run))
+    c.global-item.is (inv.turns within of_run))
     (over_at root named (named_of n) levels (hand_of c.loop-global.reuse c.loop-global.memo) (hand_of c.turn.new.reuse c.turn.new.memo) inv.truth
     c.as_slice.ensures.value refl c.in_ok-turned.ensures.counts)).1)
 
@@ -209,12 +209,12 @@ returns-in-Some-clause-only g c =
     let all = map held_of c.take_turn.new.values.items in
     let gs = map named_of (drop (i + 1) named) in
     let first : Hand = record { reuse = c.args.reuse.now; entries = [] } in
-    λ of_run. on_ok c.halted.result c.halted.ensures (λ w h.
+    λ within of_run. on_ok c.halted.result c.halted.ensures (λ w h.
     (turns_refused s levels (named_of n) gs values all call t.held c.in_ok-refusal.refusal c.in-Some.why (entered_by_run s levels s.globals [] call)
     first (hand_of c.loop-global.reuse c.loop-global.memo) (hand_of c.turn.new.reuse c.turn.new.memo) of_run turns.turned.held c.in-Some.is
     c.in_ok-refusal.ensures.held
     (turns_next s levels named i n values call (entered_by_run s levels s.globals [] call) first (hand_of c.loop-global.reuse c.loop-global.memo) (omega arith)
-    c.global-item.is (inv.turns of_run))
+    c.global-item.is (inv.turns within of_run))
     (over_at root named (named_of n) levels (hand_of c.loop-global.reuse c.loop-global.memo) (hand_of c.turn.new.reuse c.turn.new.memo) inv.truth
     c.as_slice.ensures.value refl c.in_ok-turned.ensures.counts)).2)
 
@@ -236,8 +236,8 @@ returns-clause-counts g c =
     let is = entered_by_run s levels s.globals [] call in
     let over = root_over root named levels c.first_means-came.result now later (c.root_call.ensures.truth ∙ inv.truth) c.as_slice-2.ensures.value refl same
     c.first_means-came.ensures.counts in
-    λ of_run. on_ok c.finished.result c.finished.ensures (λ w f.
-    (turns_ended s levels values call is first now later of_run (turns_none s levels named i values call is first now (omega arith) (inv.turns of_run))
+    λ within of_run. on_ok c.finished.result c.finished.ensures (λ w f.
+    (turns_ended s levels values call is first now later of_run (turns_none s levels named i values call is first now (omega arith) (inv.turns within of_run))
     (of_finished w c.loop-global.told.items c.first_means-came.result f over)).0)
 
 pub returns-clause-kept : goal.returns-clause-kept
@@ -258,8 +258,8 @@ returns-clause-kept g c =
     let is = entered_by_run s levels s.globals [] call in
     let over = root_over root named levels c.first_means-came.result now later (c.root_call.ensures.truth ∙ inv.truth) c.as_slice-2.ensures.value refl same
     c.first_means-came.ensures.counts in
-    λ of_run. on_ok c.finished.result c.finished.ensures (λ w f.
-    (turns_ended s levels values call is first now later of_run (turns_none s levels named i values call is first now (omega arith) (inv.turns of_run))
+    λ within of_run. on_ok c.finished.result c.finished.ensures (λ w f.
+    (turns_ended s levels values call is first now later of_run (turns_none s levels named i values call is first now (omega arith) (inv.turns within of_run))
     (of_finished w c.loop-global.told.items c.first_means-came.result f over)).1)
 
 pub returns-clause-only : goal.returns-clause-only
@@ -280,6 +280,6 @@ returns-clause-only g c =
     let is = entered_by_run s levels s.globals [] call in
     let over = root_over root named levels c.first_means-came.result now later (c.root_call.ensures.truth ∙ inv.truth) c.as_slice-2.ensures.value refl same
     c.first_means-came.ensures.counts in
-    λ of_run. on_ok c.finished.result c.finished.ensures (λ w f.
-    (turns_ended s levels values call is first now later of_run (turns_none s levels named i values call is first now (omega arith) (inv.turns of_run))
+    λ within of_run. on_ok c.finished.result c.finished.ensures (λ w f.
+    (turns_ended s levels values call is first now later of_run (turns_none s levels named i values call is first now (omega arith) (inv.turns within of_run))
     (of_finished w c.loop-global.told.items c.first_means-came.result f over)).2)

@@ -4,7 +4,7 @@ use Rattle.xt_engine.specs.View.{named_of}
 use Rattle.xt_record.specs.Sure.{IsSure}
 use Rattle.spec_reuse.specs.Instantiation.{entered_by_run}
 use Rattle.spec_reuse.specs.Ledger.{AreOfRun}
-use Rattle.xt_driver.specs.Counted.{hand_of}
+use Rattle.xt_driver.specs.Counted.{hand_of, IsWithin}
 use Rattle.xt_driver.proofs.Wholes.{CountedTurns}
 use Rattle.xt_driver.specs.View.{held_of, setting_in}
 use Rattle.xt_driver.specs.Remembered.{Remembers}
@@ -18,7 +18,7 @@ invariant-loop-global g l =
     record {
       same : run s l.levels (map named_of (drop l.global-index l.named)) (map held_of l.values.items) l.told.items (root_call s) ≡ run s l.levels s.globals [] [] (root_call s);
       remembers : Remembers s (at_turn (map held_of l.values.items)) (entries_of l.memo);
-      turns : AreOfRun s (entered_by_run s l.levels s.globals [] (root_call s))
+      turns : IsWithin l.fn.reuse → AreOfRun s (entered_by_run s l.levels s.globals [] (root_call s))
           → CountedTurns s l.levels (map named_of (drop l.global-index l.named)) (map held_of l.values.items) (root_call s)
           (entered_by_run s l.levels s.globals [] (root_call s)) (record { reuse = l.fn.reuse; entries = [] }) (hand_of l.reuse l.memo);
       sure : IsSure truth l.reuse;

@@ -11,7 +11,7 @@ use Rattle.xt_spared.specs.declared.spared.Spared.{Spared}
 use Rattle.xt_record.specs.declared.pool.Pool.{Pool}
 use Rattle.xt_touch.specs.View.{since_of}
 use Rattle.xt_held.specs.Cost.{setting_on}
-use Rattle.xt_held.proofs.Completing.{recorded_complete}
+use Rattle.xt_held.proofs.Completing.{begun_within, recorded_complete}
 use Rattle.xt_held.proofs.Costing.{Begins, counted_on, recorded_cost}
 use denote.Ref.{Bor}
 use Rattle.xt_held.proofs.outcome.run_recorded.Goals as goal
@@ -47,13 +47,15 @@ returns-clause-cost c =
     c.run-whole.result c.with_records.result begins (ap (λ (pool : Bor Pool). pool.now) c.run-whole.ensures.last ∙ began.last)
     (ap (λ (spared : Bor Spared). since_of spared.now.since.now) c.run-whole.ensures.spared ∙ ap (λ (spared : Spared). since_of spared.since.now) began.spared)
     (counted_on held given document c.of-root.result (c.of-root.ensures ∙ ap ref_to c.root.ensures) c.as_slice.result.now c.as_slice.ensures.value
-    (truth_at c.new-world.result) c.new-world.ensures c.run-whole.result c.in_ok-reuse.reuse c.run-whole.new.reuse c.run-whole.ensures.counts)
+    (truth_at c.new-world.result) c.new-world.ensures c.run-whole.result c.in_ok-reuse.reuse c.run-whole.new.reuse
+    (c.run-whole.ensures.counts (begun_within c.in_ok-reuse.reuse c.in_ok-reuse.ensures.next)))
     (subst (λ (ask : Ask). OnOk c.run-whole.result (IsSure ask c.run-whole.new.reuse)) c.new-world.ensures c.run-whole.ensures.sure)
     c.with_records.ensures.run c.with_records.ensures.ran c.with_records.ensures.asked
 
 pub returns-clause-complete : goal.returns-clause-complete
 returns-clause-complete c =
+    let within = begun_within c.in_ok-reuse.reuse c.in_ok-reuse.ensures.next in
     recorded_complete c.args.stylesheet.now (parameters_of c.args.parameters.now) c.args.source.now c.of-root.result (c.of-root.ensures ∙ ap ref_to c.root.ensures)
     c.as_slice.result.now c.as_slice.ensures.value (truth_at c.new-world.result) c.new-world.ensures c.in_ok-reuse.reuse c.run-whole.new.reuse
-    c.in_ok-reuse.ensures.kept c.run-whole.result c.with_records.result c.with_records.ensures.run c.with_records.ensures.kept c.run-whole.ensures.run
-    c.run-whole.ensures.kept c.run-whole.ensures.only
+    c.in_ok-reuse.ensures.next c.run-whole.result c.with_records.result c.with_records.ensures.run c.with_records.ensures.next c.run-whole.ensures.run
+    (c.run-whole.ensures.kept within) (c.run-whole.ensures.only within)

@@ -1,5 +1,5 @@
 use Rattle.std.proofs.Common.{arith}
-use Rattle.xt_record.proofs.Whole.{not_same}
+use Rattle.xt_record.proofs.Streams.{not_same}
 use Rattle.xt_record.proofs.same.same_streams.Goals as goal
 
 pub returns-then-not-branch-clause-whole : goal.returns-then-not-branch-clause-whole

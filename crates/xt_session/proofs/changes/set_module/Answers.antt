@@ -1,13 +1,13 @@
-use Rattle.std.proofs.Common.{ℕ, true, ◌∙◌, ap, subst, sym}
+use Rattle.std.proofs.Common.{ℕ, true, ◌∙◌, ap, sym}
 use Rattle.spec_document.specs.Document.{document_of}
 use Rattle.spec_document.specs.Scope.{root_scope}
 use Rattle.spec_run.specs.Documents.{with_module}
 use Rattle.spec_session.specs.Machine.{kept_by}
 use Rattle.spec_session.specs.Request.{SetModule}
 use Rattle.spec_cost.specs.Numbers.{given_module}
-use Rattle.xt_held.specs.PastView.{Brings, numbers_of}
+use Rattle.xt_held.specs.PastView.{numbers_of}
 use Rattle.xt_session.specs.State.{state_of}
-use Rattle.xt_session.proofs.Answering.{if_ok_map, kept_so, on_err_then, replies_if_adopted, replies_refusal, stays_kept}
+use Rattle.xt_session.proofs.Answering.{brings_from, if_ok_map, kept_so, on_err_then, replies_if_adopted, replies_refusal, stays_kept}
 use Rattle.xt_session.proofs.changes.set_module.Goals as goal
 
 pub returns-in-Ok-clause-ok : goal.returns-in-Ok-clause-ok
@@ -17,8 +17,8 @@ returns-in-Ok-clause-ok c =
     let kept = c.in-Ok.ensures.kept in
     let made = c.in-Ok.ensures.answer in
     let held = c.set_module.new.self in
-    let brings = subst (λ (first : ℕ). Brings (given_module name (document_of root_scope first body) (numbers_of held)) true held c.in-Ok.ready)
-    (sym kept.made) c.in-Ok.ensures.brings in
+    let brings = brings_from (λ first. given_module name (document_of root_scope first body) (numbers_of held)) true held c.in-Ok.ready
+    _ _ (sym kept.made) c.in-Ok.ensures.brings in
     replies_if_adopted _ (SetModule name body) c.adopt.result (stays_kept kept c.in-Ok.ensures.past)
     (kept_so (with_module name) _ made.0 (ap (λ (first : ℕ). document_of root_scope first body) kept.made ∙ made.1) made.2)
     brings c.adopt.ensures.ok c.adopt.ensures.past

@@ -79,4 +79,8 @@ returns-in_ok-holds-in-Unasked-clause-sure g c =
       counted = counted_now changes self.steps.asked c.asks_hold.new.steps.asked (marked_of changes self.last.now) holds now vs rs turn c.index-verdict.result.now kept (map event_of c.as_slice-events.result.now) c.verdict_of.ensures
           (omega (arith, k.within, as_many_judged truth vs rs k.sure.judged))
           c.index-verdict.ensures c.in-Unasked.is k.within k.at same c.asks_hold.ensures.steps.most k.sure.counted;
+      next = k.sure.next;
+      grown = k.sure.grown;
+      trees = k.sure.trees;
+      ordered = k.sure.ordered;
     }

@@ -1,6 +1,6 @@
 use Rattle.std.proofs.Common.{◌∙◌, sym, arith}
 use Rattle.xt_record.proofs.Chaining.{first, first_none, next, next_none, reached, reached_within}
-use Rattle.xt_record.proofs.pool.Pool.latest_below.Goals as goal
+use Rattle.xt_record.proofs.index.Index.latest_below.Goals as goal
 
 pub returns-in_default-clause-latest : goal.returns-in_default-clause-latest
 returns-in_default-clause-latest c =

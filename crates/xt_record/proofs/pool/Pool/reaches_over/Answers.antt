@@ -1,0 +1,26 @@
+use Rattle.std.proofs.Common.{◌-◌, ◌∙◌, refl, ap, subst, arith}
+use Rattle.spec_reuse.specs.Serving.{IsOf}
+use Rattle.xt_tree.specs.StreamView.{stream_of}
+use Rattle.xt_engine.specs.View.{call_of}
+use Rattle.xt_touch.specs.Named.{AreCovered}
+use Rattle.xt_record.specs.View.{kept_in}
+use Rattle.xt_record.specs.Grown.{values_of}
+use Rattle.xt_record.specs.declared.record.Record.{Record}
+use Rattle.xt_record.specs.declared.tree.Summary.{Summary}
+use Rattle.xt_record.proofs.Grown.{values_at}
+use Rattle.xt_record.proofs.Reaching.{reached_entered}
+use Rattle.xt_record.proofs.pool.Pool.reaches_over.Goals as goal
+
+pub returns-clause-reaches : goal.returns-clause-reaches
+returns-clause-reaches c = λ trees is es h.
+    let vs = values_of c.args.self.now.records.items in
+    let turn = c.args.reach.now.end - 1 in
+    let tree = trees turn c.tree_at-tree.result.now _ c.tree_at-tree.ensures c.in-Some.is in
+    let Of : Record → Type 0 = λ r. IsOf (call_of c.args.call.now) (kept_in r) in
+    let Covered : Summary → Type 0 = λ s. AreCovered s.named c.and-reach.result in
+    reached_entered vs es _ c.args.depth turn c.tree_at-tree.result.now.size _ _ c.args.reach.now _ _ tree
+    (values_at c.args.self.now.records.items turn c.record_at-record.result.now c.record_at-record.ensures)
+    (subst Of c.deref-2.ensures (c.in_ok-suits.ensures.0 c.if-not-suits.false)) (omega arith) refl c.in_ok-push.ensures.items
+    (ap stream_of c.in_ok-clone.ensures.cases ∙ ap (λ (s : Summary). stream_of s.content.value) c.deref-3.ensures)
+    c.and-reach.ensures.these (subst Covered c.deref-4.ensures c.and-reach.ensures.those) (omega (arith, c.max-reach.ensures))
+    (omega (arith, c.max-reach.ensures, ap (λ (s : Summary). s.levels) c.deref-5.ensures)) h
