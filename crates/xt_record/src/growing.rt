@@ -22,6 +22,10 @@ use xt_tree::Items;
 // No tree takes more levels.
 const MOST_LEVELS: u64 = 1 << 32;
 
+// Of a call that did more than this nothing is said. It mostly entered the items of a long list, and an edit of any of
+// them would have all said anew that is then hardly ever used.
+const MOST_EVENTS: usize = 4096;
+
 /// How far a tree has grown from the end of what its call did.
 #[derive(Drop)]
 pub(crate) struct Reach {
@@ -60,13 +64,16 @@ impl Pool {
     ) -> Result<Option<Rc<Summary>>, Memory>
         ensures { IfOk result (λ o. AreTrees (values_of self.now.records.items) self.now.trees.items → IfSome o (λ w. IsTreeAt (values_of self.now.records.items ++ kept.now ∷ []) (length self.now.records.items) (suc (length self.now.records.items - mark)) w.value)) }
     {
+        let events = kept.ran.events.as_slice();
+        if events.len() > MOST_EVENTS {
+            return Ok(None);
+        }
         let mut reach = Reach {
             end: self.count(),
             parts: Vec::new(alloc),
             named: Named::nothing(),
             levels: kept.ran.height,
         };
-        let events = kept.ran.events.as_slice();
         let mut index = events.len();
         while index > 0 {
             index = index - 1;
