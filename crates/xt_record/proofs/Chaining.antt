@@ -1,5 +1,5 @@
 -- How records of one key hang together where one is added, and where one goes along them.
-use Rattle.std.proofs.Common.{◌≡◌, ℕ, zero, suc, ◌<◌, ◌≤◌, Bool, true, false, cond, ◌&&◌, nat_eq, List, [], ◌∷◌, ◌++◌, length, length-append, slice_get, slice_index_or, Option, None, Some, unwrap_or, if◌then◌else◌, true≢false, lt-ltb, le-ltb, refl, sym, ap, subst, ◌∙◌, arith}
+use Rattle.std.proofs.Common.{◌≡◌, ℕ, zero, suc, ◌<◌, ◌≤◌, Bool, true, false, cond, ◌&&◌, nat_eq, List, [], ◌∷◌, ◌++◌, length, length-append, get_or, slice_get, slice_index_or, Option, None, Some, unwrap_or, if◌then◌else◌, true≢false, lt-ltb, le-ltb, refl, sym, ap, subst, ◌∙◌, arith}
 use Rattle.std.proofs.Math.Logic.{∥∥₁_elim, ∥∥₁_map, ∥∥₁_prop}
 use Rattle.std.proofs.lemmas.Bool.Decides.{Decides-eqb}
 use Rattle.std.specs.Coded.{le_prop}
@@ -164,6 +164,18 @@ keyed_more rs all r ks now k of more_rs more_ks keyed = ∥∥₁_map keyed (λ 
 pub keys_count : (rs : List (Rc Record Global)) → length (keys_in rs) ≡ length rs
 keys_count [] = refl
 keys_count (x ∷ rs) = omega (arith, keys_count rs)
+
+pub key_got : (ks : List Key) (turn : ℕ) (k : Key) → turn < length ks → k ≡ get_or ks turn k → slice_get ks turn ≡ Some k
+key_got [] turn k lt is = absurd (omega (arith, lt))
+key_got (x ∷ ks) zero k lt is = ap (λ (q : Key). Some q) (sym is)
+key_got (x ∷ ks) (suc turn) k lt is = key_got ks turn k (omega (arith, lt)) is
+
+-- the key that stands beside a record is its own
+pub key_there : (rs : List (Rc Record Global)) (turn : ℕ) (r : Rc Record Global) (k : Key) → slice_get rs turn ≡ Some r
+    → slice_get (keys_in rs) turn ≡ Some k → k ≡ key_in r.value
+key_there [] turn r k here at = absurd (none_some here)
+key_there (x ∷ rs) zero r k here at = sym (some_is at) ∙ ap (λ (y : Rc Record Global). key_in y.value) (some_is here)
+key_there (x ∷ rs) (suc turn) r k here at = key_there rs turn r k here at
 
 pub both_more : (rs all : List (Rc Record Global)) (r : Rc Record Global) (bs now : List ℕ) (b : ℕ) → length bs ≡ length rs → all ≡ rs ++ r ∷ []
     → now ≡ bs ++ b ∷ [] → length now ≡ length all

@@ -4,7 +4,7 @@ ghost use Rattle.std.specs.Prelude.{◌≡◌, ℕ, ◌<◌, ◌≤◌, ◌+◌,
 ghost use Rattle.spec_reuse.specs.Serving.{IsOf};
 ghost use Rattle.xt_engine.specs.View.{call_of};
 ghost use Rattle.xt_record.specs.View.{kept_in, DoesNotSuit};
-ghost use Rattle.xt_record.specs.Chain.{key_of, keys_in, IsLatest};
+ghost use Rattle.xt_record.specs.Chain.{key_in, key_of, keys_in, IsLatest};
 
 use crate::Record;
 use crate::key::{Key, key_of};
@@ -53,8 +53,29 @@ impl Pool {
         self.records.len()
     }
 
+    /// Makes room for so many records more.
+    pub(crate) fn reserve(&mut self, count: usize) -> Result<(), Memory>
+        ensures records { self.new.records.items ≡ self.old.records.items }
+        ensures trees { self.new.trees.items ≡ self.old.trees.items }
+    {
+        self.records.reserve(count)?;
+        self.keys.reserve(count)?;
+        self.trees.reserve(count)?;
+        Ok(())
+    }
+
     /// Adds a record with its tree.
     pub(crate) fn add(&mut self, kept: Rc<Record>, tree: Tree) -> Result<(), Memory>
+        ensures records { OnOk result (self.new.records.items ≡ self.old.records.items ++ kept ∷ []) }
+        ensures trees { OnOk result (self.new.trees.items ≡ self.old.trees.items ++ tree ∷ []) }
+    {
+        let key = key_of(&kept.call);
+        self.add_known(kept, key, tree)
+    }
+
+    /// The same, where its key is known.
+    pub(crate) fn add_known(&mut self, kept: Rc<Record>, key: Key, tree: Tree) -> Result<(), Memory>
+        requires { ∥ key ≡ key_in kept.value ∥₁ }
         ensures records { OnOk result (self.new.records.items ≡ self.old.records.items ++ kept ∷ []) }
         ensures trees { OnOk result (self.new.trees.items ≡ self.old.trees.items ++ tree ∷ []) }
     {
@@ -62,7 +83,6 @@ impl Pool {
         self.records.reserve(1)?;
         self.keys.reserve(1)?;
         self.trees.reserve(1)?;
-        let key = key_of(&kept.call);
         self.keys.push(key).unwrap();
         self.trees.push(tree).unwrap();
         self.records.push(kept).unwrap();
@@ -146,6 +166,14 @@ impl Pool {
         ensures { slice_get self.now.records.items turn ≡ Some result.now }
     {
         &self.records[turn]
+    }
+
+    /// Its key.
+    pub(crate) fn key_at(&self, turn: usize) -> Key
+        requires { turn < length self.now.records.items }
+        ensures { ∥ slice_get (keys_in self.now.records.items) turn ≡ Some result ∥₁ }
+    {
+        self.keys[turn]
     }
 
     /// Its tree.

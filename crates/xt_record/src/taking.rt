@@ -19,6 +19,7 @@ impl Pool {
         ensures trees { OnOk result (AreTrees (values_of others.now.records.items) others.now.trees.items → AreTrees (values_of self.old.records.items) self.old.trees.items → AreTrees (values_of self.new.records.items) self.new.trees.items) }
     {
         let first = others.first_of(turn);
+        self.reserve(turn - first + 1)?;
         let mut at = first;
         while at <= turn {
             self.take_one(others, first, at)?;
@@ -38,7 +39,8 @@ impl Pool {
         let size = tree.size;
         let whole = whole_within(tree, turn - first + 1)?;
         let record = others.record_at(turn).clone()?;
-        self.add(record, Tree { size, whole })
+        let key = others.key_at(turn);
+        self.add_known(record, key, Tree { size, whole })
     }
 }
 
