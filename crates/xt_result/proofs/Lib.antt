@@ -3,3 +3,4 @@ mod Names
 mod Openings
 mod Shapes
 mod Streams
+pub mod Silent

@@ -58,6 +58,12 @@ messages_of-followed (Message content rest) t =
     (ap (λ more. texts_of content ∷ more) (messages_of-followed rest t))
 messages_of-followed (Hole rest) t = messages_of-followed rest t
 
+-- ---- No messages
+
+pub none_first : {X : Type 0} (xs ys : List X) → xs ++ ys ≡ [] → xs ≡ []
+none_first [] ys e = refl
+none_first (x ∷ xs) ys e = absurd (cc)
+
 -- ---- What a content begins with
 
 or-assoc : (a b c : Bool) → (a || (b || c)) ≡ ((a || b) || c)

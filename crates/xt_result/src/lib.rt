@@ -6,6 +6,7 @@
 //! let lines = pyx(alloc, &tree)?;         // as PYX
 //! let text = text(alloc, &tree)?;         // the string-value of its root
 //! let messages = messages(alloc, &items)?;
+//! is_silent(&items)                       // whether there are none
 //! ```
 #![tactic(auto)]
 
@@ -22,5 +23,5 @@ mod tree;
 mod value;
 
 pub use lines::lines_of;
-pub use message::messages;
+pub use message::{is_silent, messages};
 pub use tree::{ResultTree, pyx, shape, text};

@@ -1,5 +1,6 @@
 // Messages (XSLT 1.0, section 13).
 ghost use Rattle.std.specs.Prelude.{◌≡◌, ◌++◌, ◌∷◌, [], IfOk, OnOk};
+ghost use Rattle.std.specs.Bool.{Decides};
 ghost use Rattle.spec_meaning.specs.Stream.{texts_of};
 ghost use Rattle.spec_result.specs.Recovery.{messages_of};
 ghost use Rattle.xt_tree.specs.StreamView.{single_of, stream_of};
@@ -58,4 +59,41 @@ fn push_message(alloc: Global, list: &mut Vec<Text>, content: &Items) -> Result<
     push_texts(&mut text, content)?;
     list.push(text)?;
     Ok(())
+}
+
+/// Whether the stream has no message. It is known at the first one, and takes no memory.
+pub fn is_silent(items: &Items) -> bool
+    ensures { Decides result (messages_of (stream_of items.now) ≡ []) }
+{
+    are_silent(items)
+}
+
+#[cycle(silence)]
+fn are_silent(items: &Items) -> bool
+    ensures { Decides result (messages_of (stream_of items.now) ≡ []) }
+{
+    for item in items.list() {
+        if !says_nothing(item) {
+            return false;
+        }
+    }
+    true
+}
+
+#[cycle(silence)]
+fn says_nothing(item: &Item) -> bool
+    ensures { Decides result (messages_of (single_of item.now) ≡ []) }
+{
+    match item {
+        Item::Element { content, .. } => are_silent(content),
+        Item::Nameless { content } => are_silent(content),
+        Item::Attribute { content, .. } => are_silent(content),
+        Item::Comment { content } => are_silent(content),
+        Item::Instruction { content, .. } => are_silent(content),
+        Item::Message { .. } => false,
+        Item::Part(items) => are_silent(items),
+        Item::Namespace(_) => true,
+        Item::Text(_) => true,
+        Item::Hole => true,
+    }
 }
