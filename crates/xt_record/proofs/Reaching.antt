@@ -19,8 +19,8 @@ use Rattle.xt_tree.specs.declared.items.Items.{Items}
 use Rattle.xt_touch.specs.Named.{Covers, AreCovered}
 use Rattle.xt_record.specs.View.{kept_in}
 use Rattle.xt_record.specs.Grown.{AllNamed, AsksNamed, IsTreeAt}
-use Rattle.xt_record.specs.Reached.{IsReached}
-use Rattle.xt_record.specs.declared.growing.Reach.{Reach}
+use Rattle.xt_record.specs.Reached.{IsReached, Reaches}
+use Rattle.xt_record.specs.declared.reach.Reach.{Reach}
 use Rattle.xt_record.specs.declared.record.Record.{Record}
 use Rattle.xt_record.specs.declared.tree.Summary.{Summary}
 use Rattle.xt_record.proofs.Chaining.{some_is}
@@ -28,7 +28,7 @@ use Rattle.xt_record.proofs.Grown.{own_at, same_front}
 use Rattle.xt_record.proofs.Naming.{all_named_both, all_named_more, named_more}
 
 -- nothing is behind the end
-pub reached_end : (vs : List Record) (reach : Reach) → reach.end ≡ length vs → reach.parts.items ≡ [] → IsReached vs [] reach
+reached_end : (vs : List Record) (reach : Reach) → reach.end ≡ length vs → reach.parts.items ≡ [] → IsReached vs [] reach
 reached_end vs reach end parts = record {
   front = vs;
   tail = [];
@@ -46,8 +46,13 @@ reached_end vs reach end parts = record {
     append_nil [] = refl
     append_nil (x ∷ xs) = ap (λ (ys : List Record). x ∷ ys) (append_nil xs)
 
+pub reached_none : (vs : List Record) (es : List (Event NodeRef)) (reach : Reach) → es ≡ [] → reach.end ≡ length vs → reach.parts.items ≡ []
+    → IsReached vs es reach
+reached_none vs es reach is end parts =
+    let P : List (Event NodeRef) → Type 0 = λ xs. IsReached vs xs reach in subst P (sym is) (reached_end vs reach end parts)
+
 -- a question
-pub reached_asked : (vs : List Record) (es : List (Event NodeRef)) (question : Question NodeRef) (answer : Answer NodeRef) (before after : Reach)
+reached_asked : (vs : List Record) (es : List (Event NodeRef)) (question : Question NodeRef) (answer : Answer NodeRef) (before after : Reach)
     → after.end ≡ before.end → after.parts ≡ before.parts → after.levels ≡ before.levels → Covers after.named question
     → AreCovered before.named after.named → IsReached vs es before → IsReached vs (Asked question answer ∷ es) after
 reached_asked vs es question answer before after end parts levels covers more h = record {
@@ -63,6 +68,13 @@ reached_asked vs es question answer before after end parts levels covers more h 
   says = grown_asked same_ref question answer es h.runs after.levels
       (subst (λ n. SaysAlong same_ref es h.runs n) (sym levels) h.says);
 }
+
+pub reaches_asked : (vs : List Record) (e : Event NodeRef) (question : Question NodeRef) (answer : Answer NodeRef) (before after : Reach)
+    → e ≡ Asked question answer → after.end ≡ before.end → after.parts ≡ before.parts → after.levels ≡ before.levels
+    → Covers after.named question → AreCovered before.named after.named → Reaches vs e before after
+reaches_asked vs e question answer before after is end parts levels covers more =
+    let P : Event NodeRef → Type 0 = λ x. Reaches vs x before after in
+    subst P (sym is) (λ es h. reached_asked vs es question answer before after end parts levels covers more h)
 
 -- the tree of a call
 module _ (vs : List Record) (es : List (Event NodeRef)) (call : Call NodeRef) (depth turn size : ℕ) (w : Summary) (v : Record) (before after : Reach) where

@@ -1,10 +1,14 @@
 -- Streams one by one.
-use Rattle.std.proofs.Common.{◌≡◌, ℕ, zero, suc, ◌<◌, List, [], ◌∷◌, length, get_or, Bool, true, false, sym, ap, ◌∙◌, arith}
+use Rattle.std.proofs.Common.{◌≡◌, ℕ, zero, suc, ◌<◌, List, [], ◌∷◌, ◌++◌, length, get_or, Bool, true, false, sym, ap, ◌∙◌, arith}
+use Rattle.std.proofs.lemmas.List.{map-append}
 use Rattle.std.specs.declared.rc.Rc.{Rc}
 use Rattle.std.specs.declared.alloc.Global.{Global}
 use Rattle.spec_meaning.specs.Stream.{Stream, Ended, holes}
 use Rattle.xt_tree.specs.declared.items.Items.{Items}
 use Rattle.xt_tree.specs.StreamView.{stream_of, streams_of}
+use Rattle.spec_result.specs.Recovery.{messages_of}
+use Rattle.xt_result.specs.Silent.{all_messages}
+use Rattle.xt_result.proofs.Silent.{silent_more}
 use Rattle.xt_record.specs.View.{AreWhole}
 
 abbrev first_or : List Stream → Stream
@@ -37,3 +41,11 @@ not_same xs ys n x y b l m e f differs holds whole same =
     let one = ap (λ r. holes (S r)) e ∙ whole_at xs n x l whole in
     let both = ap S e ∙ same_at xs ys n x y l m same ∙ ap S (sym f) in
     sym differs ∙ holds one both
+
+-- where no stream has a message, none has one with another that has none
+pub silent_pushed : (ps now : List (Rc Items Global)) (p : Rc Items Global) → now ≡ ps ++ p ∷ [] → all_messages (streams_of ps) ≡ []
+    → messages_of (stream_of p.value) ≡ [] → all_messages (streams_of now) ≡ []
+silent_pushed ps now p is none own =
+    ap (λ (xs : List (Rc Items Global)). all_messages (streams_of xs)) is
+    ∙ ap (λ (ss : List Stream). all_messages ss) (map-append (λ (x : Rc Items Global). stream_of x.value) ps (p ∷ []))
+    ∙ silent_more (streams_of ps) (stream_of p.value) none own

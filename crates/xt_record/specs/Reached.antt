@@ -10,7 +10,7 @@ use Rattle.spec_node.specs.Naming.{same_ref}
 use Rattle.xt_tree.specs.StreamView.{streams_of}
 use Rattle.xt_record.specs.View.{kept_in}
 use Rattle.xt_record.specs.Grown.{AllNamed, AsksNamed}
-use Rattle.xt_record.specs.declared.growing.Reach.{Reach}
+use Rattle.xt_record.specs.declared.reach.Reach.{Reach}
 use Rattle.xt_record.specs.declared.record.Record.{Record}
 
 -- how many calls were entered

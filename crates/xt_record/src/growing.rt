@@ -9,7 +9,9 @@ ghost use Rattle.xt_record.specs.View.{kept_in};
 ghost use Rattle.xt_record.specs.Grown.{values_of, AreTrees, IsTreeAt};
 ghost use Rattle.xt_record.specs.Reached.{entered_in, Reaches};
 
+use crate::filling::{both, is_silent_with, with_parts};
 use crate::matching::is_of;
+use crate::reach::Reach;
 use crate::tree::{Summary, Tree};
 use crate::{Pool, Record};
 use std::alloc::Global;
@@ -25,19 +27,6 @@ const MOST_LEVELS: u64 = 1 << 32;
 // Of a call that did more than this nothing is said. It mostly entered the items of a long list, and an edit of any of
 // them would have all said anew that is then hardly ever used.
 const MOST_EVENTS: usize = 4096;
-
-/// How far a tree has grown from the end of what its call did.
-#[derive(Drop)]
-pub(crate) struct Reach {
-    // The records from here on are of what was entered behind that.
-    end: usize,
-    // What the trees of these write, the last first.
-    parts: Vec<Rc<Items>>,
-    // What was asked behind that and by all of these names this.
-    named: Named,
-    // So many levels below its own are enough for these.
-    levels: u64,
-}
 
 impl Pool {
     /// Adds a record behind those of all that its call entered, which stand from this place on.
@@ -73,6 +62,7 @@ impl Pool {
             parts: Vec::new(alloc),
             named: Named::nothing(),
             levels: kept.ran.height,
+            is_silent: true,
         };
         let mut index = events.len();
         while index > 0 {
@@ -135,7 +125,11 @@ impl Pool {
         if !suits {
             return Ok(false);
         }
-        reach.parts.push(whole.content.clone()?)?;
+        let part = whole.content.clone()?;
+        let is_silent = both(reach.is_silent, whole.is_silent);
+        reach.is_silent = false;
+        reach.parts.push(part)?;
+        reach.is_silent = is_silent;
         reach.named = reach.named.and(whole.named);
         reach.levels = reach.levels.max(depth + whole.levels + 1);
         reach.end = reach.end - size;
@@ -155,27 +149,19 @@ fn whole_of(alloc: Global, kept: &Record, reach: Reach) -> Result<Rc<Summary>, M
         mut parts,
         named,
         levels,
+        is_silent,
     } = reach;
     parts.reverse();
     let content = with_parts(alloc, &kept.ran.stream, parts.as_slice())?;
+    let is_silent = is_silent_with(&kept.ran.stream, is_silent);
     let whole = Rc::new(
         alloc,
         Summary {
             content,
             named,
             levels,
+            is_silent,
         },
     )?;
     Ok(whole)
-}
-
-// The stream with these parts in its holes. One that has none is shared.
-fn with_parts(alloc: Global, items: &Rc<Items>, parts: &[Rc<Items>]) -> Result<Rc<Items>, Memory>
-    requires { stream.holes (stream_of items.now.value) ≡ length parts.now }
-    ensures { IfOk result (λ whole. stream_of whole.value ≡ stream.filled (stream_of items.now.value) (streams_of parts.now)) }
-{
-    if parts.is_empty() {
-        return Ok(items.clone()?);
-    }
-    items.fill(alloc, parts)
 }

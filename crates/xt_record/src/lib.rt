@@ -14,6 +14,7 @@
 
 mod asking;
 mod calls;
+mod filling;
 mod frames;
 mod growing;
 mod index;
@@ -22,6 +23,7 @@ mod key;
 mod matching;
 mod places;
 mod pool;
+mod reach;
 mod record;
 mod reuse;
 mod same;
@@ -29,6 +31,7 @@ mod taking;
 mod tree;
 
 pub use calls::same_call;
+pub use filling::{is_silent_with, with_parts};
 pub use keeping::a_record_lasts;
 pub use places::a_record_stands;
 pub use pool::Pool;

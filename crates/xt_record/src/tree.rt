@@ -1,4 +1,8 @@
 // Trees of records.
+ghost use Rattle.std.specs.Prelude.{◌≡◌, [], true};
+ghost use Rattle.spec_result.specs.Recovery.{messages_of};
+ghost use Rattle.xt_tree.specs.StreamView.{stream_of};
+
 use std::rc::Rc;
 use xt_touch::Named;
 use xt_tree::Items;
@@ -12,6 +16,9 @@ pub struct Summary {
     pub named: Named,
     /// How many levels below its own it takes.
     pub levels: u64,
+    /// It says so only where there is no message in what it writes.
+    pub is_silent: bool,
+    ghost silent: { is_silent ≡ true → messages_of (stream_of content.value) ≡ [] },
 }
 
 /// A record with those of all that its call entered, which stand before it.

@@ -6,10 +6,9 @@ use Rattle.xt_engine.specs.declared.event.Event.{Event}
 use Rattle.xt_record.specs.View.{kept_in}
 use Rattle.xt_record.specs.Grown.{values_of}
 use Rattle.xt_record.specs.Reached.{entered_in, IsReached}
-use Rattle.xt_record.specs.declared.growing.Reach.{Reach}
 use Rattle.xt_record.proofs.Grown.{values_count}
 use Rattle.xt_record.proofs.Holes.{entered_first, true_holes}
-use Rattle.xt_record.proofs.Reaching.{reached_end, reached_whole}
+use Rattle.xt_record.proofs.Reaching.{reached_none, reached_whole}
 use Rattle.xt_record.proofs.Saying.{lasts}
 use Rattle.xt_record.proofs.pool.Pool.whole_behind.Goals as goal
 
@@ -19,12 +18,11 @@ loop-index-init c =
     let none : drop (length events) events ≡ [] = drop_all (length events) events (omega arith) in
     let vs = values_of c.args.self.now.records.items in
     let empty : c.new.result.items ≡ [] = search rules in
-    let reach : Reach = record { end = c.count.result; parts = c.new.result; named = c.nothing.result; levels = c.args.kept.now.ran.height } in
     record {
       count = omega arith;
       reached = λ trees.
-          let P : List Event → Type 0 = λ es. IsReached vs (map event_of es) reach in
-          subst P (sym none) (reached_end vs reach (c.count.ensures ∙ sym (values_count c.args.self.now.records.items)) empty);
+          reached_none vs (map event_of (drop (length events) events)) _ (ap (λ (es : List Event). map event_of es) none)
+          (c.count.ensures ∙ sym (values_count c.args.self.now.records.items)) empty;
       parts = ap (λ xs. length xs) empty ∙ sym (ap (λ (es : List Event). entered_in (map event_of es)) none);
       levels = omega arith;
     }

@@ -1,7 +1,7 @@
 use Rattle.std.proofs.Common.{◌∙◌, ap, arith}
 use Rattle.xt_tree.specs.StreamView.{stream_of}
 use Rattle.xt_record.proofs.Holes.{filled_with_none}
-use Rattle.xt_record.proofs.growing.with_parts.Goals as goal
+use Rattle.xt_record.proofs.filling.with_parts.Goals as goal
 
 pub returns-then-is_empty : goal.returns-then-is_empty
 returns-then-is_empty c =
