@@ -32,12 +32,12 @@ use Rattle.xt_driver.specs.declared.follow.Gone.TheVariants as gone
 use Rattle.xt_driver.specs.declared.follow.Inner.{Inner}
 use Rattle.xt_driver.specs.declared.follow.Next.{Next}
 use Rattle.xt_driver.specs.declared.follow.Next.TheVariants as next
-use Rattle.xt_driver.specs.declared.follow.Way.{Way}
+use Rattle.xt_driver.specs.declared.way.Way.{Way}
 use Rattle.xt_driver.specs.declared.level.Needed.{Needed}
 use Rattle.xt_driver.specs.declared.lost.Lost.{Lost}
 use Rattle.xt_driver.specs.declared.lost.Lost.TheVariants as lost
 use Rattle.xt_driver.specs.declared.memo.Referred.{Referred}
-use Rattle.xt_driver.specs.declared.outcome.Outcome.{Outcome as Came}
+use Rattle.xt_driver.specs.declared.came.Outcome.{Outcome as Came}
 use Rattle.xt_driver.specs.View.{outcome_of, Gives}
 use Rattle.xt_driver.specs.Remembered.{Entry, Keeps, Lasts, GivesAlways}
 use Rattle.xt_driver.specs.Referring.{HoldsAs, Settles}

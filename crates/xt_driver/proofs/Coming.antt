@@ -13,11 +13,11 @@ use Rattle.xt_record.specs.declared.reuse.Reuse.{Reuse}
 use Rattle.xt_record.specs.Sure.{IsSure}
 use Rattle.xt_driver.specs.declared.drive.Served.{Served}
 use Rattle.xt_driver.specs.declared.follow.Gone.{Gone}
-use Rattle.xt_driver.specs.declared.follow.Way.{Way}
+use Rattle.xt_driver.specs.declared.way.Way.{Way}
 use Rattle.xt_driver.specs.declared.level.Needed.{Needed}
 use Rattle.xt_driver.specs.declared.memo.Referred.{Referred}
 use Rattle.xt_driver.specs.declared.memo.Turned.{Turned}
-use Rattle.xt_driver.specs.declared.outcome.Outcome.{Outcome}
+use Rattle.xt_driver.specs.declared.came.Outcome.{Outcome}
 use Rattle.xt_driver.specs.declared.whole.Whole.{Whole}
 use Rattle.xt_driver.specs.View.{IsFinished, IsStreamed, IsTaken}
 use Rattle.xt_driver.specs.Remembered.{Entry}

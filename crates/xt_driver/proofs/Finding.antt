@@ -36,7 +36,7 @@ use Rattle.xt_driver.specs.declared.globals.Reference.{Reference}
 use Rattle.xt_driver.specs.declared.globals.Reference.TheVariants as references
 use Rattle.xt_driver.specs.declared.memo.Referred.{Referred}
 use Rattle.xt_driver.specs.declared.memo.Remembered.{Remembered}
-use Rattle.xt_driver.specs.declared.outcome.Outcome.{Outcome as Came}
+use Rattle.xt_driver.specs.declared.came.Outcome.{Outcome as Came}
 use Rattle.xt_driver.specs.View.{outcome_of, setting_of, past_of, Gives, GivesSo}
 use Rattle.xt_driver.specs.Remembered.{Entry, first_named, AllHold, IsAnew, IsAside, all_aside, none_aside}
 use Rattle.xt_driver.specs.Referring.{entry_of, no_global, remembered_as, IsValue, IsRecalled, IsGivenAt, IsGivenAs, Recalls, RecallsSo, IsEvaluated}

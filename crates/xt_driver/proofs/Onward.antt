@@ -25,7 +25,7 @@ use Rattle.xt_engine.specs.Advances.{Advances, ran_of, gift_of}
 use Rattle.xt_text.specs.declared.memory.Memory.{Memory as NoMemory}
 use Rattle.xt_driver.specs.declared.level.Needed.{Needed}
 use Rattle.xt_driver.specs.declared.memo.Referred.{Referred}
-use Rattle.xt_driver.specs.declared.outcome.Outcome.{Outcome as Came}
+use Rattle.xt_driver.specs.declared.came.Outcome.{Outcome as Came}
 use Rattle.xt_driver.specs.View.{outcome_of, GivesSo, IsRefused, IsRefusedSo, IsStreamed, IsTaken}
 use Rattle.xt_driver.specs.Stands.{Level, Stands, Elsewhere}
 use Rattle.xt_driver.specs.Remembered.{Entry, Remembers, Keeps, Lasts, IsAnew, IsAside}

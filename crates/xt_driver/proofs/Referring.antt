@@ -24,7 +24,7 @@ use Rattle.xt_driver.specs.declared.globals.Reference.{Reference}
 use Rattle.xt_driver.specs.declared.globals.Reference.TheVariants as references
 use Rattle.xt_driver.specs.declared.memo.Referred.{Referred}
 use Rattle.xt_driver.specs.declared.memo.Remembered.{Remembered}
-use Rattle.xt_driver.specs.declared.outcome.Outcome.{Outcome as Came}
+use Rattle.xt_driver.specs.declared.came.Outcome.{Outcome as Came}
 use Rattle.xt_driver.specs.declared.outcome.Held.{Held}
 use Rattle.xt_driver.specs.View.{outcome_of, setting_of, past_of, supplied_of, Gives, GivesSo}
 use Rattle.xt_driver.specs.Remembered.{Entry, first_named, IsIfThere, Fits, Holds, AllHold, Remembers, Keeps, Lasts, GivesAlways, IsAnew, Unnamed, IsAside, all_aside, none_aside}

@@ -62,7 +62,7 @@ use Rattle.xt_driver.specs.declared.level.Needed.{Needed}
 use Rattle.xt_driver.specs.declared.lost.Lost.TheVariants as lost
 use Rattle.xt_driver.specs.declared.lost.LostReference.{LostReference}
 use Rattle.xt_driver.specs.declared.memo.Referred.{Referred}
-use Rattle.xt_driver.specs.declared.outcome.Outcome.{Outcome as Came}
+use Rattle.xt_driver.specs.declared.came.Outcome.{Outcome as Came}
 use Rattle.xt_driver.specs.Along.{refuses}
 use Rattle.xt_driver.specs.View.{outcome_of, gift_for, Gives, GivesSo, IsRefused, IsRefusedSo, IsStreamed, IsTaken}
 use Rattle.xt_record.specs.Grown.{values_of}

@@ -35,7 +35,7 @@ use Rattle.xt_engine.specs.declared.turn.RunFault.{RunFault}
 use Rattle.xt_engine.specs.declared.turn.RunFault.TheVariants.{Memory, Refused as Refuses}
 use Rattle.xt_engine.specs.Progress.{Waiting, ForCall, ForGlobal, Progress, Gift, RefusedAs, IsUnderWay, Start, Goes, Halts, received, started, supplied_with, circular}
 use Rattle.xt_engine.specs.Advances.{Advances, AdvancesSo, GoesSo, Made, ran_of, ends, gift_of}
-use Rattle.xt_driver.specs.declared.outcome.Outcome.{Outcome as Came}
+use Rattle.xt_driver.specs.declared.came.Outcome.{Outcome as Came}
 use Rattle.xt_text.specs.declared.memory.Memory.{Memory as NoMemory}
 use Rattle.xt_driver.specs.declared.memo.Referred.{Referred}
 use Rattle.xt_driver.specs.declared.level.Needed.{Needed}

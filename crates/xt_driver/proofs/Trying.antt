@@ -32,7 +32,7 @@ use Rattle.xt_driver.specs.declared.drive.Served.{Served}
 use Rattle.xt_driver.specs.declared.drive.Served.TheVariants as served
 use Rattle.xt_driver.specs.declared.lost.Lost.TheVariants as lost
 use Rattle.xt_driver.specs.declared.lost.LostReference.{LostReference}
-use Rattle.xt_driver.specs.declared.outcome.Outcome.{Outcome as Came}
+use Rattle.xt_driver.specs.declared.came.Outcome.{Outcome as Came}
 use Rattle.xt_driver.specs.Counted.{Hand, kept_at, kept_by, records_of, IsKept, kept_before, kept_now, IsKeptToo, IsUnserved, IsAnswer, IsReady, Counted}
 use Rattle.xt_driver.specs.Counted.{CountedFront, CountedLost, CountsLost, CountsFollowed, CountsServed, KeepsSame}
 use Rattle.xt_driver.proofs.Completing.{is_at, in_some, kept_more, keeps_both, keeps_one}

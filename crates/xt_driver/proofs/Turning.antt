@@ -19,7 +19,7 @@ use Rattle.xt_text.specs.declared.memory.Memory.{Memory as NoMemory}
 use Rattle.xt_driver.specs.declared.globals.HeldGlobal.{HeldGlobal}
 use Rattle.xt_driver.specs.declared.memo.Remembered.{Remembered}
 use Rattle.xt_driver.specs.declared.memo.Turned.{Turned}
-use Rattle.xt_driver.specs.declared.outcome.Outcome.{Outcome as Came}
+use Rattle.xt_driver.specs.declared.came.Outcome.{Outcome as Came}
 use Rattle.xt_driver.specs.declared.outcome.Held.{Held}
 use Rattle.xt_driver.specs.declared.outcome.Held.TheVariants as held
 use Rattle.xt_driver.specs.View.{held_of, setting_in, outcome_of, supplied_of}

@@ -20,7 +20,7 @@ use Rattle.xt_engine.specs.declared.call.Refused.{Refused}
 use Rattle.xt_engine.specs.declared.global.NamedGlobal.{NamedGlobal}
 use Rattle.xt_text.specs.declared.memory.Memory.{Memory}
 use Rattle.xt_driver.specs.declared.globals.HeldGlobal.{HeldGlobal}
-use Rattle.xt_driver.specs.declared.outcome.Outcome.{Outcome as Came}
+use Rattle.xt_driver.specs.declared.came.Outcome.{Outcome as Came}
 use Rattle.xt_driver.specs.declared.outcome.Held.{Held}
 use Rattle.xt_driver.specs.declared.outcome.Held.TheVariants as held
 use Rattle.xt_driver.specs.declared.whole.Whole.{Whole as CodeWhole}

@@ -14,7 +14,7 @@ use Rattle.xt_tree.specs.StreamView.{streams_of}
 use Rattle.xt_record.specs.View.{AsksHold}
 use Rattle.xt_driver.specs.declared.follow.Gone.{Gone}
 use Rattle.xt_driver.specs.declared.follow.Gone.TheVariants as gone
-use Rattle.xt_driver.specs.declared.follow.Way.{Way}
+use Rattle.xt_driver.specs.declared.way.Way.{Way}
 use Rattle.xt_driver.specs.View.{outcome_of}
 use Rattle.xt_driver.specs.Remembered.{Entry, Suits, Keeps}
 use Rattle.xt_driver.specs.Along.{halts}

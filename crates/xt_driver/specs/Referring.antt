@@ -21,7 +21,7 @@ use Rattle.xt_driver.specs.declared.globals.Reference.TheVariants as references
 use Rattle.xt_driver.specs.declared.memo.Memo.{Memo}
 use Rattle.xt_driver.specs.declared.memo.Referred.{Referred}
 use Rattle.xt_driver.specs.declared.memo.Remembered.{Remembered}
-use Rattle.xt_driver.specs.declared.outcome.Outcome.{Outcome}
+use Rattle.xt_driver.specs.declared.came.Outcome.{Outcome}
 use Rattle.xt_driver.specs.View.{outcome_of, setting_of, past_of, Gives}
 use Rattle.xt_driver.specs.Remembered.{Entry, Remembers, Keeps, GivesAlways, IsAnew}
 

@@ -14,7 +14,7 @@ use Rattle.xt_tree.specs.ValueView as view
 use Rattle.xt_engine.specs.declared.call.Refused.{Refused}
 use Rattle.xt_text.specs.declared.memory.Memory.{Memory}
 use Rattle.xt_driver.specs.declared.memo.Turned.{Turned}
-use Rattle.xt_driver.specs.declared.outcome.Outcome.{Outcome}
+use Rattle.xt_driver.specs.declared.came.Outcome.{Outcome}
 use Rattle.xt_driver.specs.declared.outcome.Held.{Held}
 use Rattle.xt_driver.specs.declared.outcome.Held.TheVariants as held
 use Rattle.xt_driver.specs.View.{outcome_of, supplied_of}

@@ -30,7 +30,7 @@ use Rattle.xt_driver.specs.declared.globals.Globals.{Globals}
 use Rattle.xt_driver.specs.declared.memo.Referred.{Referred}
 use Rattle.xt_driver.specs.declared.outcome.Ending.{Ending}
 use Rattle.xt_driver.specs.declared.outcome.Ending.TheVariants as endings
-use Rattle.xt_driver.specs.declared.outcome.Outcome.{Outcome}
+use Rattle.xt_driver.specs.declared.came.Outcome.{Outcome}
 use Rattle.xt_driver.specs.declared.outcome.Held.{Held}
 use Rattle.xt_driver.specs.declared.outcome.Held.TheVariants as held
 use Rattle.xt_driver.specs.declared.whole.Whole.{Whole}

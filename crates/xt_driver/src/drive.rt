@@ -17,13 +17,15 @@ ghost use Rattle.xt_driver.specs.Followed.{instance_of, IsGone};
 ghost use Rattle.xt_driver.specs.Made.{IsMade, MadeHolds};
 ghost use Rattle.xt_driver.specs.Counted.{hand_of, CountedRun, CountsFollowed, CountsFor, CountsOn, CountsOver, CountsServed, IsIdle, IsMadeOf, OfRun};
 
-use crate::follow::{Gone, Next, Way, next_done, set_out, take_entered, take_reference};
+use crate::came::Outcome;
+use crate::follow::{Gone, Next, next_done, set_out, take_entered, take_reference};
 use crate::globals::{Globals, Reference, evaluation_of, look_up};
 use crate::keep::{keep_ended, next_turn, tried};
 use crate::level::{Needed, Step, advance, begin, take_global, take_stream};
 use crate::lost::{Lost, regained_reference};
 use crate::memo::{Memo, Referred};
-use crate::outcome::{Ended, Outcome, cut_short, done, evaluated, refused, too_deep, whole_again};
+use crate::outcome::{Ended, cut_short, done, evaluated, refused, too_deep, whole_again};
+use crate::way::Way;
 use std::alloc::Global;
 use xt_engine::{Call, Engine, Event};
 use xt_questions::World;
@@ -269,7 +271,14 @@ fn follow<E: Engine, W: World>(
             }
         }
     }
-    let outcome = done(alloc, &kept.ran, way.parts.as_slice(), below, way.spare)?;
+    let outcome = done(
+        alloc,
+        &kept.ran,
+        way.parts.as_slice(),
+        below,
+        way.spare,
+        way.is_silent,
+    )?;
     Ok(Served::As(outcome))
 }
 
@@ -364,6 +373,7 @@ fn run_call<E: Engine, W: World>(
                     standing.parts.as_slice(),
                     below,
                     standing.spare,
+                    standing.is_silent,
                 )?;
                 return Ok(Ended {
                     outcome,

@@ -1,5 +1,5 @@
 // One turn along a record: what was done next, and whether that holds for the call.
-ghost use Rattle.std.specs.Prelude.{◌≡◌, [], IfOk, drop, true, unwrap_or};
+ghost use Rattle.std.specs.Prelude.{◌≡◌, ◌++◌, ◌∷◌, [], IfOk, OnOk, drop, true, unwrap_or};
 ghost use Rattle.std.specs.Bool.{Decides};
 ghost use Rattle.std.specs.Option.{option_map};
 ghost use Rattle.spec_meaning.specs.Program.{Counted, Ruled};
@@ -9,15 +9,17 @@ ghost use Rattle.xt_syntax.specs.PartView.{place_of};
 ghost use Rattle.xt_tree.specs.StreamView.{streams_of};
 ghost use Rattle.xt_questions.specs.View.{current_of, given_of, wanted_of};
 ghost use Rattle.xt_engine.specs.View.{call_of, event_of, ruling_of};
-ghost use Rattle.xt_driver.specs.View.{ending_of};
+ghost use Rattle.xt_driver.specs.View.{ending_of, outcome_of};
 ghost use Rattle.xt_record.specs.View.{AreWhole};
 ghost use Rattle.xt_driver.specs.Along.{halts, inner_of, refuses, HoldsIf, IsEntered, IsHeld, IsNext, IsReferred, IsSeen, IsSeenAs, Takes, TakesReference};
 
 use crate::calls::{says_all, settle};
+use crate::came::Outcome;
 use crate::level::Needed;
 use crate::lost::{Lost, LostReference};
 use crate::memo::Referred;
-use crate::outcome::{Ending, Outcome, content_of, fewer};
+use crate::outcome::{Ending, both_silent, content_of, fewer};
+use crate::way::Way;
 use std::alloc::Global;
 use std::rc::Rc;
 use xt_base::Place;
@@ -28,13 +30,19 @@ use xt_record::{same_rule_if, same_streams, same_value};
 use xt_text::Memory;
 use xt_tree::Items;
 
-/// How far it was gone along a record.
-#[derive(Drop)]
-pub struct Way {
-    /// The streams of all that was entered.
-    pub parts: Vec<Rc<Items>>,
-    /// With so many levels fewer below the call's own, what was entered and needed comes to the same.
-    pub spare: u64,
+impl Way {
+    // Adds the stream of what was entered.
+    fn add(&mut self, outcome: &Outcome) -> Result<(), Memory>
+        ensures streams { OnOk result (streams_of self.new.parts.items ≡ streams_of self.old.parts.items ++ (outcome_of outcome.now).content ∷ []) }
+        ensures spare { self.new.spare ≡ self.old.spare }
+    {
+        let part = content_of(outcome)?;
+        let is_silent = both_silent(self.is_silent, outcome);
+        self.is_silent = false;
+        self.parts.push(part)?;
+        self.is_silent = is_silent;
+        Ok(())
+    }
 }
 
 /// A call that was entered.
@@ -91,6 +99,7 @@ pub fn set_out(alloc: Global, below: u64) -> Result<Box<Way>, Memory>
         Way {
             parts: Vec::new(alloc),
             spare: below,
+            is_silent: true,
         },
     )?)
 }
@@ -275,8 +284,7 @@ pub fn take_entered(
 {
     drop(call);
     let outcome = came?;
-    let part = content_of(&outcome)?;
-    way.parts.push(part)?;
+    way.add(&outcome)?;
     if is_refused(&outcome.ending) {
         return Ok(Gone::Refused(outcome));
     }

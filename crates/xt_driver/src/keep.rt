@@ -12,9 +12,10 @@ ghost use Rattle.xt_record.specs.Sure.{IsSure};
 ghost use Rattle.xt_driver.specs.Made.{IsMade, MadeHolds};
 ghost use Rattle.xt_driver.specs.Counted.{IsAnswer, IsKept, IsKeptToo, IsMadeToo, IsUnserved};
 
+use crate::came::Outcome;
 use crate::drive::Served;
 use crate::lost::Lost;
-use crate::outcome::{Ended, Outcome};
+use crate::outcome::Ended;
 use std::alloc::Global;
 use std::rc::Rc;
 use xt_engine::{Call, Ran};

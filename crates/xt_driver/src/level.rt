@@ -1,17 +1,20 @@
 // One level of calls. All that lives while what it enters is run stands on the heap, and what is large is handled in
 // functions that are over by then, so that a level takes little of the stack.
-ghost use Rattle.std.specs.Prelude.{◌≡◌, ◌≤◌, [], IfOk, None, OnOk};
+ghost use Rattle.std.specs.Prelude.{◌≡◌, ◌≤◌, [], true, IfOk, None, OnOk};
+ghost use Rattle.spec_result.specs.Recovery.{messages_of};
 ghost use Rattle.xt_tree.specs.StreamView.{streams_of};
 ghost use Rattle.xt_engine.specs.View.{call_of};
 ghost use Rattle.xt_engine.specs.Advances.{gift_of};
 ghost use Rattle.xt_engine.specs.Progress.{started};
-ghost use Rattle.xt_driver.specs.View.{IsStreamed, IsTaken};
+ghost use Rattle.xt_result.specs.Silent.{all_messages};
+ghost use Rattle.xt_driver.specs.View.{outcome_of, IsStreamed, IsTaken};
 ghost use Rattle.xt_driver.specs.Referring.{spare_in, spare_of};
 ghost use Rattle.xt_driver.specs.Steps.{Steps};
 
 use crate::calls::settle;
+use crate::came::Outcome;
 use crate::memo::Referred;
-use crate::outcome::{Outcome, fewer, streamed};
+use crate::outcome::{both_silent, fewer, streamed};
 use std::alloc::Global;
 use std::rc::Rc;
 use xt_base::Place;
@@ -31,6 +34,9 @@ pub struct Level<R> {
     pub parts: Vec<Rc<Items>>,
     /// With so many levels fewer below its own, what it entered and needed comes to the same.
     pub spare: u64,
+    /// It says so only where there is no message in these streams.
+    pub is_silent: bool,
+    ghost silent: { is_silent ≡ true → all_messages (streams_of parts.items) ≡ [] },
 }
 
 /// A global that an expression at this element needs.
@@ -72,6 +78,7 @@ pub fn begin<E: Engine>(
             given: None,
             parts: Vec::new(alloc),
             spare: below,
+            is_silent: true,
         },
     )?)
 }
@@ -118,6 +125,17 @@ fn spare_in(came: &Result<Box<Outcome>, Memory>) -> u64
     }
 }
 
+// Whether there is no message in what came of a call either, as far as that is known.
+fn stays_silent(are_silent: bool, came: &Result<Box<Outcome>, Memory>) -> bool
+    ensures parts { result ≡ true → are_silent ≡ true }
+    ensures came { result ≡ true → IfOk came.now (λ o. messages_of (outcome_of o.value).content ≡ []) }
+{
+    match came {
+        Ok(outcome) => both_silent(are_silent, outcome),
+        Err(_) => false,
+    }
+}
+
 /// Takes what came of the call that it entered last. The call is done with.
 pub fn take_stream<R: Drop>(
     standing: &mut Level<R>,
@@ -131,7 +149,10 @@ pub fn take_stream<R: Drop>(
 {
     let _ = call;
     standing.spare = fewer(standing.spare, spare_in(&came));
+    let is_silent = stays_silent(standing.is_silent, &came);
+    standing.is_silent = false;
     standing.given = Some(streamed(came, &mut standing.parts)?);
+    standing.is_silent = is_silent;
     Ok(())
 }
 

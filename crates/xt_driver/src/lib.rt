@@ -12,6 +12,7 @@
 #![tactic(auto)]
 
 mod calls;
+mod came;
 mod cut;
 mod drive;
 mod follow;
@@ -21,6 +22,7 @@ mod level;
 mod lost;
 mod memo;
 mod outcome;
+mod way;
 mod whole;
 
 pub use whole::{Whole, run};

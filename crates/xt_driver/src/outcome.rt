@@ -1,15 +1,18 @@
 // What comes of calls.
-ghost use Rattle.std.specs.Prelude.{◌≡◌, ◌<◌, ◌≤◌, ◌-◌, ◌++◌, IfOk, OnOk, Some, length, map};
+ghost use Rattle.std.specs.Prelude.{◌≡◌, ◌<◌, ◌≤◌, ◌-◌, ◌++◌, [], true, IfOk, OnOk, Some, length, map};
 ghost use Rattle.spec_stylesheet.specs.Place as places;
 ghost use Rattle.spec_meaning.specs.Stream as stream;
+ghost use Rattle.spec_result.specs.Recovery.{messages_of};
 ghost use Rattle.spec_run.specs.Cut.{cut};
 ghost use Rattle.spec_run.specs.Meaning.{held_by, refused_deep};
 ghost use Rattle.xt_syntax.specs.PartView.{place_of};
 ghost use Rattle.xt_tree.specs.StreamView.{stream_of, streams_of};
+ghost use Rattle.xt_result.specs.Silent.{all_messages};
 ghost use Rattle.xt_engine.specs.Advances.{ending_of as ending_with};
 ghost use Rattle.xt_driver.specs.View.{ending_of, outcome_of, supplied_of, Gives, IsRefused, IsStreamed};
 ghost use Rattle.xt_driver.specs.Referring.{entry_of, entries_of, remembered_as, Evaluates};
 
+use crate::came::Outcome;
 use crate::cut::cut;
 use crate::globals::Evaluation;
 use crate::memo::{Memo, Referred, put_back, remember};
@@ -18,7 +21,7 @@ use std::alloc::Global;
 use std::rc::Rc;
 use xt_engine::{Call, Entered, Ran, Refused, RunFault};
 use xt_questions::{copy_place, copy_value};
-use xt_record::Said;
+use xt_record::{Said, is_silent_with, with_parts};
 use xt_streams::quiet;
 use xt_text::Memory;
 use xt_tree::{Fragment, Items, Value};
@@ -30,15 +33,6 @@ pub enum Ending {
     /// With the value of a global that has a select.
     Gave(Value),
     Halted(Refused),
-}
-
-/// What a call comes to, with all that it enters: what is written up to its end or its refusal.
-#[derive(Drop)]
-pub struct Outcome {
-    pub content: Rc<Items>,
-    pub ending: Ending,
-    /// It comes to the same with so many levels fewer, where it is not refused.
-    pub spare: u64,
 }
 
 /// What comes of a call that the engine runs.
@@ -65,7 +59,7 @@ pub fn too_deep(alloc: Global, call: &Call) -> Result<Box<Outcome>, Memory>
         code: DynCode::TooDeep,
         place: copy_place(alloc, &call.by)?,
     });
-    on_heap(alloc, content, ending, 0)
+    on_heap(alloc, content, ending, 0, false)
 }
 
 // What a call comes to, on the heap.
@@ -74,8 +68,11 @@ fn on_heap(
     content: Rc<Items>,
     ending: Ending,
     spare: u64,
+    is_silent: bool,
 ) -> Result<Box<Outcome>, Memory>
-    ensures { IfOk result (λ o. o.value ≡ record { content = content; ending = ending; spare = spare }) }
+    requires { is_silent ≡ true → messages_of (stream_of content.value) ≡ [] }
+    ensures outcome { IfOk result (λ o. outcome_of o.value ≡ record { content = stream_of content.value; ending = ending_of ending }) }
+    ensures spare { IfOk result (λ o. o.value.spare ≡ spare) }
 {
     Ok(Box::new(
         alloc,
@@ -83,6 +80,7 @@ fn on_heap(
             content,
             ending,
             spare,
+            is_silent,
         },
     )?)
 }
@@ -95,16 +93,30 @@ pub fn fewer(one: u64, other: u64) -> u64
     if one < other { one } else { other }
 }
 
+/// Whether there is no message in these streams, nor in what came of a call, as far as that is known.
+pub fn both_silent(are_silent: bool, outcome: &Outcome) -> bool
+    ensures parts { result ≡ true → are_silent ≡ true }
+    ensures outcome { result ≡ true → messages_of (outcome_of outcome.now).content ≡ [] }
+{
+    if !are_silent {
+        return false;
+    }
+    outcome.is_silent
+}
+
 /// What comes of a call that came to this, with these streams in its holes. There were so many levels below its own,
-/// and so many could be spared of them.
+/// and so many could be spared of them. Where it is known that no part has a message, it is told of the whole whether it
+/// has one.
 pub fn done(
     alloc: Global,
     ran: &Ran,
     parts: &[Rc<Items>],
     below: u64,
     spare: u64,
+    are_silent: bool,
 ) -> Result<Box<Outcome>, Memory>
-    requires { stream.holes (stream_of ran.now.stream.value) ≡ length parts.now }
+    requires fit { stream.holes (stream_of ran.now.stream.value) ≡ length parts.now }
+    requires silent { are_silent ≡ true → all_messages (streams_of parts.now) ≡ [] }
     ensures spare { IfOk result (λ o. o.value.spare ≤ spare) }
     ensures height { IfOk result (λ o. o.value.spare ≤ below - ran.now.height) }
     ensures outcome { IfOk result (λ o. outcome_of o.value ≡ record { content = stream.filled (stream_of ran.now.stream.value) (streams_of parts.now); ending = ending_with ran.now.value }) }
@@ -112,19 +124,8 @@ pub fn done(
     let content = with_parts(alloc, &ran.stream, parts)?;
     let ending = end_with(alloc, &ran.value)?;
     let spare = fewer(spare, below.saturating_sub(ran.height));
-    on_heap(alloc, content, ending, spare)
-}
-
-// The stream with these parts in its holes. One that has none is shared: most records that serve enter nothing, and what
-// they wrote is not made anew.
-fn with_parts(alloc: Global, items: &Rc<Items>, parts: &[Rc<Items>]) -> Result<Rc<Items>, Memory>
-    requires { stream.holes (stream_of items.now.value) ≡ length parts.now }
-    ensures { IfOk result (λ whole. stream_of whole.value ≡ stream.filled (stream_of items.now.value) (streams_of parts.now)) }
-{
-    if parts.is_empty() {
-        return Ok(items.clone()?);
-    }
-    items.fill(alloc, parts)
+    let is_silent = is_silent_with(&ran.stream, are_silent);
+    on_heap(alloc, content, ending, spare, is_silent)
 }
 
 /// What comes of a call that would have come to this, where the last that it entered was refused, with all that was
@@ -145,8 +146,9 @@ pub fn cut_short(
         content: _,
         ending,
         spare: _,
+        is_silent: _,
     } = Box::into_inner(last);
-    on_heap(alloc, content, ending, 0)
+    on_heap(alloc, content, ending, 0, false)
 }
 
 /// What comes of a call with so many levels left that a tree says by itself.
@@ -158,7 +160,7 @@ pub fn whole_again(alloc: Global, said: Said, levels: u64) -> Result<Box<Outcome
     let content = whole.content.clone()?;
     let ending = end_with(alloc, &record.ran.value)?;
     let spare = levels.saturating_sub(1).saturating_sub(whole.levels);
-    on_heap(alloc, content, ending, spare)
+    on_heap(alloc, content, ending, spare, whole.is_silent)
 }
 
 // How a run ends that is done, with the value of a global that has a select.
@@ -179,7 +181,7 @@ pub fn refused(alloc: Global, fault: Box<RunFault>) -> Result<Box<Outcome>, Memo
         RunFault::Memory => Err(Memory),
         RunFault::Refused(why, content) => {
             let ending = Ending::Halted(why);
-            on_heap(alloc, content, ending, 0)
+            on_heap(alloc, content, ending, 0, false)
         }
     }
 }
@@ -198,6 +200,7 @@ pub fn streamed(
         content,
         ending,
         spare: _,
+        is_silent: _,
     } = Box::into_inner(outcome);
     match ending {
         Ending::Finished => Ok(Entered::Stream(content)),
@@ -223,6 +226,7 @@ pub fn as_held(alloc: Global, outcome: Outcome) -> Result<Held, Memory>
         content,
         ending,
         spare: _,
+        is_silent: _,
     } = outcome;
     match ending {
         Ending::Finished => {

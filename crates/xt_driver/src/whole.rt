@@ -18,10 +18,11 @@ ghost use Rattle.spec_reuse.specs.Instantiation.{entered_by_run, instantiations}
 ghost use Rattle.spec_reuse.specs.Ledger.{AreOfRun};
 
 use crate::calls::{global_call, nowhere, root_call};
+use crate::came::Outcome;
 use crate::drive::first_means;
 use crate::globals::{Globals, HeldGlobal, with_name};
 use crate::memo::{Memo, Turned, forget, nothing_remembered, recall_turn};
-use crate::outcome::{Ending, Held, Outcome, as_held, content_of};
+use crate::outcome::{Ending, Held, as_held, content_of};
 use std::alloc::Global;
 use std::rc::Rc;
 use xt_engine::{Engine, NamedGlobal, Refused};
@@ -58,6 +59,17 @@ fn add_messages(alloc: Global, told: &mut Vec<Text>, content: &Items) -> Result<
     let mut texts = messages(alloc, content)?;
     told.append(&mut texts)?;
     Ok(())
+}
+
+// The messages of what came of a call, after those that were there. Where it is known that there are none, its content
+// is not gone through.
+fn tell(alloc: Global, told: &mut Vec<Text>, outcome: &Outcome) -> Result<(), Memory>
+    ensures { OnOk result (told.new.items ≡ told.old.items ++ messages_of (outcome_of outcome.now).content) }
+{
+    if outcome.is_silent {
+        return Ok(());
+    }
+    add_messages(alloc, told, &outcome.content)
 }
 
 // What a global comes to at its turn, where it is evaluated then.
@@ -157,11 +169,12 @@ fn finished(
     ensures { IfOk result (λ w. IsFinished w told.items came) }
 {
     let outcome = came?;
-    add_messages(alloc, &mut told, &outcome.content)?;
+    tell(alloc, &mut told, &outcome)?;
     let Outcome {
         content,
         ending,
         spare: _,
+        is_silent: _,
     } = Box::into_inner(outcome);
     Ok(Whole {
         content,

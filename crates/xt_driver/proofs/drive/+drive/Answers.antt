@@ -1,6 +1,7 @@
 use Rattle.std.proofs.Common.{◌≡◌, ◌≤◌, ◌∙◌, ◌-◌, ◌+◌, ◌<◌, ◌∷◌, ◌++◌, [], ℕ, List, Option, Some, None, Result, suc, map, refl, sym, ap, subst, Ok, Err, length, arith}
 use Rattle.std.specs.Prelude.{Box, IfOk, IfNone, is_some}
 use Rattle.std.specs.declared.alloc.Global.{Global as Allocator}
+use Rattle.std.specs.declared.rc.Rc.{Rc}
 use Rattle.std.proofs.lemmas.List.{length-map}
 use Rattle.spec_meaning.specs.Stream.{Stream, filled, holes}
 use Rattle.spec_run.specs.Cut.{cut}
@@ -10,6 +11,8 @@ use Rattle.spec_run.specs.Meaning.{Setting, meaning}
 use Rattle.xt_syntax.specs.PartView.{place_of}
 use Rattle.spec_node.specs.declared.node_ref.NodeRef.{NodeRef}
 use Rattle.xt_tree.specs.StreamView.{streams_of}
+use Rattle.xt_tree.specs.declared.items.Items.{Items}
+use Rattle.xt_result.specs.Silent.{all_messages}
 use Rattle.xt_engine.specs.declared.event.Ran.{Ran}
 use Rattle.xt_engine.specs.View.{call_of, event_of}
 use Rattle.xt_engine.specs.declared.turn.Turn.TheVariants.{Done}
@@ -19,7 +22,7 @@ use Rattle.xt_record.specs.declared.record.Record.{Record}
 use Rattle.xt_record.specs.View.{kept_in, AsksHold, MayServe}
 use Rattle.xt_driver.specs.declared.globals.Evaluation.{Evaluation}
 use Rattle.xt_driver.specs.declared.drive.Served.{Served}
-use Rattle.xt_driver.specs.declared.outcome.Outcome.{Outcome as Came}
+use Rattle.xt_driver.specs.declared.came.Outcome.{Outcome as Came}
 use Rattle.xt_driver.specs.View.{setting_of, past_of, outcome_of, IsStreamed}
 use Rattle.xt_driver.specs.Remembered.{Lasts}
 use Rattle.xt_driver.specs.Referring.{entry_of, entries_of, Refers, Settles}
@@ -237,7 +240,10 @@ run_call-done-requires g t c =
     let adv : Advances truth gift (prog old.run) (prog new.run) (Ok (Done ran)) = stepped gift (prog old.run) (prog new.run) l.call below inv.truth c.in-Done.is c.in_ok-inner.ensures.steps in
     let is = stands_done l (prog old.run) (prog new.run) gift ss ran stands adv in
     let parts : c.as_slice.result.now ≡ new.parts.items = rw (sym c.deref-in-Done-2.ensures) c.as_slice.ensures.value in
-    ap (λ (r : Ran). holes (ran_of r).content) c.deref-in-Done.ensures ∙ is.even ∙ length-map new.parts.items _ ∙ ap length (sym parts)
+    record {
+      fit = ap (λ (r : Ran). holes (ran_of r).content) c.deref-in-Done.ensures ∙ is.even ∙ length-map new.parts.items _ ∙ ap length (sym parts);
+      silent = λ so. ap (λ (xs : List (Rc Items Allocator)). all_messages (streams_of xs)) parts ∙ new.silent (rw (sym c.deref-in-Done-4.ensures) so);
+    }
 
 pub run_call-returns-in-Done-clause-made : goal.run_call-returns-in-Done-clause-made
 run_call-returns-in-Done-clause-made g t c =
@@ -609,7 +615,10 @@ follow-done-requires g t c =
     let held = entries_of c.loop-event.memo in
     let none = rest_none events n (omega arith) in
     let parts : c.as_slice-2.result.now ≡ way.parts.items = rw (sym c.deref-2.ensures) c.as_slice-2.ensures.value in
-    along_even s i first held way.spare k ss (rest_from events n) inv.followed none ∙ length-map way.parts.items _ ∙ ap length (sym parts)
+    record {
+      fit = along_even s i first held way.spare k ss (rest_from events n) inv.followed none ∙ length-map way.parts.items _ ∙ ap length (sym parts);
+      silent = λ so. ap (λ (xs : List (Rc Items Allocator)). all_messages (streams_of xs)) parts ∙ way.silent (rw (sym c.deref-4.ensures) so);
+    }
 
 pub follow-returns-clause-served : goal.follow-returns-clause-served
 follow-returns-clause-served g t c =

@@ -3,7 +3,7 @@ use Rattle.std.specs.Prelude.{Box}
 use Rattle.std.specs.declared.alloc.Global.{Global as Allocator}
 use Rattle.spec_run.specs.Meaning.{meaning}
 use Rattle.xt_engine.specs.View.{call_of}
-use Rattle.xt_driver.specs.declared.outcome.Outcome.{Outcome as Came}
+use Rattle.xt_driver.specs.declared.came.Outcome.{Outcome as Came}
 use Rattle.xt_driver.specs.View.{setting_of, past_of, outcome_of}
 use Rattle.xt_driver.specs.Remembered.{Lasts}
 use Rattle.xt_driver.specs.Referring.{entries_of}

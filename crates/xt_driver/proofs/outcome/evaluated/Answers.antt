@@ -2,7 +2,7 @@ use Rattle.std.proofs.Common.{◌∙◌, ◌++◌, ap, map, refl}
 use Rattle.xt_tree.specs.StreamView.{stream_of}
 use Rattle.spec_run.specs.Meaning.{held_by}
 use Rattle.xt_driver.specs.declared.memo.Referred.{Referred}
-use Rattle.xt_driver.specs.declared.outcome.Outcome.{Outcome}
+use Rattle.xt_driver.specs.declared.came.Outcome.{Outcome}
 use Rattle.xt_driver.specs.View.{outcome_of}
 use Rattle.xt_driver.specs.Referring.{entry_of, entries_of, remembered_as}
 use Rattle.xt_driver.proofs.Referring.{evaluates_made}
