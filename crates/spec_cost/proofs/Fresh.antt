@@ -8,11 +8,12 @@ use Rattle.spec_reuse.specs.Among.{IsIn}
 use Rattle.spec_reuse.specs.Instantiation.{Instantiation, instantiations}
 use Rattle.spec_reuse.specs.Ledger.{HasLike}
 use Rattle.spec_cost.specs.Fresh.{AreNewIn, NoneAlike}
+use Rattle.spec_cost.specs.Marking.{Mark}
 use Rattle.spec_cost.specs.Paying.{IsCost, KeepsRun, most_told}
 
-pub new_is_run : (s t : Setting NodeRef) (before after : List (Kept NodeRef)) (ran asked : ℕ) (i : Instantiation NodeRef) → KeepsRun s before
-    → (cost : IsCost t before ran asked after) → IsIn i (instantiations t) → ¬ (HasLike (instantiations s) i.call) → HasLike cost.list i.call
-new_is_run s t before after ran asked i keeps cost among new =
+pub new_is_run : (s t : Setting NodeRef) (before after : List (Kept NodeRef)) (marks left : List Mark) (ran asked : ℕ) (i : Instantiation NodeRef) → KeepsRun s before
+    → (cost : IsCost t before marks ran asked after left) → IsIn i (instantiations t) → ¬ (HasLike (instantiations s) i.call) → HasLike cost.list i.call
+new_is_run s t before after marks left ran asked i keeps cost among new =
     cost.counted.made i among (λ kept here unit node.
     let like = keeps.only kept here in
     new (like.0, like.1, like.2 ∙ unit, like.3 ∙ node))
@@ -55,10 +56,10 @@ as_many (i ∷ is) list apart like =
     let fewer = one_fewer list one.0 one.1 in
     omega (arith, rest, fewer)
 
-pub as_many_run : (s t : Setting NodeRef) (before after : List (Kept NodeRef)) (ran asked : ℕ) (new : List (Instantiation NodeRef)) → KeepsRun s before
-    → IsCost t before ran asked after → NoneAlike new → AreNewIn s t new → min (length new) most_told ≤ ran
-as_many_run s t before after ran asked new keeps cost apart are =
+pub as_many_run : (s t : Setting NodeRef) (before after : List (Kept NodeRef)) (marks left : List Mark) (ran asked : ℕ) (new : List (Instantiation NodeRef)) → KeepsRun s before
+    → IsCost t before marks ran asked after left → NoneAlike new → AreNewIn s t new → min (length new) most_told ≤ ran
+as_many_run s t before after marks left ran asked new keeps cost apart are =
     let most = as_many new cost.list apart (λ i here.
-    new_is_run s t before after ran asked i keeps cost (are i here).0 (are i here).1) in
+    new_is_run s t before after marks left ran asked i keeps cost (are i here).0 (are i here).1) in
     let told = cost.told in
     omega (arith, most, told)

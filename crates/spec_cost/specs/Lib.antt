@@ -1,5 +1,6 @@
 pub mod Numbers
 pub mod Naming
+pub mod Marking
 pub mod Past
 pub mod Paying
 pub mod Fresh

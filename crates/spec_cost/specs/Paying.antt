@@ -5,7 +5,7 @@
 --     IsCost        what a run costs
 --     CostsOn       what a change costs, where there may be nothing to run
 --     Pays          what a change makes of the past
-use Rattle.std.specs.Prelude.{ℕ, ◌≡◌, ◌≤◌, ◌+◌, ◌-◌, ◌^◌, List, [], ◌∷◌, length, min, Bool, true, false, ◌||◌, Option, None, Some, Result, Ok, Err}
+use Rattle.std.specs.Prelude.{ℕ, ◌≡◌, ◌≤◌, ◌-◌, ◌^◌, List, [], length, min, Bool, true, false, ◌||◌, Option, None, Some, Result, Ok, Err}
 use Rattle.spec_document.specs.Forest.{Plain, Document}
 use Rattle.spec_document.specs.Order.{entries_of}
 use Rattle.spec_node.specs.declared.node_ref.NodeRef.{NodeRef}
@@ -18,7 +18,6 @@ use Rattle.spec_compile.specs.Sheet as compile
 use Rattle.spec_compile.specs.Sheet.{IsSheet}
 use Rattle.spec_seen.specs.Seen.{seen}
 use Rattle.spec_run.specs.Plan.{Refused, Target}
-use Rattle.spec_run.specs.Going.{Event, Asked, Saw, Entered, Held}
 use Rattle.spec_run.specs.Hold.{GoesOn}
 use Rattle.spec_run.specs.Trail.{Kept}
 use Rattle.spec_run.specs.Meaning.{Setting, run_of}
@@ -28,6 +27,7 @@ use Rattle.spec_items.specs.Liftable.{with_items}
 use Rattle.spec_reuse.specs.Among.{IsIn}
 use Rattle.spec_reuse.specs.Instantiation.{Instantiation, own_of, instantiations}
 use Rattle.spec_reuse.specs.Ledger.{AreCounted, HasLike, IsFound}
+use Rattle.spec_cost.specs.Marking.{AddsStyle, Known, KnowsOf, Mark, and_marks, marked_among}
 use Rattle.spec_cost.specs.Naming.{IsNamed}
 use Rattle.spec_cost.specs.Numbers.{NumberedDocuments}
 use Rattle.spec_cost.specs.Past.{Past}
@@ -70,65 +70,73 @@ KeepsBy (Some why) s before after = after ≡ before
 abbrev pub IsUnrecorded : List (Kept NodeRef) → Target NodeRef → NodeRef → Type 0
 IsUnrecorded records unit node = (kept : Kept NodeRef) → IsIn kept records → kept.call.target ≡ unit → kept.call.node ≡ node → ⊥
 
--- the questions that were asked among what was done, and of all of these records
-abbrev pub asked_in : List (Event NodeRef) → ℕ
-asked_in [] = 0
-asked_in (Asked question answer ∷ es) = 1 + asked_in es
-asked_in (Saw wanted depth place supplied ∷ es) = asked_in es
-asked_in (Entered call depth ∷ es) = asked_in es
-asked_in (Held first contents ∷ es) = asked_in es
-
-abbrev pub asked_among : List (Kept NodeRef) → ℕ
-asked_among [] = 0
-asked_among (kept ∷ records) = asked_in kept.trace + asked_among records
+-- where the run is refused, what changed is told of still
+abbrev pub MarksBy : Option Refused → (marks left : List Mark) → Type 0
+MarksBy None marks left = left ≡ []
+MarksBy (Some why) marks left = left ≡ marks
 
 -- So many instantiations of the run are counted, or the most that can be told: none for which one of the records before would be taken, of one call
--- that comes to its end one; and one of each unit and node that no record is of. No more questions are asked again than those records asked. And
--- this is kept
-pub record IsCost (s : Setting NodeRef) (before : List (Kept NodeRef)) (ran asked : ℕ) (after : List (Kept NodeRef)) : Type 0 where
+-- that comes to its end one; and one of each unit and node that no record is of. No more questions are asked again than these changes mark in the
+-- records, each once. And this is kept
+pub record IsCost (s : Setting NodeRef) (before : List (Kept NodeRef)) (marks : List Mark) (ran asked : ℕ) (after : List (Kept NodeRef))
+    (left : List Mark) : Type 0 where
   pub list : List (Instantiation NodeRef)
   pub counted : AreCounted s before (IsUnrecorded before) list
   pub told : ran ≡ min (length list) most_told
-  pub again : asked ≤ asked_among before
+  pub again : asked ≤ marked_among marks before
   pub keeps : KeepsBy (run_of s).refusal s before after
+  pub leaves : MarksBy (run_of s).refusal marks left
 
 -- nothing is run, nothing is asked, and what was kept stays
-pub record IsFree (before : List (Kept NodeRef)) (ran asked : ℕ) (after : List (Kept NodeRef)) : Type 0 where
+pub record IsFree (before : List (Kept NodeRef)) (marks : List Mark) (ran asked : ℕ) (after : List (Kept NodeRef)) (left : List Mark) : Type 0 where
   pub told : ran ≡ 0
   pub again : asked ≡ 0
   pub keeps : after ≡ before
+  pub leaves : left ≡ marks
 
 -- ---- What a change costs
 
 -- the modules are this stylesheet, or have this refusal
-abbrev pub CostsBy : (Place → NodeRef) → Parameters → Document ℕ → Result Sheet compile.Refusal → (before : List (Kept NodeRef)) → (ran asked : ℕ)
-    → (after : List (Kept NodeRef)) → Type 0
-CostsBy called parameters source (Err why) before ran asked after = IsFree before ran asked after
-CostsBy called parameters source (Ok sheet) before ran asked after = IsCost (run_setting called sheet parameters source) before ran asked after
+abbrev pub CostsBy : (Place → NodeRef) → Parameters → Document ℕ → Result Sheet compile.Refusal → (before : List (Kept NodeRef)) → List Mark
+    → (ran asked : ℕ) → (after : List (Kept NodeRef)) → (left : List Mark) → Type 0
+CostsBy called parameters source (Err why) before marks ran asked after left = IsFree before marks ran asked after left
+CostsBy called parameters source (Ok sheet) before marks ran asked after left =
+    IsCost (run_setting called sheet parameters source) before marks ran asked after left
 
 -- where there is a principal module and a source
-abbrev pub CostsOn : (Place → NodeRef) → Modules → Parameters → Option Plain → Option (Document ℕ) → (before : List (Kept NodeRef)) → (ran asked : ℕ)
-    → (after : List (Kept NodeRef)) → Type 0
-CostsOn called modules parameters None source before ran asked after = IsFree before ran asked after
-CostsOn called modules parameters (Some main) None before ran asked after = IsFree before ran asked after
-CostsOn called modules parameters (Some main) (Some source) before ran asked after =
-    (result : Result Sheet compile.Refusal) × IsSheet modules main_name result × CostsBy called parameters source result before ran asked after
+abbrev pub CostsOn : (Place → NodeRef) → Modules → Parameters → Option Plain → Option (Document ℕ) → (before : List (Kept NodeRef)) → List Mark
+    → (ran asked : ℕ) → (after : List (Kept NodeRef)) → (left : List Mark) → Type 0
+CostsOn called modules parameters None source before marks ran asked after left = IsFree before marks ran asked after left
+CostsOn called modules parameters (Some main) None before marks ran asked after left = IsFree before marks ran asked after left
+CostsOn called modules parameters (Some main) (Some source) before marks ran asked after left =
+    (result : Result Sheet compile.Refusal) × IsSheet modules main_name result
+    × CostsBy called parameters source result before marks ran asked after left
+
+-- what a run goes by: what was told before, this, and where a change is one of modules what that tells
+abbrev pub MarksFor : (is_of_module : Bool) → Modules → Known → (told all : List Mark) → Type 0
+MarksFor false modules known told all = all ≡ told
+MarksFor true modules known told all = (style : List Mark) × AddsStyle modules (modules main_name) known style × (all ≡ and_marks told style)
 
 -- A change that is present at once, or a commit, by which these documents are present, and these are their numbers. Where it is one of a module, or a
--- change of the batch was, units are called by the numbers that the modules have then, and else as before
-pub record Pays (documents : Documents) (numbered : NumberedDocuments) (is_of_module : Bool) (before after : Past) : Type 0 where
+-- change of the batch was, units are called by the numbers that the modules have then, and else as before. These marks are told of it
+pub record Pays (documents : Documents) (numbered : NumberedDocuments) (is_of_module : Bool) (marks : List Mark) (before after : Past) : Type 0 where
   pub present : after.present ≡ numbered
   pub edited : after.edited ≡ numbered
   pub closed : after.is_edited ≡ false
   pub called : (before.is_edited || is_of_module) ≡ false → after.called ≡ before.called
   pub named : (before.is_edited || is_of_module) ≡ true → IsNamed after.called documents.modules numbered.modules
-  pub costs : CostsOn after.called documents.modules documents.parameters (documents.modules main_name) numbered.source before.records after.ran after.asked
-      after.records
+  pub all : List Mark
+  pub told : MarksFor (before.is_edited || is_of_module) documents.modules before.known (and_marks before.edited_marks marks) all
+  pub costs : CostsOn after.called documents.modules documents.parameters (documents.modules main_name) numbered.source before.records all after.ran after.asked
+      after.records after.marks
+  pub same : after.edited_marks ≡ after.marks
+  pub known : KnowsOf documents.modules (documents.modules main_name) before.known after.known
 
 -- a change in a batch, which makes this of the numbered documents. Nothing is run
-abbrev pub with_pending : NumberedDocuments → (is_of_module : Bool) → Past → Past
-with_pending numbered is_of_module before = record before { edited = numbered; is_edited = before.is_edited || is_of_module }
+abbrev pub with_pending : NumberedDocuments → (is_of_module : Bool) → List Mark → Past → Past
+with_pending numbered is_of_module marks before =
+    record before { edited = numbered; is_edited = before.is_edited || is_of_module; edited_marks = and_marks before.edited_marks marks }
 
 -- a batch that is dropped
 abbrev pub without_pending : Past → Past
-without_pending before = record before { edited = before.present; is_edited = false }
+without_pending before = record before { edited = before.present; is_edited = false; edited_marks = before.marks }

@@ -7,12 +7,13 @@ ghost use Rattle.spec_run.specs.Hold.{GoesOn};
 ghost use Rattle.spec_reuse.specs.Among.{IsIn};
 ghost use Rattle.spec_reuse.specs.Instantiation.{Instantiation, instantiations, kept_of, own_of};
 ghost use Rattle.spec_reuse.specs.Ledger.{AllEnd, HasLike, IsFound};
+ghost use Rattle.spec_cost.specs.Marking.{Mark};
 ghost use Rattle.spec_cost.specs.Fresh.{AreNewIn, NoneAlike};
 ghost use Rattle.spec_cost.specs.Paying.{IsCost, KeepsRun, most_told};
 
 /// No more instantiations are counted than the new run has.
 pub fn no_more_is_run_than_there_is()
-    ensures { (s : Setting NodeRef) (before after : List (Kept NodeRef)) (ran asked : ℕ) → IsCost s before ran asked after → ran ≤ length (instantiations s) }
+    ensures { (s : Setting NodeRef) (before after : List (Kept NodeRef)) (marks left : List Mark) (ran asked : ℕ) → IsCost s before marks ran asked after left → ran ≤ length (instantiations s) }
 {}
 
 /// Records that keep a run stand for what is kept of each of its instantiations that came to their ends: where that would be
@@ -24,18 +25,18 @@ pub fn what_keeps_a_run_is_enough()
 
 /// Where all that a run enters comes to its end and is kept, nothing of it is run again.
 pub fn what_is_kept_is_not_run_again()
-    ensures { (s : Setting NodeRef) (before after : List (Kept NodeRef)) (ran asked : ℕ) → KeepsRun s before → AllEnd s (instantiations s)
-        → IsCost s before ran asked after → ran ≡ 0 }
+    ensures { (s : Setting NodeRef) (before after : List (Kept NodeRef)) (marks left : List Mark) (ran asked : ℕ) → KeepsRun s before
+        → AllEnd s (instantiations s) → IsCost s before marks ran asked after left → ran ≡ 0 }
 {}
 
 /// Of each unit and node of which the new run has an instantiation and the one that was kept has none, one is counted.
 pub fn what_is_new_is_run()
-    ensures { (s t : Setting NodeRef) (before after : List (Kept NodeRef)) (ran asked : ℕ) (i : Instantiation NodeRef) → KeepsRun s before
-        → (cost : IsCost t before ran asked after) → IsIn i (instantiations t) → ¬ (HasLike (instantiations s) i.call) → HasLike cost.list i.call }
+    ensures { (s t : Setting NodeRef) (before after : List (Kept NodeRef)) (marks left : List Mark) (ran asked : ℕ) (i : Instantiation NodeRef)
+        → KeepsRun s before → (cost : IsCost t before marks ran asked after left) → IsIn i (instantiations t) → ¬ (HasLike (instantiations s) i.call) → HasLike cost.list i.call }
 {}
 
 /// So as many are told as there are such units and nodes, or the most that can be told.
 pub fn as_many_are_run_as_are_new()
-    ensures { (s t : Setting NodeRef) (before after : List (Kept NodeRef)) (ran asked : ℕ) (new : List (Instantiation NodeRef)) → KeepsRun s before
-        → IsCost t before ran asked after → NoneAlike new → AreNewIn s t new → min (length new) most_told ≤ ran }
+    ensures { (s t : Setting NodeRef) (before after : List (Kept NodeRef)) (marks left : List Mark) (ran asked : ℕ) (new : List (Instantiation NodeRef))
+        → KeepsRun s before → IsCost t before marks ran asked after left → NoneAlike new → AreNewIn s t new → min (length new) most_told ≤ ran }
 {}

@@ -7,7 +7,6 @@ use Rattle.std.specs.declared.alloc.Global.{Global}
 use Rattle.std.specs.declared.rc.Rc.{Rc}
 use Rattle.spec_document.specs.Forest.{Document}
 use Rattle.spec_run.specs.Documents.{Parameters}
-use Rattle.spec_run.specs.Going.{Event, Asked, Saw, Entered, Held}
 use Rattle.spec_run.specs.Meaning.{Setting}
 use Rattle.spec_run.specs.Trail.{Kept}
 use Rattle.spec_reuse.specs.Among.{IsIn}
@@ -15,15 +14,15 @@ use Rattle.spec_reuse.specs.Instantiation.{Instantiation, instantiations}
 use Rattle.spec_reuse.specs.Ledger.{AreCounted, Enters}
 use Rattle.spec_reuse.proofs.Counting.{run_counted}
 use Rattle.spec_node.specs.declared.node_ref.NodeRef.{NodeRef}
-use Rattle.spec_cost.specs.Paying.{IsUnrecorded, asked_among, asked_in}
-use Rattle.spec_touch.specs.Marks.{WorldChange, any_marks}
+use Rattle.spec_cost.specs.Paying.{IsUnrecorded}
+use Rattle.spec_touch.specs.Marks.{WorldChange}
 use Rattle.xt_text.specs.declared.memory.Memory.{Memory}
 use Rattle.xt_engine.specs.declared.global.NamedGlobal.{NamedGlobal}
 use Rattle.xt_world.specs.Numbered.{ref_to}
 use Rattle.xt_world.specs.View.{truth_in}
 use Rattle.xt_world.specs.declared.stylesheet.Stylesheet as world
 use Rattle.xt_touch.specs.View.{since_of}
-use Rattle.xt_record.specs.Asked.{marked_in, marked_among, marked_of, one_if}
+use Rattle.xt_record.specs.Asked.{marked_of}
 use Rattle.xt_record.specs.Sure.{IsSure}
 use Rattle.xt_record.specs.View.{kept_in}
 use Rattle.xt_record.specs.declared.pool.Pool.{Pool}
@@ -32,7 +31,7 @@ use Rattle.xt_record.specs.declared.reuse.Reuse.{Reuse}
 use Rattle.xt_driver.specs.Counted.{CountedWhole, kept_at, most_counted, records_of}
 use Rattle.xt_driver.specs.View.{setting_in}
 use Rattle.xt_driver.specs.declared.whole.Whole.{Whole}
-use Rattle.xt_held.specs.Cost.{Costs, CostsRun, any_change, kept_among, setting_on}
+use Rattle.xt_held.specs.Cost.{Costs, CostsRun, kept_among, setting_on}
 use Rattle.xt_held.specs.OutcomeView.{no_counts}
 use Rattle.xt_held.specs.RunView.{Ask}
 use Rattle.xt_held.specs.declared.counts.Counts.{Counts}
@@ -41,39 +40,6 @@ use Rattle.xt_held.specs.declared.outcome.Over.{Over}
 use Rattle.xt_held.specs.declared.outcome.Recorded.{Recorded}
 use Rattle.xt_held.specs.declared.stylesheet.Compiled.{Compiled}
 use Rattle.xt_held.specs.declared.stylesheet.Compiled.TheVariants.{Stylesheet, Refused}
-
--- ---- Questions that are asked again
-
-one_most : (b : Bool) → one_if b ≤ 1
-one_most true = omega arith
-one_most false = omega arith
-
-sum_most : (a b c d : ℕ) → a ≤ c → b ≤ d → a + b ≤ c + d
-sum_most a b c d h k = omega (arith, h, k)
-
--- where nothing is known of what changed, each is marked
-trace_most : (changes : List WorldChange) (es : List (Event NodeRef)) → marked_in changes es ≤ marked_in any_change es
-trace_most changes [] = omega arith
-trace_most changes (Asked question answer ∷ es) =
-    sum_most (one_if (any_marks changes question)) (marked_in changes es) 1 (marked_in any_change es) (one_most (any_marks changes question))
-    (trace_most changes es)
-trace_most changes (Saw wanted depth place supplied ∷ es) = trace_most changes es
-trace_most changes (Entered call depth ∷ es) = trace_most changes es
-trace_most changes (Held first contents ∷ es) = trace_most changes es
-
-among_most : (changes : List WorldChange) (rs : List (Rc Record Global)) → marked_among changes rs ≤ marked_among any_change rs
-among_most changes [] = omega arith
-among_most changes (r ∷ rs) =
-    sum_most (marked_in changes (kept_in r.value).trace) (marked_among changes rs) (marked_in any_change (kept_in r.value).trace) (marked_among any_change rs)
-    (trace_most changes (kept_in r.value).trace) (among_most changes rs)
-
-asked_most : (n : ℕ) (changes : List WorldChange) (records : Pool) → n ≤ marked_of changes records → n ≤ marked_of any_change records
-asked_most n changes records h = let most = among_most changes records.records.items in omega (arith, h, most)
-
-costs_most : (s : Setting NodeRef) (records : Pool) (changes : List WorldChange) (counts : Counts) → Costs s records changes counts
-    → Costs s records any_change counts
-costs_most s records changes counts h =
-    record { list = h.list; counted = h.counted; ran = h.ran; asked = asked_most counts.asked changes records h.asked }
 
 -- ---- What a run counts
 
@@ -103,54 +69,41 @@ ran_so before counted most after zero h =
     let none : 0 + counted ≡ counted = omega arith in
     from (omega arith) ∙ ap (λ (n : ℕ). min n most) none
 
-costs_of : (s : Setting NodeRef) (records : Pool) (changes : List WorldChange) (before after : Reuse) (counts : Counts) → Begins records before
-    → CountedWhole s (instantiations s) before after → counts.ran ≡ after.steps.ran → counts.asked ≤ marked_of changes records
-    → Costs s records changes counts
-costs_of s records changes before after counts begins h ran asked = record {
+costs_of : (s : Setting NodeRef) (records : Pool) (before after : Reuse) (counts : Counts) → Begins records before
+    → CountedWhole s (instantiations s) before after → counts.ran ≡ after.steps.ran → Costs s records counts
+costs_of s records before after counts begins h ran = record {
   list = h.list;
   counted = run_counted s (kept_among records) (records_of after) (IsUnrecorded (kept_among records)) h.list (λ kept among new. new kept among refl refl)
       (subst (λ (ks : List (Kept NodeRef)). Enters s ks h.list (instantiations s) (records_of after)) (first_records records before begins) h.enters);
   ran = ran ∙ ran_so before.steps.ran (length h.list) most_counted after.steps.ran begins.ran h.ran;
-  asked = asked;
 }
 
 -- what comes of the run has cost so much
-pub recorded_cost : (s : Setting NodeRef) (records : Pool) (changes : List WorldChange) (ask : Ask) (before after : Reuse) (r : Result Whole Memory)
-    (t : Result Recorded Memory) → Begins records before → after.last.now ≡ records → since_of after.spared.now.since.now ≡ changes
-    → OnOk r (CountedWhole s (instantiations s) before after) → OnOk r (IsSure ask after)
-    → IfOk t (λ over. r ≡ Ok over.whole) → IfOk t (λ over. over.counts.ran ≡ after.steps.ran)
-    → IfOk t (λ over. (ask : Ask) → IsSure ask after → over.counts.asked ≤ marked_of (since_of after.spared.now.since.now) after.last.now)
-    → IfOk t (λ over. Costs s records changes over.counts)
-recorded_cost s records changes ask before after r (Err memory) begins last since counted sure is ran asked = tt
-recorded_cost s records changes ask before after r (Ok over) begins last since counted sure is ran asked =
-    let is_sure = subst (λ (x : Result Whole Memory). OnOk x (IsSure ask after)) is sure in
-    costs_of s records changes before after over.counts begins
+pub recorded_cost : (s : Setting NodeRef) (records : Pool) (before after : Reuse) (r : Result Whole Memory) (t : Result Recorded Memory)
+    → Begins records before → OnOk r (CountedWhole s (instantiations s) before after) → IfOk t (λ over. r ≡ Ok over.whole)
+    → IfOk t (λ over. over.counts.ran ≡ after.steps.ran) → IfOk t (λ over. Costs s records over.counts)
+recorded_cost s records before after r (Err memory) begins counted is ran = tt
+recorded_cost s records before after r (Ok over) begins counted is ran =
+    costs_of s records before after over.counts begins
     (subst (λ (x : Result Whole Memory). OnOk x (CountedWhole s (instantiations s) before after)) is counted) ran
-    (subst (λ (cs : List WorldChange). over.counts.asked ≤ marked_of cs records) since
-    (subst (λ (pool : Pool). over.counts.asked ≤ marked_of (since_of after.spared.now.since.now) pool) last (asked ask is_sure)))
 
--- each question that the records asked, where nothing is known of what changed
-all_in : (es : List (Event NodeRef)) → marked_in any_change es ≡ asked_in es
-all_in [] = refl
-all_in (Asked question answer ∷ es) = ap (λ n. 1 + n) (all_in es)
-all_in (Saw wanted depth place supplied ∷ es) = all_in es
-all_in (Entered call depth ∷ es) = all_in es
-all_in (Held first contents ∷ es) = all_in es
-
-all_among : (rs : List (Rc Record Global)) → marked_among any_change rs ≡ asked_among (map kept_at rs)
-all_among [] = refl
-all_among (r ∷ rs) = λ i. all_in (kept_in r.value).trace i + all_among rs i
-
-pub asked_again : (n : ℕ) (records : Pool) → n ≤ marked_of any_change records → n ≤ asked_among (kept_among records)
-asked_again n records h = subst (λ (most : ℕ). n ≤ most) (all_among records.records.items) h
+-- and no more was asked again of the records than these changes mark
+pub recorded_asked : (records : Pool) (changes : List WorldChange) (ask : Ask) (after : Reuse) (r : Result Whole Memory) (t : Result Recorded Memory)
+    → after.last.now ≡ records → since_of after.spared.now.since.now ≡ changes → OnOk r (IsSure ask after) → IfOk t (λ over. r ≡ Ok over.whole)
+    → IfOk t (λ over. (ask : Ask) → IsSure ask after → over.counts.asked ≤ marked_of (since_of after.spared.now.since.now) after.last.now)
+    → IfOk t (λ over. over.counts.asked ≤ marked_of changes records)
+recorded_asked records changes ask after r (Err memory) last since sure is asked = tt
+recorded_asked records changes ask after r (Ok over) last since sure is asked =
+    let is_sure = subst (λ (x : Result Whole Memory). OnOk x (IsSure ask after)) is sure in
+    subst (λ (cs : List WorldChange). over.counts.asked ≤ marked_of cs records) since
+    (subst (λ (pool : Pool). over.counts.asked ≤ marked_of (since_of after.spared.now.since.now) pool) last (asked ask is_sure))
 
 -- ---- What comes of that
 
 -- with what else it keeps
-pub over_cost : (s : Setting NodeRef) (records : Pool) (changes : List WorldChange) (recorded : Recorded) (t : Result Over Memory)
-    → IfOk t (λ over. over.counts ≡ recorded.counts) → Costs s records changes recorded.counts → IfOk t (λ over. Costs s records any_change over.counts)
-over_cost s records changes recorded t told h =
-    IfOk-weaker t _ _ (λ over is. subst (λ (counts : Counts). Costs s records any_change counts) (sym is) (costs_most s records changes recorded.counts h)) told
+pub over_counts : (P : Counts → Type 0) (recorded : Recorded) (t : Result Over Memory) → IfOk t (λ over. over.counts ≡ recorded.counts)
+    → P recorded.counts → IfOk t (λ over. P over.counts)
+over_counts P recorded t told h = IfOk-weaker t _ _ (λ over is. subst P (sym is) h) told
 
 -- of a run of what is seen
 pub came_cost : (P : Counts → Type 0) (counts : Counts) (r : Result Came Memory) → IfOk r (λ came. came.counts ≡ counts) → P counts
@@ -158,8 +111,8 @@ pub came_cost : (P : Counts → Type 0) (counts : Counts) (r : Result Came Memor
 came_cost P counts r told h = IfOk-weaker r _ _ (λ came is. subst P (sym is) h) told
 
 -- where nothing is run
-pub refused_cost : (compiled : Compiled) (parameters : Parameters) (source : Option (Document ℕ)) (records : Pool) (changes : List WorldChange)
-    (counts : Counts) → counts ≡ no_counts → source ≡ None → CostsRun (Some compiled) parameters source records changes counts
-refused_cost (Refused why) parameters source records changes counts h none = h
-refused_cost (Stylesheet held rules method) parameters source records changes counts h none =
-    subst (λ (s : Option (Document ℕ)). CostsRun (Some (Stylesheet held rules method)) parameters s records changes counts) (sym none) h
+pub refused_cost : (compiled : Compiled) (parameters : Parameters) (source : Option (Document ℕ)) (records : Pool) (counts : Counts)
+    → counts ≡ no_counts → source ≡ None → CostsRun (Some compiled) parameters source records counts
+refused_cost (Refused why) parameters source records counts h none = h
+refused_cost (Stylesheet held rules method) parameters source records counts h none =
+    subst (λ (s : Option (Document ℕ)). CostsRun (Some (Stylesheet held rules method)) parameters s records counts) (sym none) h

@@ -12,7 +12,7 @@ use Rattle.xt_import.specs.View.{is_name, modules_in, plain_of}
 use Rattle.xt_world.specs.ParameterView.{parameters_of}
 use Rattle.xt_held.specs.Called.{AreCalled, numbered_modules}
 use Rattle.xt_held.specs.Complete.{KeepsWhere}
-use Rattle.xt_held.specs.Cost.{CostsRun, any_change}
+use Rattle.xt_held.specs.Cost.{CostsRun}
 use Rattle.xt_held.specs.OutcomeView.{Fits, outcome_of}
 use Rattle.xt_held.specs.RunView.{LastHolds}
 use Rattle.xt_held.specs.StylesheetView.{AreCompiled, IsThere, without_one}
@@ -41,7 +41,7 @@ pub ready_so : (old new : Held) → IsReordered old new → old.batch ≡ None �
     → Comes (without_one name (modules_in old.modules.entries)) (parameters_of old.parameters) (without_one name (modules_in old.modules.entries) main_name)
     (option_map plain_of old.source) (outcome_of came.outcome)
     → Fits came → LastHolds (outcome_of came.outcome) compiled (parameters_of new.parameters) new.source (left_by came (before_by compiled new.compiled new.last.before) new.last)
-    → CostsRun compiled (parameters_of new.parameters) new.source new.last.kept.records any_change came.counts
+    → CostsRun compiled (parameters_of new.parameters) new.source new.last.kept.records came.counts
     → KeepsWhere compiled (parameters_of new.parameters) new.source came.kept
     → IsCurrent old → IsReady (without_module name) (made_of new) new (told_ready (changes.Dropped kept (Now compiled)) next came)
 ready_so old new h alone name kept same compiled came next number are called comes fits holds cost keeps now =

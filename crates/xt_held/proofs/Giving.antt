@@ -11,7 +11,7 @@ use Rattle.xt_touch.specs.declared.since.Since.{Since}
 use Rattle.xt_world.specs.ParameterView.{HasRoomForOne, parameters_of, with_value}
 use Rattle.xt_world.specs.declared.parameters.Parameters.{Parameters}
 use Rattle.xt_held.specs.Complete.{KeepsWhere}
-use Rattle.xt_held.specs.Cost.{CostsRun, any_change}
+use Rattle.xt_held.specs.Cost.{CostsRun}
 use Rattle.xt_held.specs.OutcomeView.{Fits, outcome_of}
 use Rattle.xt_held.specs.RunView.{LastHolds, LastServes}
 use Rattle.xt_held.specs.StylesheetView.{AreCompiled}
@@ -60,7 +60,7 @@ module _ (held : Held) (parameters : Parameters) (name value : List ℕ) (key : 
       → Fits came
       → LastHolds (outcome_of came.outcome) held.compiled (with_value name value (parameters_of held.parameters)) held.source
       (left_by came held.last.before held.last)
-      → CostsRun held.compiled (with_value name value (parameters_of held.parameters)) held.source held.last.kept.records any_change came.counts
+      → CostsRun held.compiled (with_value name value (parameters_of held.parameters)) held.source held.last.kept.records came.counts
       → KeepsWhere held.compiled (with_value name value (parameters_of held.parameters)) held.source came.kept
       → HasRoomForOne parameters
       → IsReady (with_parameter name value) (made_of held) (with_those held parameters) (told_ready (changes.Parameter key kept) held.next came)
@@ -79,7 +79,7 @@ module _ (held : Held) (parameters : Parameters) (name value : List ℕ) (key : 
               compiled = compiled;
               last = subst (λ (values : spec.Parameters). LastHolds (outcome_of came.outcome) held.compiled values held.source
                   (left_by came held.last.before held.last)) given holds;
-              cost = subst (λ (values : spec.Parameters). CostsRun held.compiled values held.source held.last.kept.records any_change came.counts) given cost;
+              cost = subst (λ (values : spec.Parameters). CostsRun held.compiled values held.source held.last.kept.records came.counts) given cost;
               keeps = subst (λ (values : spec.Parameters). KeepsWhere held.compiled values held.source came.kept) given keeps;
               same = λ e. record { modules = present_modules (with_those held parameters) alone; compiled = refl };
               called = λ e. absurd (none_edited held.batch alone e);

@@ -4,6 +4,9 @@ pub mod Keys
 pub mod Coming
 pub mod Calling
 pub mod Costing
+pub mod Told
+pub mod Asking
+pub mod Knowing
 pub mod Completing
 pub mod Giving
 pub mod Keeping

@@ -1,5 +1,5 @@
 -- What is held stands for the same past, or for the one that is paid for.
-use Rattle.std.proofs.Common.{◌≡◌, ℕ, Bool, true, false, List, [], map, Option, None, Some, Result, Ok, Err, refl, sym, ap, subst, ◌∙◌}
+use Rattle.std.proofs.Common.{◌≡◌, ◌≤◌, ℕ, Bool, true, false, List, [], map, Option, None, Some, Result, Ok, Err, refl, sym, ap, subst, ◌∙◌}
 use Rattle.std.specs.Prelude.{◌||◌, IfOk, IfSome}
 use Rattle.std.specs.Option.{is_some, option_copied, unwrap_or}
 use Rattle.spec_document.specs.Forest.{Document, Plain}
@@ -19,7 +19,8 @@ use Rattle.spec_items.specs.Liftable.{with_items}
 use Rattle.spec_cost.specs.Naming.{IsNamed}
 use Rattle.spec_cost.specs.Numbers.{NumberedDocuments, NumberedModules, edited_if, no_numbers, with_module, with_nodes}
 use Rattle.spec_cost.specs.Past.{Past, nothing_past}
-use Rattle.spec_cost.specs.Paying.{CostsOn, IsCost, IsFree, KeepsBy, Pays, setting_called, with_pending}
+use Rattle.spec_cost.specs.Paying.{CostsOn, IsCost, IsFree, KeepsBy, MarksBy, MarksFor, Pays, setting_called, with_pending}
+use Rattle.spec_cost.specs.Marking.{Known, KnowsOf, Mark, and_marks, marked_among}
 use Rattle.spec_node.specs.declared.node_ref.NodeId.{NodeId}
 use Rattle.spec_node.specs.declared.node_ref.NodeRef.{NodeRef}
 use Rattle.spec_node.specs.Naming.{same_ref}
@@ -29,17 +30,21 @@ use Rattle.xt_compile.specs.View.{refusal_in}
 use Rattle.xt_edit.specs.View.{Edits}
 use Rattle.xt_edit.specs.declared.edit.Edited.{Edited}
 use Rattle.xt_edit.specs.declared.fault.EditFault.{EditFault}
+use Rattle.spec_touch.specs.Marks.{WorldChange}
+use Rattle.xt_touch.specs.View.{since_of}
 use Rattle.xt_touch.specs.declared.since.Since.{Since}
 use Rattle.xt_world.specs.Numbered.{ref_to}
 use Rattle.xt_world.specs.declared.stylesheet.Stylesheet as world
 use Rattle.xt_driver.specs.Counted.{kept_at}
 use Rattle.xt_held.specs.Complete.{KeepsFor, KeepsWhere}
-use Rattle.xt_held.specs.Cost.{Costs, CostsRun, any_change, kept_among, setting_on, setting_seen}
+use Rattle.xt_held.specs.Cost.{Costs, CostsRun, kept_among, setting_on, setting_seen}
+use Rattle.xt_held.specs.Marked.{AreToldBy, Tells, known_in, known_of, left_of}
+use Rattle.xt_held.specs.RunView.{last_known}
 use Rattle.xt_held.specs.OutcomeView.{no_counts}
 use Rattle.xt_held.specs.Called.{AreCalled, IsCalled, IsCalledIn, numbered_modules}
 use Rattle.xt_held.specs.PastView.{Brings, IsPast, PaysFor, edited_as, given_as, is_edited_by, is_of_module, numbers_of}
 use Rattle.xt_held.specs.StylesheetView.{AreCompiled, AreCompiledBy}
-use Rattle.xt_held.specs.View.{Basis, IsComing, IsCurrent, IsBatchOf, IsKept, IsMadeFrom, IsPending, IsTold, ModulesStay, documents_of, edited_basis, made_of, next_basis, next_batch, next_compiled, next_documents, next_numbers, next_present, next_source, numbered_document, present_basis, present_by, present_of}
+use Rattle.xt_held.specs.View.{Basis, IsComing, IsCurrent, IsBatchOf, IsKept, IsMadeFrom, IsPending, IsTold, ModulesStay, documents_of, edited_basis, made_of, next_basis, next_batch, next_before, next_compiled, next_documents, next_numbers, next_present, next_source, numbered_document, present_basis, present_by, present_of}
 use Rattle.xt_held.specs.declared.batch.Batch.{Batch}
 use Rattle.xt_held.specs.declared.counts.Counts.{Counts}
 use Rattle.xt_held.specs.declared.held.Held.{Held}
@@ -57,7 +62,8 @@ use Rattle.xt_held.specs.declared.stylesheet.Compiled.{Compiled}
 use Rattle.xt_held.specs.declared.stylesheet.Compiled.TheVariants.{Stylesheet, Refused}
 use denote.Ref.{Bor}
 use Rattle.xt_held.proofs.Batches.{IsCopyOf, copied_documents, opened, was_present}
-use Rattle.xt_held.proofs.Costing.{asked_again}
+use Rattle.xt_held.proofs.Asking.{nothing_told}
+use Rattle.xt_held.proofs.Knowing.{known_after}
 use Rattle.xt_held.proofs.Making.{IsAdopted, pending_ready, present_so, stays, told_ready}
 
 -- ---- The same past
@@ -73,19 +79,26 @@ same_called called modules others compiled other m c h =
 
 -- at the start
 pub first_past : (called : Place → NodeRef) (held : Held) → held.source ≡ None → held.modules.entries ≡ [] → held.compiled ≡ None → held.batch ≡ None
-    → held.last.kept.records.records.items ≡ [] → held.counts.ran ≡ 0 → held.counts.asked ≡ 0 → IsPast (nothing_past called) held
-first_past called held source modules compiled batch records ran asked = record {
+    → held.last.kept.records.records.items ≡ [] → since_of held.last.since ≡ [] → held.last.before ≡ None → held.counts.ran ≡ 0 → held.counts.asked ≡ 0
+    → IsPast (nothing_past called) held
+first_past called held source modules compiled batch records since known ran asked = record {
   present = sym (ap (λ (b : Option Batch). basis_numbers (present_by b (edited_basis held))) batch ∙ no_documents_yet source modules);
   edited = sym (no_documents_yet source modules);
   is_edited = sym (ap is_edited_by batch);
   called = subst (λ (o : Option Compiled). IsCalledIn called (present_of held).modules o) (sym compiled) tt;
   records = sym (ap (map kept_at) records);
+  marks = subst (λ (b : Option Batch). AreToldBy [] (since_of (present_by b (edited_basis held)).last.since)) (sym batch) none_told;
+  edited_marks = none_told;
+  known = sym (ap known_of (λ i. last_known (compiled i) (known i)));
   ran = sym ran;
   asked = sym asked;
 }
   where
     no_documents_yet : held.source ≡ None → held.modules.entries ≡ [] → numbers_of held ≡ no_numbers
     no_documents_yet s m = λ i. record { source = s i; modules = numbered_modules (m i) }
+
+    none_told : AreToldBy [] (since_of held.last.since)
+    none_told = subst (λ (changes : List WorldChange). AreToldBy [] changes) (sym since) nothing_told
 
 -- ---- The modules stay
 
@@ -128,23 +141,37 @@ keeps_by s None kept (Some left) h = h
 keeps_by s (Some why) kept None h = refl
 keeps_by s (Some why) kept (Some left) h = absurd h
 
-cost_so : (s : Setting NodeRef) (kept : Kept) (new : Option Kept) (counts : Counts) → Costs s kept.records any_change counts
-    → KeepsFor (run_of s).refusal s new → IsCost s (kept_among kept.records) counts.ran counts.asked (kept_among (unwrap_or new kept).records)
-cost_so s kept new counts cost keeps = record {
+marks_by : (s : Setting NodeRef) (refusal : Option Refusal) (marks : List Mark) (new : Option Kept) → KeepsFor refusal s new
+    → MarksBy refusal marks (left_of new marks)
+marks_by s None marks None h = absurd h
+marks_by s None marks (Some left) h = refl
+marks_by s (Some why) marks None h = refl
+marks_by s (Some why) marks (Some left) h = absurd h
+
+-- no more questions of the records were asked again than these marks
+abbrev AsksOf : Kept → List Mark → Counts → Type 0
+AsksOf kept marks counts = counts.asked ≤ marked_among marks (kept_among kept.records)
+
+cost_so : (s : Setting NodeRef) (kept : Kept) (new : Option Kept) (counts : Counts) (marks : List Mark) → Costs s kept.records counts
+    → AsksOf kept marks counts → KeepsFor (run_of s).refusal s new
+    → IsCost s (kept_among kept.records) marks counts.ran counts.asked (kept_among (unwrap_or new kept).records) (left_of new marks)
+cost_so s kept new counts marks cost asked keeps = record {
   list = cost.list;
   counted = cost.counted;
   told = cost.ran;
-  again = asked_again counts.asked kept.records cost.asked;
+  again = asked;
   keeps = keeps_by s (run_of s).refusal kept new keeps;
+  leaves = marks_by s (run_of s).refusal marks new keeps;
 }
 
 -- nothing was run
-free_so : (kept : Kept) (new : Option Kept) (counts : Counts) → counts ≡ no_counts → new ≡ None
-    → IsFree (kept_among kept.records) counts.ran counts.asked (kept_among (unwrap_or new kept).records)
-free_so kept new counts none nothing = record {
+free_so : (kept : Kept) (new : Option Kept) (counts : Counts) (marks : List Mark) → counts ≡ no_counts → new ≡ None
+    → IsFree (kept_among kept.records) marks counts.ran counts.asked (kept_among (unwrap_or new kept).records) (left_of new marks)
+free_so kept new counts marks none nothing = record {
   told = ap (λ (c : Counts). c.ran) none;
   again = ap (λ (c : Counts). c.asked) none;
   keeps = ap (λ (o : Option Kept). kept_among (unwrap_or o kept).records) nothing;
+  leaves = ap (λ (o : Option Kept). left_of o marks) nothing;
 }
 
 -- the run by what its elements are called
@@ -158,26 +185,29 @@ called_so called sheet held rules parameters source is same =
 
 costs_so : (called : Place → NodeRef) (modules : Modules) (parameters : Parameters) (main : Option Plain) (source : Option (Document ℕ))
     (compiled : Option Compiled) → AreCompiledBy modules main compiled → IsCalledIn called modules compiled
-    → (kept : Kept) (new : Option Kept) (counts : Counts) → CostsRun compiled parameters source kept.records any_change counts
-    → KeepsWhere compiled parameters source new
-    → CostsOn called modules parameters main source (kept_among kept.records) counts.ran counts.asked (kept_among (unwrap_or new kept).records)
-costs_so called modules parameters None source None are is kept new counts cost keeps = free_so kept new counts cost keeps
-costs_so called modules parameters None source (Some compiled) are is kept new counts cost keeps = absurd are
-costs_so called modules parameters (Some main) source None are is kept new counts cost keeps = absurd are
-costs_so called modules parameters (Some main) None (Some (Refused why)) are is kept new counts cost keeps = free_so kept new counts cost keeps
-costs_so called modules parameters (Some main) None (Some (Stylesheet held rules method)) are is kept new counts cost keeps =
-    free_so kept new counts cost keeps
-costs_so called modules parameters (Some main) (Some source) (Some (Refused why)) are is kept new counts cost keeps = (
+    → (kept : Kept) (new : Option Kept) (counts : Counts) (marks : List Mark) → CostsRun compiled parameters source kept.records counts
+    → AsksOf kept marks counts → KeepsWhere compiled parameters source new
+    → CostsOn called modules parameters main source (kept_among kept.records) marks counts.ran counts.asked (kept_among (unwrap_or new kept).records)
+    (left_of new marks)
+costs_so called modules parameters None source None are is kept new counts marks cost asked keeps = free_so kept new counts marks cost keeps
+costs_so called modules parameters None source (Some compiled) are is kept new counts marks cost asked keeps = absurd are
+costs_so called modules parameters (Some main) source None are is kept new counts marks cost asked keeps = absurd are
+costs_so called modules parameters (Some main) None (Some (Refused why)) are is kept new counts marks cost asked keeps =
+    free_so kept new counts marks cost keeps
+costs_so called modules parameters (Some main) None (Some (Stylesheet held rules method)) are is kept new counts marks cost asked keeps =
+    free_so kept new counts marks cost keeps
+costs_so called modules parameters (Some main) (Some source) (Some (Refused why)) are is kept new counts marks cost asked keeps = (
   Err (refusal_in why),
   subst (λ (r : Result plain.Sheet compile.Refusal). IsSheet modules main_name r) are.holds are.is,
-  free_so kept new counts cost keeps,
+  free_so kept new counts marks cost keeps,
 )
-costs_so called modules parameters (Some main) (Some source) (Some (Stylesheet held rules method)) are is kept new counts cost keeps = (
+costs_so called modules parameters (Some main) (Some source) (Some (Stylesheet held rules method)) are is kept new counts marks cost asked keeps = (
   Ok is.0,
   is.1,
-  subst (λ (s : Setting NodeRef). IsCost s (kept_among kept.records) counts.ran counts.asked (kept_among (unwrap_or new kept).records))
+  subst (λ (s : Setting NodeRef). IsCost s (kept_among kept.records) marks counts.ran counts.asked (kept_among (unwrap_or new kept).records)
+      (left_of new marks))
       (called_so called (with_items is.0) held rules parameters source is.2 is.3)
-      (cost_so (setting_seen held rules parameters source) kept new counts cost keeps),
+      (cost_so (setting_seen held rules parameters source) kept new counts marks cost asked keeps),
 )
 
 -- ---- What elements are called
@@ -220,10 +250,10 @@ edited_in (changes.Dropped name compiled) (Some batch) h = changed batch.is_edit
 numbers_are : {ready : Ready} {old new : Held} → IsAdopted ready old new → numbers_of new ≡ next_numbers ready.change old
 numbers_are h = λ i. record { source = h.source i; modules = h.modules i }
 
-module _ (change : Change) (next : NodeId) (old new : Held) (before : Past) (is : IsPast before old) where
+module _ (change : Change) (next : NodeId) (old new : Held) (marks : List Mark) (before : Past) (is : IsPast before old) where
   pending_past : (since : Since) → IsAdopted (pending_ready change next since) old new → IsPending (pending_ready change next since) old
-      → IsPast (with_pending (next_numbers change old) (is_of_module change) before) new
-  pending_past since h pending =
+      → Tells marks old (pending_ready change next since) → IsPast (with_pending (next_numbers change old) (is_of_module change) marks before) new
+  pending_past since h pending tells =
       let basis : present_basis new ≡ present_basis old
       = present_so change next old new (pending_ready change next since) h ∙ stays old change next since pending in
       record {
@@ -233,13 +263,19 @@ module _ (change : Change) (next : NodeId) (old new : Held) (before : Past) (is 
         called = same_called before.called (present_of old).modules (present_of new).modules old.compiled new.compiled
             (ap (λ (basis : Basis). basis.documents.modules) basis) (h.compiled ∙ pending.compiled) is.called;
         records = is.records ∙ sym (ap (λ (last : LastRun). kept_among last.kept.records) h.last);
+        marks = subst (λ (basis : Basis). AreToldBy before.marks (since_of basis.last.since)) (sym basis) is.marks;
+        edited_marks = subst (λ (last : LastRun). AreToldBy (and_marks before.edited_marks marks) (since_of last.since)) (sym h.last)
+            (tells.tells before.edited_marks is.edited_marks);
+        known = is.known ∙ sym (ap known_of (λ i. last_known ((h.compiled ∙ pending.compiled) i)
+            ((ap (λ (last : LastRun). last.before) h.last ∙ pending.before) i)));
         ran = is.ran ∙ sym (ap (λ (counts : Counts). counts.ran) h.counts);
         asked = is.asked ∙ sym (ap (λ (counts : Counts). counts.asked) h.counts);
       }
 
   told_past : (came : Came) → IsAdopted (told_ready change next came) old new → IsTold came (told_ready change next came) old
-      → (after : Past) × Pays (next_present (told_ready change next came) old) (next_numbers change old) (is_of_module change) before after × IsPast after new
-  told_past came h told =
+      → Tells marks old (told_ready change next came)
+      → (after : Past) × Pays (next_present (told_ready change next came) old) (next_numbers change old) (is_of_module change) marks before after × IsPast after new
+  told_past came h told tells =
       let ready = told_ready change next came in
       let documents = next_documents ready old in
       let compiled = next_compiled change old in
@@ -251,12 +287,17 @@ module _ (change : Change) (next : NodeId) (old new : Held) (before : Past) (is 
       let changed : (before.is_edited || is_of_module change) ≡ true → AreCalled documents.modules (next_numbers change old).modules compiled
       = λ e. told.called (ap (λ (b : Bool). b || is_of_module change) (sym is.is_edited) ∙ e) in
       let chosen = choose (before.is_edited || is_of_module change) before.called documents.modules (next_numbers change old).modules compiled changed stay in
+      let asks = tells.tells before.edited_marks is.edited_marks in
+      let known = known_of (last_known compiled (next_before change old)) in
       let after : Past = record {
         present = next_numbers change old;
         edited = next_numbers change old;
         is_edited = false;
         called = chosen.called;
         records = kept_among left.records;
+        marks = left_of came.kept asks.all;
+        edited_marks = left_of came.kept asks.all;
+        known = known;
         ran = came.counts.ran;
         asked = came.counts.asked;
       } in
@@ -265,10 +306,12 @@ module _ (change : Change) (next : NodeId) (old new : Held) (before : Past) (is 
       let present : documents ≡ next_present ready old
       = sym (ap (λ (batch : Option Batch). (present_by batch (next_basis ready old)).documents) told.closed) in
       let costs = costs_so chosen.called documents.modules documents.parameters (documents.modules main_name) (next_source change old) compiled
-      told.compiled.so chosen.is old.last.kept came.kept came.counts told.cost told.keeps in
+      told.compiled.so chosen.is old.last.kept came.kept came.counts asks.all told.cost asks.asked.again told.keeps in
       let CostsOf : Documents → List (Trail NodeRef) → Type 0
-      = λ ds records. CostsOn chosen.called ds.modules ds.parameters (ds.modules main_name) (next_source change old) records came.counts.ran
-      came.counts.asked (kept_among left.records) in (
+      = λ ds records. CostsOn chosen.called ds.modules ds.parameters (ds.modules main_name) (next_source change old) records asks.all came.counts.ran
+      came.counts.asked (kept_among left.records) (left_of came.kept asks.all) in
+      let ToldOf : Documents → Bool → Known → Type 0
+      = λ ds b known. MarksFor (b || is_of_module change) ds.modules known (and_marks before.edited_marks marks) asks.all in (
         after,
         record {
           present = refl;
@@ -276,8 +319,16 @@ module _ (change : Change) (next : NodeId) (old new : Held) (before : Past) (is 
           closed = refl;
           called = chosen.same;
           named = λ e. subst (λ (ds : Documents). IsNamed chosen.called ds.modules (next_numbers change old).modules) present (chosen.named e);
+          all = asks.all;
+          told = subst (λ (ds : Documents). ToldOf ds before.is_edited before.known) present
+              (subst (λ (b : Bool). ToldOf documents b before.known) (sym is.is_edited)
+              (subst (λ (known : Known). ToldOf documents (is_edited_by old.batch) known) (sym is.known) asks.by));
           costs = subst (λ (ds : Documents). CostsOf ds before.records) present
               (subst (λ (records : List (Trail NodeRef)). CostsOf documents records) (sym is.records) costs);
+          same = refl;
+          known = subst (λ (ds : Documents). KnowsOf ds.modules (ds.modules main_name) before.known known) present
+              (subst (λ (was : Known). KnowsOf documents.modules (documents.modules main_name) was known) (sym is.known)
+              (known_after change old documents.modules told.compiled.so));
         },
         record {
           present = sym (ap basis_numbers basis);
@@ -286,6 +337,9 @@ module _ (change : Change) (next : NodeId) (old new : Held) (before : Past) (is 
           called = same_called chosen.called documents.modules (present_of new).modules compiled new.compiled
               (ap (λ (basis : Basis). basis.documents.modules) basis) h.compiled chosen.is;
           records = sym (ap (λ (last : LastRun). kept_among last.kept.records) h.last);
+          marks = subst (λ (basis : Basis). AreToldBy (left_of came.kept asks.all) (since_of basis.last.since)) (sym basis) asks.asked.left;
+          edited_marks = subst (λ (last : LastRun). AreToldBy (left_of came.kept asks.all) (since_of last.since)) (sym h.last) asks.asked.left;
+          known = sym (ap known_of (λ i. last_known (h.compiled i) (ap (λ (last : LastRun). last.before) h.last i)));
           ran = sym (ap (λ (counts : Counts). counts.ran) h.counts);
           asked = sym (ap (λ (counts : Counts). counts.asked) h.counts);
         },
@@ -293,14 +347,15 @@ module _ (change : Change) (next : NodeId) (old new : Held) (before : Past) (is 
 
   past_so : (coming : Coming) → IsAdopted (record { change = change; next = next; coming = coming }) old new
       → IsComing coming (record { change = change; next = next; coming = coming }) old
-      → (after : Past) × PaysFor (record { change = change; next = next; coming = coming }) old before after × IsPast after new
-  past_so (Told came) h told = told_past came h told
-  past_so (Pending since) h pending =
-      (with_pending (next_numbers change old) (is_of_module change) before, refl, pending_past since h pending)
+      → Tells marks old (record { change = change; next = next; coming = coming })
+      → (after : Past) × PaysFor marks (record { change = change; next = next; coming = coming }) old before after × IsPast after new
+  past_so (Told came) h told tells = told_past came h told tells
+  past_so (Pending since) h pending tells =
+      (with_pending (next_numbers change old) (is_of_module change) marks before, refl, pending_past since h pending tells)
 
-pub adopted_past : (ready : Ready) (old new : Held) → IsAdopted ready old new → IsMadeFrom old ready → (before : Past) → IsPast before old
-    → (after : Past) × PaysFor ready old before after × IsPast after new
-adopted_past ready old new h from before is = past_so ready.change ready.next old new before is ready.coming h from.comes
+pub adopted_past : (ready : Ready) (old new : Held) → IsAdopted ready old new → IsMadeFrom old ready → (marks : List Mark) → Tells marks old ready
+    → (before : Past) → IsPast before old → (after : Past) × PaysFor marks ready old before after × IsPast after new
+adopted_past ready old new h from marks tells before is = past_so ready.change ready.next old new marks before is ready.coming h from.comes tells
 
 -- ---- A batch that is opened
 
@@ -319,6 +374,10 @@ opened_past held batch none h past is = record {
       (ap (λ (ds : Documents). ds.modules)
       (copied_documents held batch none h ∙ sym (ap (λ (basis : Basis). basis.documents) (was_present held batch none h)))) refl is.called;
   records = is.records;
+  marks = subst (λ (changes : List WorldChange). AreToldBy past.marks changes) (sym h.since)
+      (subst (λ (basis : Basis). AreToldBy past.marks (since_of basis.last.since)) (was_present held batch none h) is.marks);
+  edited_marks = is.edited_marks;
+  known = is.known;
   ran = is.ran;
   asked = is.asked;
 }

@@ -8,4 +8,5 @@ pub mod Cost
 pub mod Complete
 pub mod Tried
 pub mod View
+pub mod Marked
 pub mod PastView

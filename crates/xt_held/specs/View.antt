@@ -27,7 +27,7 @@ use Rattle.spec_cost.specs.Numbers.{NumberedDocuments, NumberedModules}
 use Rattle.spec_cost.specs.Numbers as numbers
 use Rattle.xt_held.specs.Called.{AreCalled, numbered_modules}
 use Rattle.xt_held.specs.Complete.{KeepsWhere}
-use Rattle.xt_held.specs.Cost.{CostsRun, any_change}
+use Rattle.xt_held.specs.Cost.{CostsRun}
 use Rattle.xt_held.specs.OutcomeView.{Fits, IsFreeFor, outcome_of}
 use Rattle.xt_held.specs.RunView.{IsFaultless, LastHolds, LastServes, last_known}
 use Rattle.xt_held.specs.StylesheetView.{AreCompiled, IsThere}
@@ -375,8 +375,7 @@ pub record IsTold (came : Came) (ready : Ready) (held : Held) : Type 0 where
   pub compiled : AreCompiled (next_documents ready held).modules (next_compiled ready.change held)
   pub last : LastHolds (outcome_of came.outcome) (next_compiled ready.change held) (next_documents ready held).parameters (next_source ready.change held)
       (next_last ready held)
-  -- where each question of what the last run kept was asked again once at most
-  pub cost : CostsRun (next_compiled ready.change held) (next_documents ready held).parameters (next_source ready.change held) held.last.kept.records any_change
+  pub cost : CostsRun (next_compiled ready.change held) (next_documents ready held).parameters (next_source ready.change held) held.last.kept.records
       came.counts
   -- what the run kept is complete, and is there where the run ended with a result
   pub keeps : KeepsWhere (next_compiled ready.change held) (next_documents ready held).parameters (next_source ready.change held) came.kept

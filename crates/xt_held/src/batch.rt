@@ -1,5 +1,5 @@
 // Batches: changes that become present together, or are dropped together.
-ghost use Rattle.std.specs.Prelude.{◌≡◌, ◌+◌, ◌≤◌, ℕ, List, ◌∷◌, IfOk, OnOk, Some, drop, false, true};
+ghost use Rattle.std.specs.Prelude.{◌≡◌, ◌+◌, ◌≤◌, ℕ, List, ◌∷◌, [], IfOk, OnOk, Some, drop, false, true};
 ghost use Rattle.std.specs.Option.{is_some, option_map};
 ghost use Rattle.std.specs.declared.alloc.Global as alloc_type;
 ghost use Rattle.std.specs.declared.string.String as string_type;
@@ -12,7 +12,9 @@ ghost use Rattle.xt_edit.specs.View.{AreBelow};
 ghost use Rattle.xt_import.specs.View.{plain_of};
 ghost use Rattle.xt_touch.specs.View.{since_of};
 ghost use Rattle.xt_world.specs.ParameterView.{parameters_of};
+ghost use Rattle.xt_held.specs.Marked.{Tells, known_in, source_marks};
 ghost use Rattle.xt_held.specs.PastView.{Brings, IsPast, past_left};
+ghost use Rattle.spec_cost.specs.Marking.{Given};
 ghost use Rattle.xt_held.specs.RunView.{IsFaultless, IsMadeBy};
 ghost use Rattle.xt_held.specs.StylesheetView.{AreCompiled};
 ghost use Rattle.xt_held.specs.Tried.{AreSame};
@@ -99,6 +101,7 @@ impl Held {
         requires { IsCurrent self.now }
         ensures answer { PreparesCommit self.now result }
         ensures brings { IfOk result (Brings (numbers_of self.now) false self.now) }
+        ensures tells { IfOk result (Tells [] self.now) }
     {
         match &self.batch {
             None => Err(EditFault::Refused {
@@ -122,6 +125,7 @@ impl Held {
         requires edited { is_edited_by self.now.batch ≡ true }
         ensures ok { IfOk result (λ ready. IsCommit self.now ready) }
         ensures brings { IfOk result (Brings (numbers_of self.now) false self.now) }
+        ensures tells { IfOk result (Tells [] self.now) }
     {
         let compiled = compile(alloc, &self.modules)?;
         let Ok(came) = self.outcome_with_modules(alloc, compiled.as_ref()) else {
@@ -143,6 +147,7 @@ impl Held {
         requires compiled { AreCompiled (documents_of self.now).modules self.now.compiled }
         ensures ok { IfOk result (λ ready. IsCommit self.now ready) }
         ensures brings { IfOk result (Brings (numbers_of self.now) false self.now) }
+        ensures tells { IfOk result (Tells [] self.now) }
     {
         let since = self.last.since.copy(alloc)?;
         let came = self.outcome_after(alloc, self.source.as_ref(), since)?;
@@ -216,6 +221,7 @@ impl Held {
         requires below { AreBelow next.number document }
         ensures ok { IfOk result (λ ready. IsReady (with_source (plain_of document)) next.number self.now ready) }
         ensures brings { IfOk result (Brings (numbers.with_source document (numbers_of self.now)) false self.now) }
+        ensures tells { IfOk result (Tells (source_marks (known_in self.now) origin.entry self.now.source document) self.now) }
     {
         let Ok(since) = self.since_source(alloc, origin, &document) else {
             drop(document);
@@ -242,6 +248,7 @@ impl Held {
         requires below { AreBelow next.number document }
         ensures ok { IfOk result (λ ready. IsReady (with_module name.now (plain_of document)) next.number self.new ready) }
         ensures brings { IfOk result (Brings (numbers.with_module name.now (Some document) (numbers_of self.new)) true self.new) }
+        ensures tells { IfOk result (Tells [] self.new) }
         ensures kept { IsKept self.old self.new }
     {
         let Ok(key) = String::from_str(alloc, name.as_str()) else {
@@ -270,6 +277,7 @@ impl Held {
         requires is_open { is_some (pending_of self.now) ≡ true }
         ensures ok { IfOk result (λ ready. IsReady (without_module name.now) (made_of self.now) self.now ready) }
         ensures brings { IfOk result (Brings (dropped_module name.now (numbers_of self.now)) true self.now) }
+        ensures tells { IfOk result (Tells [] self.now) }
     {
         let dropped = name.copy(alloc)?;
         let since = self.last.since.copy(alloc)?;
@@ -291,6 +299,7 @@ impl Held {
         requires is_open { is_some (pending_of self.old) ≡ true }
         ensures ok { IfOk result (λ ready. IsReady (with_parameter name.now value.now) (made_of self.new) self.new ready) }
         ensures brings { IfOk result (Brings (numbers_of self.new) false self.new) }
+        ensures tells { IfOk result (Tells (Given name.now ∷ []) self.new) }
         ensures kept { IsKept self.old self.new }
     {
         let key = String::from_str(alloc, name.as_str())?;

@@ -1,5 +1,5 @@
 // What a session holds.
-ghost use Rattle.std.specs.Prelude.{◌≡◌, ◌+◌, ◌<◌, ◌≤◌, ℕ, List, IfOk, IfSome, None, Some, false, string_bytes, true};
+ghost use Rattle.std.specs.Prelude.{◌≡◌, ◌+◌, ◌<◌, ◌≤◌, ◌∷◌, [], ℕ, List, IfOk, IfSome, None, Some, false, string_bytes, true};
 ghost use Rattle.std.specs.HashMap.{spare};
 ghost use Rattle.std.specs.Map.{lookup};
 ghost use Rattle.std.specs.Option.{is_some, option_copied, option_map};
@@ -22,7 +22,9 @@ ghost use Rattle.spec_run.specs.Outcome.{Comes};
 ghost use Rattle.xt_world.specs.ParameterView.{HasRoomForOne, parameters_of, with_value};
 ghost use Rattle.xt_touch.specs.View.{since_of};
 ghost use Rattle.xt_held.specs.Complete.{KeepsWhere};
-ghost use Rattle.xt_held.specs.Cost.{CostsRun, any_change};
+ghost use Rattle.xt_held.specs.Cost.{CostsRun};
+ghost use Rattle.xt_held.specs.Marked.{AreToldBy, IsAskedBy, Tells, document_marks, known_in, marks_as, source_marks};
+ghost use Rattle.spec_cost.specs.Marking.{AddsStyle, Anything, Given, Mark, and_marks, edit_marks, move_marks};
 ghost use Rattle.xt_held.specs.RunView.{AnswersAsSome, IsFaultless, IsMadeBy, IsMadeByEdit, IsMadeByMove, LastHolds, LastServes, StaysSpared, last_known};
 ghost use Rattle.xt_held.specs.StylesheetView.{AreCompiled};
 ghost use Rattle.xt_import.specs.View.{is_name, plain_of};
@@ -119,6 +121,7 @@ impl Held {
         requires { IsCurrent self.now }
         ensures answer { Prepares with_source self.now (document_of root_scope (made_of self.now) body.now) result }
         ensures brings { IfOk result (Brings (given_source (document_of root_scope (made_of self.now) body.now) (numbers_of self.now)) false self.now) }
+        ensures tells { IfOk result (Tells (Anything ∷ []) self.now) }
     {
         match self.built(alloc, body) {
             Ok(Built { document, next }) => {
@@ -139,6 +142,7 @@ impl Held {
         requires { IsCurrent self.old }
         ensures answer { Prepares (with_module name.now) self.new (document_of root_scope (made_of self.old) body.now) result }
         ensures brings { IfOk result (Brings (given_module name.now (document_of root_scope (made_of self.old) body.now) (numbers_of self.new)) true self.new) }
+        ensures tells { IfOk result (Tells [] self.new) }
         ensures kept { IsKept self.old self.new }
         ensures past { (past : Past) → IsPast past self.old → IsPast past self.new }
     {
@@ -154,6 +158,7 @@ impl Held {
         requires { IsCurrent self.old }
         ensures answer { PreparesDrop name.now self.new result }
         ensures brings { IfOk result (Brings (dropped_module name.now (numbers_of self.new)) true self.new) }
+        ensures tells { IfOk result (Tells [] self.new) }
         ensures kept { IsKept self.old self.new }
         ensures past { (past : Past) → IsPast past self.old → IsPast past self.new }
     {
@@ -178,6 +183,7 @@ impl Held {
         requires { IsCurrent self.old }
         ensures answer { PreparesEdit name.entry (edit_of edit.now) self.new result }
         ensures brings { IfOk result (Brings (edited_as name.entry (edited_nodes (made_of self.new) (edit_of edit.now)) (numbers_of self.new)) (is_module name.entry) self.new) }
+        ensures tells { IfOk result (Tells (marks_as name.entry (edit_marks (known_in self.new) (edit_of edit.now)) (numbers_of self.new) (edited_as name.entry (edited_nodes (made_of self.new) (edit_of edit.now)) (numbers_of self.new))) self.new) }
         ensures kept { IsKept self.old self.new }
         ensures past { (past : Past) → IsPast past self.old → IsPast past self.new }
     {
@@ -207,6 +213,7 @@ impl Held {
         requires { IsCurrent self.old }
         ensures answer { PreparesMove name.entry path.now other.now self.new result }
         ensures brings { IfOk result (Brings (edited_as name.entry (moved_nodes (made_of self.new) path.now other.now) (numbers_of self.new)) (is_module name.entry) self.new) }
+        ensures tells { IfOk result (Tells (marks_as name.entry (move_marks (known_in self.new) path.now other.now) (numbers_of self.new) (edited_as name.entry (moved_nodes (made_of self.new) path.now other.now) (numbers_of self.new))) self.new) }
         ensures kept { IsKept self.old self.new }
         ensures past { (past : Past) → IsPast past self.old → IsPast past self.new }
     {
@@ -225,6 +232,7 @@ impl Held {
         requires { IsCurrent self.old }
         ensures answer { PreparesParameter name.now value.now self.new result }
         ensures brings { IfOk result (Brings (numbers_of self.new) false self.new) }
+        ensures tells { IfOk result (Tells (Given name.now ∷ []) self.new) }
         ensures kept { IsKept self.old self.new }
         ensures past { (past : Past) → IsPast past self.old → IsPast past self.new }
     {
@@ -245,7 +253,7 @@ impl Held {
         ensures outcome { outcome_in self.new ≡ next_outcome ready self.old }
         ensures counts { counts_in self.new ≡ next_counts ready self.old }
         ensures last { last_in self.new ≡ next_last ready self.old }
-        ensures past { (before : Past) → IsPast before self.old → (after : Past) × PaysFor ready self.old before after × IsPast after self.new }
+        ensures past { (marks : List Mark) → Tells marks self.old ready → (before : Past) → IsPast before self.old → (after : Past) × PaysFor marks ready self.old before after × IsPast after self.new }
         ensures current { IsCurrent self.new }
     {
         let Ready {
@@ -400,6 +408,7 @@ impl Held {
         requires below { AreBelow next.number document }
         ensures ok { IfOk result (λ ready. IsReady (with_document name.entry (plain_of document)) next.number self.new ready) }
         ensures brings { IfOk result (Brings (given_as name.entry document (numbers_of self.new)) (is_module name.entry) self.new) }
+        ensures tells { IfOk result (Tells (document_marks name.entry origin.entry self.new document) self.new) }
         ensures kept { IsKept self.old self.new }
     {
         match name {
@@ -423,6 +432,7 @@ impl Held {
         requires below { AreBelow next.number document }
         ensures ok { IfOk result (λ ready. IsReady (with_source (plain_of document)) next.number self.now ready) }
         ensures brings { IfOk result (Brings (numbers.with_source document (numbers_of self.now)) false self.now) }
+        ensures tells { IfOk result (Tells (source_marks (known_in self.now) origin.entry self.now.source document) self.now) }
     {
         if self.pending() {
             self.pending_source(alloc, origin, document, next)
@@ -447,6 +457,7 @@ impl Held {
         requires below { AreBelow next.number document }
         ensures ok { IfOk result (λ ready. IsReady (with_source (plain_of document)) next.number self.now ready) }
         ensures brings { IfOk result (Brings (numbers.with_source document (numbers_of self.now)) false self.now) }
+        ensures tells { IfOk result (Tells (source_marks (known_in self.now) origin.entry self.now.source document) self.now) }
     {
         let Ok(came) = self.outcome_with_source(alloc, origin, &document) else {
             drop(document);
@@ -474,7 +485,9 @@ impl Held {
         ensures fits { IfOk result (λ came. Fits came) }
         ensures last { IfOk result (λ came. LastHolds (outcome_of came.outcome) self.now.compiled (parameters_of self.now.parameters) (Some document.now)
             (left_by came self.now.last.before self.now.last)) }
-        ensures cost { IfOk result (λ came. CostsRun self.now.compiled (parameters_of self.now.parameters) (Some document.now) self.now.last.kept.records any_change came.counts) }
+        ensures cost { IfOk result (λ came. CostsRun self.now.compiled (parameters_of self.now.parameters) (Some document.now) self.now.last.kept.records came.counts) }
+        ensures asks { (told : List Mark) → AreToldBy told (since_of self.now.last.since)
+            → IfOk result (IsAskedBy (and_marks told (source_marks (known_in self.now) origin.entry self.now.source document.now)) self.now.last.kept.records) }
         ensures keeps { IfOk result (λ came. KeepsWhere self.now.compiled (parameters_of self.now.parameters) (Some document.now) came.kept) }
     {
         let since = self.since_source(alloc, origin, document)?;
@@ -494,7 +507,8 @@ impl Held {
         ensures fits { IfOk result (λ came. Fits came) }
         ensures last { IfOk result (λ came. LastHolds (outcome_of came.outcome) self.now.compiled (parameters_of self.now.parameters) (option_copied source.entry)
             (left_by came self.now.last.before self.now.last)) }
-        ensures cost { IfOk result (λ came. CostsRun self.now.compiled (parameters_of self.now.parameters) (option_copied source.entry) self.now.last.kept.records any_change came.counts) }
+        ensures cost { IfOk result (λ came. CostsRun self.now.compiled (parameters_of self.now.parameters) (option_copied source.entry) self.now.last.kept.records came.counts) }
+        ensures asks { (marks : List Mark) → AreToldBy marks (since_of since) → IfOk result (IsAskedBy marks self.now.last.kept.records) }
         ensures keeps { IfOk result (λ came. KeepsWhere self.now.compiled (parameters_of self.now.parameters) (option_copied source.entry) came.kept) }
     {
         let compiled = self.compiled.as_ref();
@@ -512,8 +526,10 @@ impl Held {
     ) -> Result<Since, Memory>
         requires known { IsKnown self.now }
         requires made { IsMadeBy origin self.now.source document.now }
-        ensures { let known = last_known self.now.compiled self.now.last.before in let given = parameters_of self.now.parameters in
+        ensures spared { let known = last_known self.now.compiled self.now.last.before in let given = parameters_of self.now.parameters in
             IfOk result (λ since. StaysSpared known known given given self.now.source (Some document.now) (since_of self.now.last.since) (since_of since)) }
+        ensures told { (told : List Mark) → AreToldBy told (since_of self.now.last.since)
+            → IfOk result (λ since. AreToldBy (and_marks told (source_marks (known_in self.now) origin.entry self.now.source document.now)) (since_of since)) }
     {
         let known = last_known(&self.compiled, &self.last.before);
         let since = &self.last.since;
@@ -542,6 +558,7 @@ impl Held {
         requires below { AreBelow next.number document }
         ensures ok { IfOk result (λ ready. IsReady (with_module name.now (plain_of document)) next.number self.new ready) }
         ensures brings { IfOk result (Brings (numbers.with_module name.now (Some document) (numbers_of self.new)) true self.new) }
+        ensures tells { IfOk result (Tells [] self.new) }
         ensures kept { IsKept self.old self.new }
     {
         if self.pending() {
@@ -565,6 +582,7 @@ impl Held {
         requires below { AreBelow next.number document }
         ensures ok { IfOk result (λ ready. IsReady (with_module name.now (plain_of document)) next.number self.new ready) }
         ensures brings { IfOk result (Brings (numbers.with_module name.now (Some document) (numbers_of self.new)) true self.new) }
+        ensures tells { IfOk result (Tells [] self.new) }
         ensures kept { IsKept self.old self.new }
     {
         let Ok(key) = String::from_str(alloc, name.as_str()) else {
@@ -594,6 +612,7 @@ impl Held {
         requires { IsCurrent self.old }
         ensures ok { IfOk result (λ ready. IsReady (without_module name.now) (made_of self.new) self.new ready) }
         ensures brings { IfOk result (Brings (dropped_module name.now (numbers_of self.new)) true self.new) }
+        ensures tells { IfOk result (Tells [] self.new) }
         ensures kept { IsKept self.old self.new }
     {
         if self.pending() {
@@ -609,6 +628,7 @@ impl Held {
         requires alone { is_some (pending_of self.old) ≡ false }
         ensures ok { IfOk result (λ ready. IsReady (without_module name.now) (made_of self.new) self.new ready) }
         ensures brings { IfOk result (Brings (dropped_module name.now (numbers_of self.new)) true self.new) }
+        ensures tells { IfOk result (Tells [] self.new) }
         ensures kept { IsKept self.old self.new }
     {
         let dropped = name.copy(alloc)?;
@@ -637,7 +657,9 @@ impl Held {
         ensures fits { IfOk result (λ came. Fits came) }
         ensures last { IfOk result (λ came. LastHolds (outcome_of came.outcome) (option_copied compiled.entry) (parameters_of self.now.parameters) self.now.source
             (left_by came (before_by (option_copied compiled.entry) self.now.compiled self.now.last.before) self.now.last)) }
-        ensures cost { IfOk result (λ came. CostsRun (option_copied compiled.entry) (parameters_of self.now.parameters) self.now.source self.now.last.kept.records any_change came.counts) }
+        ensures cost { IfOk result (λ came. CostsRun (option_copied compiled.entry) (parameters_of self.now.parameters) self.now.source self.now.last.kept.records came.counts) }
+        ensures asks { (told : List Mark) → AreToldBy told (since_of self.now.last.since) → (modules : Modules) → AreCompiled modules (option_copied compiled.entry)
+            → IfOk result (λ came. (style : List Mark) × AddsStyle modules (modules main_name) (known_in self.now) style × IsAskedBy (and_marks told style) self.now.last.kept.records came) }
         ensures keeps { IfOk result (λ came. KeepsWhere (option_copied compiled.entry) (parameters_of self.now.parameters) self.now.source came.kept) }
     {
         let known = last_known(&self.compiled, &self.last.before);
@@ -653,6 +675,7 @@ impl Held {
         requires { IsCurrent self.old }
         ensures ok { IfOk result (λ ready. IsReady (with_parameter name.now value.now) (made_of self.new) self.new ready) }
         ensures brings { IfOk result (Brings (numbers_of self.new) false self.new) }
+        ensures tells { IfOk result (Tells (Given name.now ∷ []) self.new) }
         ensures kept { IsKept self.old self.new }
     {
         if self.pending() {
@@ -673,6 +696,7 @@ impl Held {
         requires alone { is_some (pending_of self.old) ≡ false }
         ensures ok { IfOk result (λ ready. IsReady (with_parameter name.now value.now) (made_of self.new) self.new ready) }
         ensures brings { IfOk result (Brings (numbers_of self.new) false self.new) }
+        ensures tells { IfOk result (Tells (Given name.now ∷ []) self.new) }
         ensures kept { IsKept self.old self.new }
     {
         let since = since_parameter(alloc, &self.last.since, name)?;

@@ -1,12 +1,16 @@
 // What changed since the last run that ended with a result, after one change more.
-ghost use Rattle.std.specs.Prelude.{◌≡◌, ◌++◌, ◌∷◌, [], ℕ, List, Option, IfOk, OnOk, Some, true};
+ghost use Rattle.std.specs.Prelude.{◌≡◌, ◌++◌, ◌∷◌, [], ℕ, List, Option, IfOk, Ok, OnOk, Some, true};
+ghost use Rattle.std.specs.Bool.{Decides};
 ghost use Rattle.std.specs.Option.{option_copied};
 ghost use Rattle.spec_document.specs.Forest.{Document};
 ghost use Rattle.spec_document.specs.Name.{Expanded};
-ghost use Rattle.spec_run.specs.Documents.{Parameters};
+ghost use Rattle.spec_run.specs.Documents.{Parameters, main_name};
 ghost use Rattle.spec_change.specs.Change.{IsEdit};
-ghost use Rattle.spec_move.specs.Changed.{IsMove};
+ghost use Rattle.spec_move.specs.Changed.{IsMove, move_change};
 ghost use Rattle.spec_seen.specs.Seen as sight;
+ghost use Rattle.spec_cost.specs.Marking.{AddsStyle, Given, Mark, Restyled, StyleIs, and_marks, edit_marks, move_marks, moved_so, remembered};
+ghost use Rattle.spec_structure.specs.Modules.{Modules};
+ghost use Rattle.spec_stylesheet.specs.Sheet.{Sheet};
 ghost use Rattle.spec_stylesheet.specs.declared.method.Method.{Method};
 ghost use Rattle.spec_touch.specs.Leads as leads;
 ghost use Rattle.spec_touch.specs.Leads.{Leads};
@@ -19,7 +23,9 @@ ghost use Rattle.xt_world.specs.ParameterView.{with_value};
 ghost use Rattle.spec_node.specs.declared.node_ref.NodeRef.{NodeRef};
 ghost use Rattle.spec_touch.specs.Marks.{is_unit_among};
 ghost use Rattle.xt_held.specs.Alike.{ChooseAlike, HaveUnitsAlike};
+ghost use Rattle.xt_held.specs.Marked.{AreToldBy, known_of};
 ghost use Rattle.xt_held.specs.RunView.{IsFaultless, SeeAlike, SeesAll, StaysSpared, last_known};
+ghost use Rattle.xt_held.specs.StylesheetView.{AreCompiled};
 ghost use Rattle.xt_held.specs.declared.stylesheet.Compiled.{Compiled as What};
 ghost use Rattle.xt_held.specs.declared.stylesheet.Compiled.TheVariants as compiled;
 
@@ -47,8 +53,10 @@ pub(crate) fn since_edit(
 ) -> Result<Since, Memory>
     requires edit { IsEdit (edit_of edit.now) old.now new.now }
     requires faultless { IsFaultless old.now }
-    ensures { (parameters : Parameters) → IfOk result (λ next. let what = option_copied known.entry in
+    ensures spared { (parameters : Parameters) → IfOk result (λ next. let what = option_copied known.entry in
         StaysSpared what what parameters parameters (Some old.now) (Some new.now) (since_of since.now) (since_of next)) }
+    ensures told { (marks : List Mark) → AreToldBy marks (since_of since.now) → IfOk result (λ next.
+        AreToldBy (remembered marks (edit_marks (known_of (option_copied known.entry)) (edit_of edit.now) old.now new.now)) (since_of next)) }
 {
     match known {
         None => Since::anything(alloc),
@@ -73,9 +81,11 @@ fn since_edit_of(
 ) -> Result<Since, Memory>
     requires edit { IsEdit (edit_of edit.now) old.now new.now }
     requires faultless { IsFaultless old.now }
-    ensures { (method : Option (Method Expanded)) (parameters : Parameters) → IfOk result (λ next.
+    ensures spared { (method : Option (Method Expanded)) (parameters : Parameters) → IfOk result (λ next.
         let what = Some (compiled.Stylesheet stylesheet.now space_rules.now method) in
         StaysSpared what what parameters parameters (Some old.now) (Some new.now) (since_of since.now) (since_of next)) }
+    ensures told { (marks : List Mark) → AreToldBy marks (since_of since.now) → IfOk result (λ next.
+        AreToldBy (remembered marks (edit_marks (Some (space_rules_of space_rules.now).rules) (edit_of edit.now) old.now new.now)) (since_of next)) }
 {
     unmarked_questions_keep_their_answers_in_worlds();
     edits_lead_as_they_are_seen();
@@ -131,8 +141,10 @@ pub(crate) fn since_move(
 ) -> Result<Since, Memory>
     requires moved { IsMove path.now other.now old.now new.now }
     requires faultless { IsFaultless old.now }
-    ensures { (parameters : Parameters) → IfOk result (λ next. let what = option_copied known.entry in
+    ensures spared { (parameters : Parameters) → IfOk result (λ next. let what = option_copied known.entry in
         StaysSpared what what parameters parameters (Some old.now) (Some new.now) (since_of since.now) (since_of next)) }
+    ensures told { (marks : List Mark) → AreToldBy marks (since_of since.now) → IfOk result (λ next.
+        AreToldBy (remembered marks (move_marks (known_of (option_copied known.entry)) path.now other.now old.now new.now)) (since_of next)) }
 {
     match known {
         None => Since::anything(alloc),
@@ -150,7 +162,7 @@ pub(crate) fn since_move(
 
 // Whether there is no rule that might strip white space.
 fn sees_all(space_rules: &SpaceRules) -> bool
-    ensures { result ≡ true → SeesAll space_rules.now }
+    ensures { Decides result (SeesAll space_rules.now) }
 {
     space_rules.rules.is_empty()
 }
@@ -167,9 +179,11 @@ fn since_move_of(
 ) -> Result<Since, Memory>
     requires moved { IsMove path.now other.now old.now new.now }
     requires faultless { IsFaultless old.now }
-    ensures { (rules : Rules) (method : Option (Method Expanded)) (parameters : Parameters) → SeesAll rules → IfOk result (λ next.
+    ensures spared { (rules : Rules) (method : Option (Method Expanded)) (parameters : Parameters) → SeesAll rules → IfOk result (λ next.
         let what = Some (compiled.Stylesheet stylesheet.now rules method) in
         StaysSpared what what parameters parameters (Some old.now) (Some new.now) (since_of since.now) (since_of next)) }
+    ensures told { (marks : List Mark) → AreToldBy marks (since_of since.now) → IfOk result (λ next.
+        AreToldBy (remembered marks (moved_so (move_change path.now other.now old.now new.now))) (since_of next)) }
 {
     unmarked_questions_keep_their_answers_in_worlds();
     old.distinct_numbers();
@@ -192,8 +206,11 @@ pub(crate) fn since_modules(
     since: &Since,
     new: Option<&Compiled>,
 ) -> Result<Since, Memory>
-    ensures { (parameters : Parameters) (source : Option (Document ℕ)) → IfOk result (λ next. let what = option_copied known.entry in
+    ensures spared { (parameters : Parameters) (source : Option (Document ℕ)) → IfOk result (λ next. let what = option_copied known.entry in
         StaysSpared what (last_known (option_copied new.entry) what) parameters parameters source source (since_of since.now) (since_of next)) }
+    ensures told { (marks : List Mark) → AreToldBy marks (since_of since.now) → (modules : Modules) → AreCompiled modules (option_copied new.entry)
+        → IfOk result (λ next. (style : List Mark) × AddsStyle modules (modules main_name) (known_of (option_copied known.entry)) style
+        × AreToldBy (and_marks marks style) (since_of next)) }
 {
     match new {
         None => since.copy(alloc),
@@ -215,9 +232,12 @@ fn since_stylesheet(
     stylesheet: &Stylesheet,
     space_rules: &SpaceRules,
 ) -> Result<Since, Memory>
-    ensures { (method : Option (Method Expanded)) (parameters : Parameters) (source : Option (Document ℕ)) → IfOk result (λ next.
+    ensures spared { (method : Option (Method Expanded)) (parameters : Parameters) (source : Option (Document ℕ)) → IfOk result (λ next.
         StaysSpared (option_copied known.entry) (Some (compiled.Stylesheet stylesheet.now space_rules.now method)) parameters parameters source source
         (since_of since.now) (since_of next)) }
+    ensures told { (marks : List Mark) → AreToldBy marks (since_of since.now) → (sheet : Sheet) → space_rules_of space_rules.now ≡ sheet.space_rules
+        → IfOk result (λ next. (style : List Mark) × StyleIs (known_of (option_copied known.entry)) (Ok sheet) style
+        × AreToldBy (and_marks marks style) (since_of next)) }
 {
     match known {
         None => Since::anything(alloc),
@@ -240,10 +260,12 @@ fn since_other(
     old: &Stylesheet,
     new: &Stylesheet,
 ) -> Result<Since, Memory>
-    ensures { (rules others : Rules) (method another : Option (Method Expanded)) (parameters : Parameters) (source : Option (Document ℕ))
+    ensures spared { (rules others : Rules) (method another : Option (Method Expanded)) (parameters : Parameters) (source : Option (Document ℕ))
         → space_rules_of others ≡ space_rules_of rules → IfOk result (λ next.
         StaysSpared (Some (compiled.Stylesheet old.now rules method)) (Some (compiled.Stylesheet new.now others another)) parameters parameters
         source source (since_of since.now) (since_of next)) }
+    ensures told { (marks : List Mark) → AreToldBy marks (since_of since.now)
+        → IfOk result (λ next. AreToldBy (remembered marks Restyled) (since_of next)) }
 {
     unmarked_questions_keep_their_answers_in_worlds();
     let units = units_alike(alloc, old, new)?;
@@ -349,8 +371,10 @@ fn modes_alike(alloc: Global, old: &Stylesheet, new: &Stylesheet) -> Result<Opti
 
 /// After the parameter of this name was given another value.
 pub(crate) fn since_parameter(alloc: Global, since: &Since, name: &Text) -> Result<Since, Memory>
-    ensures { (known : Option What) (parameters : Parameters) (value : List ℕ) (source : Option (Document ℕ)) → IfOk result (λ next.
+    ensures spared { (known : Option What) (parameters : Parameters) (value : List ℕ) (source : Option (Document ℕ)) → IfOk result (λ next.
         StaysSpared known known parameters (with_value name.now value parameters) source source (since_of since.now) (since_of next)) }
+    ensures told { (marks : List Mark) → AreToldBy marks (since_of since.now)
+        → IfOk result (λ next. AreToldBy (remembered marks (Given name.now)) (since_of next)) }
 {
     unmarked_questions_keep_their_answers_in_worlds();
     let name = name.copy(alloc)?;

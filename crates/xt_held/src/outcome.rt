@@ -25,7 +25,7 @@ ghost use Rattle.xt_world.specs.ParameterView.{parameters_of};
 ghost use Rattle.xt_world.specs.View.{truth_in};
 ghost use Rattle.xt_touch.specs.View.{since_of};
 ghost use Rattle.xt_held.specs.Complete.{Completes, KeepsWhere};
-ghost use Rattle.xt_held.specs.Cost.{Costs, CostsRun, any_change, setting_on, setting_seen};
+ghost use Rattle.xt_held.specs.Cost.{Costs, CostsRun, setting_on, setting_seen};
 ghost use Rattle.xt_held.specs.OutcomeView.{Fits, no_counts, outcome_of, plain_in, since_after};
 ghost use Rattle.xt_held.specs.RunView.{Ask, HoldsWith, KeptHolds, KeptSpared, SparedIn, SparesRecords, truth_seen};
 ghost use Rattle.xt_held.specs.StylesheetView.{AnswersAs, AreCompiled, IsCompiledFrom};
@@ -105,7 +105,8 @@ pub(crate) fn outcome_of(
     ensures fits { IfOk result (λ came. Fits came) }
     ensures last { IfOk result (λ came. IfSome came.kept (KeptHolds (option_copied compiled.entry) (parameters_of parameters.now) (option_copied source.entry))) }
     ensures since { IfOk result (λ came. since_of came.since ≡ since_after came.kept (since_of since)) }
-    ensures cost { IfOk result (λ came. CostsRun (option_copied compiled.entry) (parameters_of parameters.now) (option_copied source.entry) last.now.records any_change came.counts) }
+    ensures cost { IfOk result (λ came. CostsRun (option_copied compiled.entry) (parameters_of parameters.now) (option_copied source.entry) last.now.records came.counts) }
+    ensures asked { IfOk result (λ came. came.counts.asked ≤ marked_of (since_of since) last.now.records) }
     ensures keeps { IfOk result (λ came. KeepsWhere (option_copied compiled.entry) (parameters_of parameters.now) (option_copied source.entry) came.kept) }
 {
     match compiled {
@@ -161,7 +162,8 @@ fn transformed(
     ensures fits { IfOk result (λ came. Fits came) }
     ensures last { IfOk result (λ came. IfSome came.kept (KeptHolds (Some compiled.now) (parameters_of parameters.now) (Some source.now))) }
     ensures since { IfOk result (λ came. since_of came.since ≡ since_after came.kept (since_of since)) }
-    ensures cost { IfOk result (λ came. CostsRun (Some compiled.now) (parameters_of parameters.now) (Some source.now) last.now.records any_change came.counts) }
+    ensures cost { IfOk result (λ came. CostsRun (Some compiled.now) (parameters_of parameters.now) (Some source.now) last.now.records came.counts) }
+    ensures asked { IfOk result (λ came. came.counts.asked ≤ marked_of (since_of since) last.now.records) }
     ensures keeps { IfOk result (λ came. KeepsWhere (Some compiled.now) (parameters_of parameters.now) (Some source.now) came.kept) }
 {
     items_change_no_outcome();
@@ -237,7 +239,8 @@ fn whole_of_seen(
     ensures run { (sheet : plain.Sheet) → AnswersAs stylesheet.now sheet → space_rules_of space_rules.now ≡ sheet.space_rules
         → IfOk result (λ over. whole_of over.whole ≡ run_of (setting_of sheet (parameters_of parameters.now) (seen_of sheet.space_rules.rules (document_of (plain_of source.now))))) }
     ensures kept { IfOk result (λ over. HoldsWith stylesheet.now (truth_seen stylesheet.now space_rules.now (parameters_of parameters.now) source.now) over.kept) }
-    ensures cost { IfOk result (λ over. Costs (setting_seen stylesheet.now space_rules.now (parameters_of parameters.now) source.now) last.now.records any_change over.counts) }
+    ensures cost { IfOk result (λ over. Costs (setting_seen stylesheet.now space_rules.now (parameters_of parameters.now) source.now) last.now.records over.counts) }
+    ensures asked { IfOk result (λ over. over.counts.asked ≤ marked_of (since_of since.now) last.now.records) }
     ensures complete { IfOk result (λ over. Completes (setting_seen stylesheet.now space_rules.now (parameters_of parameters.now) source.now) over.whole over.kept.records) }
 {
     labels_do_not_matter();
@@ -258,7 +261,8 @@ fn whole(
     ensures run { (sheet : plain.Sheet) → AnswersAs stylesheet.now sheet
         → IfOk result (λ over. whole_of over.whole ≡ run_of (setting_of sheet (parameters_of parameters.now) (document_of (plain_of source.now)))) }
     ensures kept { IfOk result (λ over. HoldsWith stylesheet.now (truth_in stylesheet.now (parameters_of parameters.now) source.now) over.kept) }
-    ensures cost { IfOk result (λ over. Costs (setting_on stylesheet.now (parameters_of parameters.now) source.now) last.now.records any_change over.counts) }
+    ensures cost { IfOk result (λ over. Costs (setting_on stylesheet.now (parameters_of parameters.now) source.now) last.now.records over.counts) }
+    ensures asked { IfOk result (λ over. over.counts.asked ≤ marked_of (since_of since.now) last.now.records) }
     ensures complete { IfOk result (λ over. Completes (setting_on stylesheet.now (parameters_of parameters.now) source.now) over.whole over.kept.records) }
 {
     source.distinct_numbers();
@@ -287,7 +291,8 @@ fn run_recorded(
     ensures run { (sheet : plain.Sheet) → AnswersAs stylesheet.now sheet
         → IfOk result (λ over. whole_of over.whole ≡ run_of (setting_of sheet (parameters_of parameters.now) (document_of (plain_of source.now)))) }
     ensures records { IfOk result (λ over. AreAnswered (truth_in stylesheet.now (parameters_of parameters.now) source.now) over.records) }
-    ensures cost { IfOk result (λ over. Costs (setting_on stylesheet.now (parameters_of parameters.now) source.now) last.now (since_of spared.now.since.now) over.counts) }
+    ensures cost { IfOk result (λ over. Costs (setting_on stylesheet.now (parameters_of parameters.now) source.now) last.now over.counts) }
+    ensures asked { IfOk result (λ over. over.counts.asked ≤ marked_of (since_of spared.now.since.now) last.now) }
     ensures complete { IfOk result (λ over. Completes (setting_on stylesheet.now (parameters_of parameters.now) source.now) over.whole over.records) }
 {
     same_run();

@@ -1,5 +1,5 @@
 // Values that parameters are given.
-ghost use Rattle.std.specs.Prelude.{◌≡◌, IfOk, IfSome, OnOk, string_bytes};
+ghost use Rattle.std.specs.Prelude.{◌≡◌, ◌≤◌, IfOk, IfSome, OnOk, string_bytes};
 ghost use Rattle.std.specs.List.{list_all};
 ghost use Rattle.std.specs.Option.{option_copied, option_map};
 ghost use Rattle.std.specs.Str.{chars};
@@ -10,8 +10,9 @@ ghost use Rattle.spec_run.specs.Outcome.{Comes};
 ghost use Rattle.xt_base.specs.Code.{edit_number};
 ghost use Rattle.xt_world.specs.ParameterView.{HasRoomForOne, parameters_of, with_value};
 ghost use Rattle.xt_touch.specs.View.{since_of};
+ghost use Rattle.xt_record.specs.Asked.{marked_of};
 ghost use Rattle.xt_held.specs.Complete.{KeepsWhere};
-ghost use Rattle.xt_held.specs.Cost.{CostsRun, any_change};
+ghost use Rattle.xt_held.specs.Cost.{CostsRun};
 ghost use Rattle.xt_held.specs.OutcomeView.{Fits, outcome_of, plain_in, since_after};
 ghost use Rattle.xt_held.specs.RunView.{KeptHolds, KeptSpared};
 ghost use Rattle.xt_held.specs.StylesheetView.{AreCompiled};
@@ -75,7 +76,8 @@ pub(crate) fn outcome_with(
     ensures fits { IfOk result (λ tried. Fits tried.came) }
     ensures last { IfOk result (λ tried. IfSome tried.came.kept (KeptHolds (option_copied compiled.entry) (with_value name.now value.now (parameters_of parameters.old)) (option_copied source.entry))) }
     ensures since { IfOk result (λ tried. since_of tried.came.since ≡ since_after tried.came.kept (since_of since)) }
-    ensures cost { IfOk result (λ tried. CostsRun (option_copied compiled.entry) (with_value name.now value.now (parameters_of parameters.old)) (option_copied source.entry) last.now.records any_change tried.came.counts) }
+    ensures cost { IfOk result (λ tried. CostsRun (option_copied compiled.entry) (with_value name.now value.now (parameters_of parameters.old)) (option_copied source.entry) last.now.records tried.came.counts) }
+    ensures asked { IfOk result (λ tried. tried.came.counts.asked ≤ marked_of (since_of since) last.now.records) }
     ensures keeps { IfOk result (λ tried. KeepsWhere (option_copied compiled.entry) (with_value name.now value.now (parameters_of parameters.old)) (option_copied source.entry) tried.came.kept) }
     ensures name { IfOk result (λ tried. chars (string_bytes tried.name) ≡ name.now) }
     ensures value { IfOk result (λ tried. tried.value ≡ value.now) }

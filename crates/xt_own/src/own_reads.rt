@@ -64,9 +64,10 @@ impl OwnReads {
         stylesheet: &Stylesheet,
         last: &Pool,
     ) -> Result<Prepared<'a>, Memory>
-        ensures { (was : Ask) (parameters : Parameters) → (keep_sheet (since_of since.now) ≡ true → OwnDecides stylesheet.now was self.now)
+        ensures spares { (was : Ask) (parameters : Parameters) → (keep_sheet (since_of since.now) ≡ true → OwnDecides stylesheet.now was self.now)
             → Agrees was (truth_in stylesheet.now parameters document.now) (since_of since.now)
             → IfOk result (λ p. Spares was (truth_in stylesheet.now parameters document.now) p.spared × Carries stylesheet.now (truth_in stylesheet.now parameters document.now) p) }
+        ensures since { IfOk result (λ p. p.spared.since.now ≡ since.now) }
     {
         if !since.keeps_stylesheet() {
             return Ok(nothing_kept(alloc, since));
@@ -141,7 +142,7 @@ fn with_keys<'a>(
     keys: Vec<OwnKey>,
     made_now: OwnChoices,
 ) -> Result<Prepared<'a>, Memory>
-    ensures since { IfOk result (λ p. since_of p.spared.since.now ≡ since_of since.now) }
+    ensures since { IfOk result (λ p. p.spared.since.now ≡ since.now) }
     ensures names { IfOk result (λ p. p.spared.keys.items ≡ names_of keys.items) }
     ensures choices { IfOk result (λ p. owns_in p.spared.choices ≡ owns_of choices.now) }
     ensures made_now { IfOk result (λ p. owns_of p.spared.made_now ≡ owns_of made_now) }

@@ -1,5 +1,5 @@
 -- The replies that the machine gives, by what the parts of an answer come to, and what is made of the past with them.
-use Rattle.std.proofs.Common.{◌≡◌, ℕ, ◌+◌, Bool, ◌||◌, true, false, List, Option, None, Some, Ok, Err, refl, sym, ◌∙◌, ap, subst, inl, inr}
+use Rattle.std.proofs.Common.{◌≡◌, ℕ, ◌+◌, Bool, ◌||◌, true, false, List, [], Option, None, Some, Ok, Err, refl, sym, ◌∙◌, ap, subst, inl, inr}
 use Rattle.std.specs.Prelude.{Result, IfOk, OnErr}
 use Rattle.std.specs.Option.{is_some, option_map, unwrap_or}
 use Rattle.std.specs.Str.{encode_utf8_all}
@@ -11,11 +11,12 @@ use Rattle.spec_expression.specs.declared.code.Code.{Code}
 use Rattle.spec_expression.specs.declared.code.Code.TheVariants.{Static, Dynamic}
 use Rattle.spec_run.specs.Documents.{Documents, parameter_fault, with_parameter, without_module}
 use Rattle.spec_run.specs.Outcome.{Outcome, Done, Failed, IsOutcome}
+use Rattle.spec_cost.specs.Marking.{Mark, edit_marks}
 use Rattle.spec_cost.specs.Numbers.{NumberedDocuments}
 use Rattle.spec_cost.specs.Past.{Past}
 use Rattle.spec_cost.specs.Paying.{Pays, with_pending, without_pending}
 use Rattle.spec_session.specs.Command.{Command}
-use Rattle.spec_session.specs.Costs.{Goes, GoesBy, GoesOf, edited_as, is_module, is_of_module, numbered_after}
+use Rattle.spec_session.specs.Costs.{Goes, GoesBy, GoesOf, edited_as, is_module, is_of_module, marks_as, marks_of, numbered_after}
 use Rattle.spec_session.specs.Machine.{State, Answer, Changes, Pends, Refuses}
 use Rattle.spec_session.specs.Machine.{IsFreeAt, IsFreeFor, TellsNumbers, accepted, accepted_by, begun, committed, abandoned, edited_documents, kept_by}
 use Rattle.spec_session.specs.Machine.{document_named, named_among, with_document, edited_by}
@@ -27,6 +28,8 @@ use Rattle.xt_import.specs.View.{plain_of}
 use Rattle.xt_wire.specs.View.{Reads, code_of_fault}
 use Rattle.xt_wire.specs.declared.fault.WireFault.{WireFault}
 use Rattle.xt_wire.specs.declared.fault.WireFault.TheVariants as variant
+use Rattle.xt_held.specs.Marked as view_marks
+use Rattle.xt_held.specs.Marked.{Tells, known_in}
 use Rattle.xt_held.specs.OutcomeView as view
 use Rattle.xt_held.specs.PastView as view_past
 use Rattle.xt_held.specs.PastView.{Brings, IsPast, PaysBy, PaysFor, numbers_of}
@@ -185,27 +188,38 @@ gives_told held ready (Some outcome) text stands same e =
     record { reply = change_reply outcome; gives = ((outcome, stands.0, refl), same); text_is = e }
 gives_told held ready None text stands same e = record { reply = OkPending; gives = (refl, same); text_is = e }
 
+-- what a request tells of what changed, where it makes of the numbered documents what it does
+abbrev pub told_by : Request → Held → List Mark
+told_by request held = marks_of (known_in held) request (numbers_of held) (numbered_after (made_of held) request (numbers_of held))
+
 -- what that makes of the past, where it brings what the request makes of the numbered documents
 goes_told : (held : Held) (ready : Ready) (told : Option Outcome) (request : Request) (reply : Reply) (before after : Past) → IsPast before held
-    → Brings (numbered_after (made_of held) request (numbers_of held)) (is_of_module request) held ready → PaysBy told ready held before after
+    → Brings (numbered_after (made_of held) request (numbers_of held)) (is_of_module request) held ready
+    → PaysBy told (told_by request held) ready held before after
     → GoesBy (state_of held) request (answer_told told (next_state ready held)) reply before after
 goes_told held ready told request reply before after past brings = by told
   where
     numbers : next_numbers ready.change held ≡ numbered_after (made_of held) request before.edited
     numbers = brings.numbers ∙ ap (numbered_after (made_of held) request) (sym past.edited)
 
-    by : (told : Option Outcome) → PaysBy told ready held before after
+    marks : told_by request held ≡ marks_of before.known request before.edited (numbered_after (made_of held) request before.edited)
+    marks = sym (λ i. marks_of (past.known i) request (past.edited i) (numbered_after (made_of held) request (past.edited i)))
+
+    by : (told : Option Outcome) → PaysBy told (told_by request held) ready held before after
         → GoesBy (state_of held) request (answer_told told (next_state ready held)) reply before after
     by (Some outcome) pays =
-        subst (λ (numbered : NumberedDocuments). Pays (next_present ready held) numbered (is_of_module request) before after) numbers
-        (subst (λ (b : Bool). Pays (next_present ready held) (next_numbers ready.change held) b before after) brings.kind pays)
-    by None pays = pays ∙ λ i. with_pending (numbers i) (brings.kind i) before
+        subst (λ (ms : List Mark). Pays (next_present ready held) (numbered_after (made_of held) request before.edited) (is_of_module request) ms before after)
+        marks
+        (subst (λ (numbered : NumberedDocuments). Pays (next_present ready held) numbered (is_of_module request) (told_by request held) before after) numbers
+        (subst (λ (b : Bool). Pays (next_present ready held) (next_numbers ready.change held) b (told_by request held) before after) brings.kind pays))
+    by None pays = pays ∙ λ i. with_pending (numbers i) (brings.kind i) (marks i) before
 
 -- to a request whose answer is what is adopted, after what changed nothing
 replies_adopted : {old held new : Held} {ready : Ready} (request : Request) {text : List ℕ} → Stays old held
     → adopted ready held ≡ answer_to (state_of held) request
     → Brings (numbered_after (made_of held) request (numbers_of held)) (is_of_module request) held ready
-    → GivesText (state_of held) (adopted ready held) text (state_of new) → BecomesBy (PaysFor ready held) held new → RepliesTo old request text new
+    → GivesText (state_of held) (adopted ready held) text (state_of new) → BecomesBy (PaysFor (told_by request held) ready held) held new
+    → RepliesTo old request text new
 replies_adopted {old = old} {held = held} {new = new} {ready = ready} request stays is brings gives pays = record {
   reply = gives.reply;
   gives = subst (λ (s : State). Gives s (answer_to s request) gives.reply (state_of new)) stays.state
@@ -222,13 +236,16 @@ replies_adopted {old = old} {held = held} {new = new} {ready = ready} request st
   text_is = gives.text_is;
 }
 
+-- where that is told of it, and what is adopted is paid for by whatever is
 pub replies_if_adopted : {E : Type 0} {old held : Held} {ready : Ready} (new : Held) (request : Request) (r : Result (List ℕ) E) → Stays old held
     → adopted ready held ≡ answer_to (state_of held) request
-    → Brings (numbered_after (made_of held) request (numbers_of held)) (is_of_module request) held ready
-    → IfOk r (λ text. GivesText (state_of held) (adopted ready held) text (state_of new)) → IfOk r (λ text. BecomesBy (PaysFor ready held) held new)
+    → Brings (numbered_after (made_of held) request (numbers_of held)) (is_of_module request) held ready → Tells (told_by request held) held ready
+    → IfOk r (λ text. GivesText (state_of held) (adopted ready held) text (state_of new))
+    → ((marks : List Mark) → Tells marks held ready → IfOk r (λ text. BecomesBy (PaysFor marks ready held) held new))
     → IfOk r (λ text. RepliesTo old request text new)
-replies_if_adopted new request (Ok text) stays is brings gives pays = replies_adopted request stays is brings gives pays
-replies_if_adopted new request (Err e) stays is brings gives pays = tt
+replies_if_adopted {held = held} new request (Ok text) stays is brings tells gives pays =
+    replies_adopted request stays is brings gives (pays (told_by request held) tells)
+replies_if_adopted new request (Err e) stays is brings tells gives pays = tt
 
 -- ---- Batches
 
@@ -257,7 +274,7 @@ replies_begun {old = old} {new = new} is past e = record {
     or_false true = refl
     or_false false = refl
 
-    pending_same : (before : Past) → before ≡ with_pending before.edited false before
+    pending_same : (before : Past) → before ≡ with_pending before.edited false [] before
     pending_same before = λ i. record before { is_edited = or_false before.is_edited i }
 
 begun_open : (old : State) (pending : Option Documents) → is_some pending ≡ true → begun old pending ≡ Refuses 16
@@ -395,6 +412,30 @@ brings_asked (edits.SetText path value) asked brings = brings
 brings_asked (edits.SetAttribute path name value) asked brings = brings
 brings_asked (edits.RemoveAttribute path name) asked brings = brings
 brings_asked (edits.Rename path name) asked brings = brings
+
+-- what is told of an edit, or of a move
+pub tells_edited : (name : DocName) (change : Document ℕ → Result (Edited ℕ) Fault) (mark : Document ℕ → Document ℕ → Mark) (asked : DocumentName)
+    {held : Held} {ready : Ready} → name_in name ≡ asked
+    → Tells (view_marks.marks_as name mark (numbers_of held) (view_past.edited_as name change (numbers_of held))) held ready
+    → Tells (marks_as asked mark (numbers_of held) (edited_as asked change (numbers_of held))) held ready
+tells_edited name change mark asked {held = held} {ready = ready} same tells =
+    subst (λ (ms : List Mark). Tells ms held ready)
+    (marks name ∙ ap (λ (n : DocumentName). marks_as n mark (numbers_of held) (edited_as n change (numbers_of held))) same) tells
+  where
+    marks : (name : DocName) → view_marks.marks_as name mark (numbers_of held) (view_past.edited_as name change (numbers_of held))
+        ≡ marks_as (name_in name) mark (numbers_of held) (edited_as (name_in name) change (numbers_of held))
+    marks names.Source = refl
+    marks (names.Module name) = refl
+
+pub tells_asked : (edit : Edit) (asked : DocumentName) {held : Held} {ready : Ready}
+    → Tells (marks_as asked (edit_marks (known_in held) edit) (numbers_of held) (edited_as asked (edited_nodes (made_of held) edit) (numbers_of held))) held ready
+    → Tells (told_by (request_by asked edit) held) held ready
+tells_asked (edits.Insert path body) asked tells = tells
+tells_asked (edits.Delete path) asked tells = tells
+tells_asked (edits.SetText path value) asked tells = tells
+tells_asked (edits.SetAttribute path name value) asked tells = tells
+tells_asked (edits.RemoveAttribute path name) asked tells = tells
+tells_asked (edits.Rename path name) asked tells = tells
 
 -- of a parameter: it has the value
 pub given_so : (name value : List ℕ) {held : Held} {ready : Ready} → parameter_fault name value ≡ None

@@ -1,8 +1,10 @@
 // Changes of what is held.
-ghost use Rattle.std.specs.Prelude.{◌≡◌, IfOk, OnErr};
+ghost use Rattle.std.specs.Prelude.{◌≡◌, List, IfOk, OnErr};
+ghost use Rattle.spec_cost.specs.Marking.{Mark};
 ghost use Rattle.spec_session.specs.Reply.{reply_text};
 ghost use Rattle.spec_session.specs.Request.{Abandon, Begin, Commit, DropModule, Move, SetModule, SetParameter, SetSource};
 ghost use Rattle.xt_edit.specs.View.{edit_of};
+ghost use Rattle.xt_held.specs.Marked.{Tells};
 ghost use Rattle.xt_held.specs.PastView.{PaysFor};
 ghost use Rattle.xt_held.specs.View.{IsCurrent, IsMadeFrom, told_of};
 ghost use Rattle.xt_wire.specs.View.{name_of};
@@ -171,7 +173,7 @@ fn adopt(alloc: Global, held: &mut Held, ready: Ready) -> Result<Text, Memory>
     requires made_from { IsMadeFrom held.old ready }
     requires current { IsCurrent held.old }
     ensures ok { IfOk result (λ text. GivesText (state_of held.old) (adopted ready held.old) text (state_of held.new)) }
-    ensures past { IfOk result (λ text. BecomesBy (PaysFor ready held.old) held.old held.new) }
+    ensures past { (marks : List Mark) → Tells marks held.old ready → IfOk result (λ text. BecomesBy (PaysFor marks ready held.old) held.old held.new) }
     ensures err { OnErr result (Stays held.old held.new) }
     ensures current { IsCurrent held.new }
 {

@@ -2,26 +2,50 @@ use Rattle.std.proofs.Common.{Option, Some, ap, subst, sym, ◌∙◌}
 use Rattle.std.proofs.lemmas.Result.{IfOk-weaker}
 use Rattle.std.specs.Prelude.{IfOk}
 use Rattle.std.specs.Option.{option_copied}
+use Rattle.spec_cost.specs.Marking.{edit_marks, remembered}
+use Rattle.xt_edit.specs.View.{edit_of}
 use Rattle.xt_touch.specs.View.{since_of}
 use Rattle.xt_held.specs.RunView.{StaysSpared}
 use Rattle.xt_held.specs.declared.stylesheet.Compiled.{Compiled}
+use Rattle.xt_held.specs.Marked.{AreToldBy, known_of}
 use Rattle.xt_held.proofs.Marked.{anything_stays}
+use Rattle.xt_held.proofs.Told.{anything_where}
 use Rattle.xt_held.proofs.marking.since_edit.Goals as goal
 
-pub returns-in-None : goal.returns-in-None
-returns-in-None c = λ parameters.
+pub returns-in-None-clause-spared : goal.returns-in-None-clause-spared
+returns-in-None-clause-spared c = λ parameters.
     IfOk-weaker c.anything.result _ _ (λ next is.
     anything_stays (option_copied c.args.known) (option_copied c.args.known) parameters parameters (Some c.args.old.now) (Some c.args.new.now)
     (since_of c.args.since.now) (since_of next) is) c.anything.ensures
 
-pub returns-in-Refused : goal.returns-in-Refused
-returns-in-Refused c = λ parameters.
+pub returns-in-None-clause-told : goal.returns-in-None-clause-told
+returns-in-None-clause-told c = λ marks h.
+    IfOk-weaker c.anything.result _ _ (λ next is.
+    anything_where marks _ (since_of next)
+    (ap (λ (what : Option Compiled). edit_marks (known_of what) (edit_of c.args.edit.now) c.args.old.now c.args.new.now)
+    (ap option_copied c.in-None.is))) c.anything.ensures
+
+pub returns-in-Refused-clause-spared : goal.returns-in-Refused-clause-spared
+returns-in-Refused-clause-spared c = λ parameters.
     IfOk-weaker c.anything-in-Refused.result _ _ (λ next is.
     anything_stays (option_copied c.args.known) (option_copied c.args.known) parameters parameters (Some c.args.old.now) (Some c.args.new.now)
     (since_of c.args.since.now) (since_of next) is) c.anything-in-Refused.ensures
 
-pub returns-in-Stylesheet : goal.returns-in-Stylesheet
-returns-in-Stylesheet c = λ parameters.
+pub returns-in-Refused-clause-told : goal.returns-in-Refused-clause-told
+returns-in-Refused-clause-told c = λ marks h.
+    IfOk-weaker c.anything-in-Refused.result _ _ (λ next is.
+    anything_where marks _ (since_of next)
+    (ap (λ (what : Option Compiled). edit_marks (known_of what) (edit_of c.args.edit.now) c.args.old.now c.args.new.now)
+    (ap option_copied c.in-Some.is ∙ ap Some c.in-Refused.is))) c.anything-in-Refused.ensures
+
+pub returns-in-Stylesheet-clause-spared : goal.returns-in-Stylesheet-clause-spared
+returns-in-Stylesheet-clause-spared c = λ parameters.
     subst (λ (what : Option Compiled). IfOk c.since_edit_of.result (λ next.
     StaysSpared what what parameters parameters (Some c.args.old.now) (Some c.args.new.now) (since_of c.args.since.now) (since_of next)))
-    (sym (ap option_copied c.in-Some.is ∙ ap Some c.in-Stylesheet.is)) (c.since_edit_of.ensures c.in-Stylesheet.field-2 parameters)
+    (sym (ap option_copied c.in-Some.is ∙ ap Some c.in-Stylesheet.is)) (c.since_edit_of.ensures.spared c.in-Stylesheet.field-2 parameters)
+
+pub returns-in-Stylesheet-clause-told : goal.returns-in-Stylesheet-clause-told
+returns-in-Stylesheet-clause-told c = λ marks h.
+    subst (λ (what : Option Compiled). IfOk c.since_edit_of.result (λ next. AreToldBy (remembered marks
+    (edit_marks (known_of what) (edit_of c.args.edit.now) c.args.old.now c.args.new.now)) (since_of next)))
+    (sym (ap option_copied c.in-Some.is ∙ ap Some c.in-Stylesheet.is)) (c.since_edit_of.ensures.told marks h)

@@ -3,11 +3,18 @@ use Rattle.std.proofs.lemmas.Result.{IfOk-weaker}
 use Rattle.spec_touch.specs.Marks.{ParameterGiven}
 use Rattle.xt_touch.specs.View.{remembered, since_of}
 use Rattle.xt_held.proofs.Marked.{value_stays}
+use Rattle.xt_held.proofs.Told.{value_told}
 use Rattle.xt_held.proofs.marking.since_parameter.Goals as goal
 
-pub returns : goal.returns
-returns c = λ known parameters value source.
+pub returns-clause-spared : goal.returns-clause-spared
+returns-clause-spared c = λ known parameters value source.
     IfOk-weaker c.and.result _ _ (λ next is.
     value_stays c.unmarked_questions_keep_their_answers_in_worlds.ensures c.args.name.now known parameters value source
     (since_of c.args.since.now) (since_of next)
     (is ∙ ap (λ name. remembered (since_of c.args.since.now) (ParameterGiven name)) c.in_ok-name.ensures)) c.and.ensures
+
+pub returns-clause-told : goal.returns-clause-told
+returns-clause-told c = λ marks h.
+    IfOk-weaker c.and.result _ _ (λ next is.
+    value_told marks c.args.name.now (since_of c.args.since.now) (since_of next)
+    (is ∙ ap (λ name. remembered (since_of c.args.since.now) (ParameterGiven name)) c.in_ok-name.ensures) h) c.and.ensures

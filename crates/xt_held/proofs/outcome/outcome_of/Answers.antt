@@ -14,7 +14,7 @@ use Rattle.xt_held.specs.declared.stylesheet.Compiled.{Compiled}
 use Rattle.xt_held.proofs.Coming.{with_both}
 use denote.Ref.{Bor}
 use Rattle.xt_held.specs.Complete.{KeepsWhere}
-use Rattle.xt_held.specs.Cost.{CostsRun, any_change}
+use Rattle.xt_held.specs.Cost.{CostsRun}
 use Rattle.xt_held.proofs.outcome.outcome_of.Goals as goal
 
 pub returns-in-Some-source-clause-outcome : goal.returns-in-Some-source-clause-outcome
@@ -45,7 +45,7 @@ pub returns-in-Some-source-clause-cost : goal.returns-in-Some-source-clause-cost
 returns-in-Some-source-clause-cost c =
     let given = parameters_of c.args.parameters.now in
     let Cost : Option (Bor Compiled) → Option (Bor (Document ℕ)) → Type 0
-    = λ o s. IfOk c.transformed.result (λ came. CostsRun (option_copied o) given (option_copied s) c.args.last.now.records any_change came.counts) in
+    = λ o s. IfOk c.transformed.result (λ came. CostsRun (option_copied o) given (option_copied s) c.args.last.now.records came.counts) in
     subst (λ (o : Option (Bor Compiled)). Cost o c.args.source) (sym c.in-Some.is)
     (subst (λ (s : Option (Bor (Document ℕ))). Cost (Some c.in-Some.compiled) s) (sym c.in-Some-source.is) c.transformed.ensures.cost)
 

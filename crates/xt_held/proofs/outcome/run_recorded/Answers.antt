@@ -12,7 +12,7 @@ use Rattle.xt_record.specs.declared.pool.Pool.{Pool}
 use Rattle.xt_touch.specs.View.{since_of}
 use Rattle.xt_held.specs.Cost.{setting_on}
 use Rattle.xt_held.proofs.Completing.{begun_within, recorded_complete}
-use Rattle.xt_held.proofs.Costing.{Begins, counted_on, recorded_cost}
+use Rattle.xt_held.proofs.Costing.{Begins, counted_on, recorded_asked, recorded_cost}
 use denote.Ref.{Bor}
 use Rattle.xt_held.proofs.outcome.run_recorded.Goals as goal
 
@@ -40,17 +40,23 @@ returns-clause-cost c =
     let held = c.args.stylesheet.now in
     let given = parameters_of c.args.parameters.now in
     let document = c.args.source.now in
-    let ask = truth_in held given document in
     let began = c.in_ok-reuse.ensures in
     let begins : Begins c.args.last.now c.in_ok-reuse.reuse = record { last = began.last; kept = began.kept; ran = began.ran } in
-    recorded_cost (setting_on held given document) c.args.last.now (since_of c.args.spared.now.since.now) ask c.in_ok-reuse.reuse c.run-whole.new.reuse
-    c.run-whole.result c.with_records.result begins (ap (λ (pool : Bor Pool). pool.now) c.run-whole.ensures.last ∙ began.last)
-    (ap (λ (spared : Bor Spared). since_of spared.now.since.now) c.run-whole.ensures.spared ∙ ap (λ (spared : Spared). since_of spared.since.now) began.spared)
+    recorded_cost (setting_on held given document) c.args.last.now c.in_ok-reuse.reuse c.run-whole.new.reuse c.run-whole.result c.with_records.result begins
     (counted_on held given document c.of-root.result (c.of-root.ensures ∙ ap ref_to c.root.ensures) c.as_slice.result.now c.as_slice.ensures.value
     (truth_at c.new-world.result) c.new-world.ensures c.run-whole.result c.in_ok-reuse.reuse c.run-whole.new.reuse
     (c.run-whole.ensures.counts (begun_within c.in_ok-reuse.reuse c.in_ok-reuse.ensures.next)))
+    c.with_records.ensures.run c.with_records.ensures.ran
+
+pub returns-clause-asked : goal.returns-clause-asked
+returns-clause-asked c =
+    let ask = truth_in c.args.stylesheet.now (parameters_of c.args.parameters.now) c.args.source.now in
+    let began = c.in_ok-reuse.ensures in
+    recorded_asked c.args.last.now (since_of c.args.spared.now.since.now) ask c.run-whole.new.reuse c.run-whole.result c.with_records.result
+    (ap (λ (pool : Bor Pool). pool.now) c.run-whole.ensures.last ∙ began.last)
+    (ap (λ (spared : Bor Spared). since_of spared.now.since.now) c.run-whole.ensures.spared ∙ ap (λ (spared : Spared). since_of spared.since.now) began.spared)
     (subst (λ (ask : Ask). OnOk c.run-whole.result (IsSure ask c.run-whole.new.reuse)) c.new-world.ensures c.run-whole.ensures.sure)
-    c.with_records.ensures.run c.with_records.ensures.ran c.with_records.ensures.asked
+    c.with_records.ensures.run c.with_records.ensures.asked
 
 pub returns-clause-complete : goal.returns-clause-complete
 returns-clause-complete c =

@@ -1,4 +1,4 @@
-use Rattle.std.proofs.Common.{Some, subst, sym}
+use Rattle.std.proofs.Common.{Some, subst, sym, ◌≤◌, arith}
 use Rattle.std.specs.Prelude.{IfOk, IfSome}
 use Rattle.xt_driver.specs.View.{whole_of}
 use Rattle.xt_import.specs.View.{plain_of}
@@ -10,10 +10,12 @@ use Rattle.xt_held.specs.declared.stylesheet.Compiled.{Compiled}
 use Rattle.xt_held.specs.declared.stylesheet.Compiled.TheVariants.{Stylesheet}
 use Rattle.xt_held.proofs.Coming.{ended_so, none_kept, runs_so}
 use Rattle.xt_held.specs.Complete.{KeepsWhere}
-use Rattle.xt_held.specs.Cost.{CostsRun, any_change, setting_seen}
+use Rattle.xt_held.specs.Cost.{CostsRun, setting_seen}
 use Rattle.xt_held.specs.declared.counts.Counts.{Counts}
 use Rattle.xt_held.proofs.Completing.{ended_keeps}
 use Rattle.xt_held.proofs.Costing.{came_cost}
+use Rattle.xt_record.specs.Asked.{marked_of}
+use Rattle.xt_held.specs.OutcomeView.{no_counts}
 use Rattle.xt_held.proofs.outcome.transformed.Goals as goal
 
 pub returns-in-Ok-clause-outcome : goal.returns-in-Ok-clause-outcome
@@ -43,7 +45,7 @@ returns-in-Refused-clause-last c =
 pub returns-in-Ok-clause-cost : goal.returns-in-Ok-clause-cost
 returns-in-Ok-clause-cost c =
     let Cost : Compiled → Counts → Type 0
-    = λ compiled counts. CostsRun (Some compiled) (parameters_of c.args.parameters.now) (Some c.args.source.now) c.args.last.now.records any_change counts in
+    = λ compiled counts. CostsRun (Some compiled) (parameters_of c.args.parameters.now) (Some c.args.source.now) c.args.last.now.records counts in
     subst (λ (compiled : Compiled). IfOk c.ended.result (λ came. Cost compiled came.counts)) (sym c.in-Stylesheet.is)
     (came_cost (Cost (Stylesheet c.in-Stylesheet.stylesheet c.in-Stylesheet.space_rules c.in-Stylesheet.method)) c.in_ok-over-in-Stylesheet.over.counts
     c.ended.result c.ended.ensures.counts c.in_ok-over-in-Stylesheet.ensures.cost)
@@ -51,7 +53,7 @@ returns-in-Ok-clause-cost c =
 pub returns-in-Refused-clause-cost : goal.returns-in-Refused-clause-cost
 returns-in-Refused-clause-cost c =
     subst (λ (compiled : Compiled). IfOk c.refused.result (λ came. CostsRun (Some compiled) (parameters_of c.args.parameters.now) (Some c.args.source.now)
-    c.args.last.now.records any_change came.counts)) (sym c.in-Refused.is) c.refused.ensures.counts
+    c.args.last.now.records came.counts)) (sym c.in-Refused.is) c.refused.ensures.counts
 
 pub returns-in-Ok-clause-keeps : goal.returns-in-Ok-clause-keeps
 returns-in-Ok-clause-keeps c =
@@ -65,3 +67,13 @@ pub returns-in-Refused-clause-keeps : goal.returns-in-Refused-clause-keeps
 returns-in-Refused-clause-keeps c =
     subst (λ (compiled : Compiled). IfOk c.refused.result (λ came. KeepsWhere (Some compiled) (parameters_of c.args.parameters.now) (Some c.args.source.now)
     came.kept)) (sym c.in-Refused.is) c.refused.ensures.kept
+
+pub returns-in-Ok-clause-asked : goal.returns-in-Ok-clause-asked
+returns-in-Ok-clause-asked c =
+    let Asked : Counts → Type 0 = λ counts. counts.asked ≤ marked_of (since_of c.args.since) c.args.last.now.records in
+    came_cost Asked c.in_ok-over-in-Stylesheet.over.counts c.ended.result c.ended.ensures.counts c.in_ok-over-in-Stylesheet.ensures.asked
+
+pub returns-in-Refused-clause-asked : goal.returns-in-Refused-clause-asked
+returns-in-Refused-clause-asked c =
+    let Asked : Counts → Type 0 = λ counts. counts.asked ≤ marked_of (since_of c.args.since) c.args.last.now.records in
+    came_cost Asked no_counts c.refused.result c.refused.ensures.counts (omega arith)

@@ -11,7 +11,7 @@ use Rattle.xt_world.specs.View.{truth_in}
 use Rattle.xt_held.specs.RunView.{HoldsWith, SparedIn}
 use Rattle.xt_held.proofs.Coming.{seen_so}
 use Rattle.xt_held.specs.Complete.{Completes}
-use Rattle.xt_held.specs.Cost.{Costs, any_change, setting_on}
+use Rattle.xt_held.specs.Cost.{Costs, setting_on}
 use Rattle.xt_held.proofs.outcome.whole_of_seen.Goals as goal
 
 pub whole-requires : goal.whole-requires
@@ -35,7 +35,7 @@ returns-clause-kept c =
 pub returns-clause-cost : goal.returns-clause-cost
 returns-clause-cost c =
     subst (λ (source : Document ℕ). IfOk c.whole.result (λ over. Costs (setting_on c.args.stylesheet.now (parameters_of c.args.parameters.now) source)
-    c.args.last.now.records any_change over.counts))
+    c.args.last.now.records over.counts))
     (c.in_ok-seen.ensures ∙ ap (λ (rs : List SpaceRule). seen (map space_rule_of rs) c.args.source.now) c.as_slice.ensures.value) c.whole.ensures.cost
 
 pub returns-clause-complete : goal.returns-clause-complete

@@ -7,7 +7,7 @@ use Rattle.xt_touch.specs.View.{since_of}
 use Rattle.xt_held.specs.OutcomeView.{outcome_of, plain_in}
 use Rattle.xt_held.specs.RunView.{KeptHolds, KeptSpared}
 use Rattle.xt_held.specs.Complete.{KeepsWhere}
-use Rattle.xt_held.specs.Cost.{CostsRun, any_change}
+use Rattle.xt_held.specs.Cost.{CostsRun}
 use Rattle.xt_held.proofs.parameter.outcome_with.Goals as goal
 
 pub returns-clause-outcome : goal.returns-clause-outcome
@@ -27,7 +27,7 @@ returns-clause-last c =
 
 pub returns-clause-cost : goal.returns-clause-cost
 returns-clause-cost c =
-    subst (λ (parameters : Parameters). CostsRun (option_copied c.args.compiled) parameters (option_copied c.args.source) c.args.last.now.records any_change
+    subst (λ (parameters : Parameters). CostsRun (option_copied c.args.compiled) parameters (option_copied c.args.source) c.args.last.now.records
     c.in_ok-came.came.counts) c.in_ok-before.ensures.given c.in_ok-came.ensures.cost
 
 pub returns-clause-keeps : goal.returns-clause-keeps

@@ -4,7 +4,7 @@ use Rattle.xt_session.proofs.changes.commit.Goals as goal
 
 pub returns-in-Ok-clause-ok : goal.returns-in-Ok-clause-ok
 returns-in-Ok-clause-ok c =
-    replies_if_adopted _ Commit c.adopt.result (stays_itself c.args.held.now) (commits_so c.in-Ok.ensures.answer) c.in-Ok.ensures.brings
+    replies_if_adopted _ Commit c.adopt.result (stays_itself c.args.held.now) (commits_so c.in-Ok.ensures.answer) c.in-Ok.ensures.brings c.in-Ok.ensures.tells
     c.adopt.ensures.ok c.adopt.ensures.past
 
 pub returns-in-Err-Refused-clause-ok : goal.returns-in-Err-Refused-clause-ok

@@ -1,8 +1,10 @@
 use Rattle.spec_move.specs.Move.{moved_document, moved_nodes}
 use Rattle.spec_session.specs.Request.{Move}
+use Rattle.spec_cost.specs.Marking.{move_marks}
+use Rattle.xt_held.specs.Marked.{known_in}
 use Rattle.xt_held.specs.View.{made_of}
 use Rattle.xt_wire.specs.View.{name_of}
-use Rattle.xt_session.proofs.Answering.{Edits, brings_edited, edits_not, edits_so, if_ok_map, on_err_then, replies_if_adopted, replies_refusal, stays_kept}
+use Rattle.xt_session.proofs.Answering.{Edits, brings_edited, edits_not, edits_so, if_ok_map, on_err_then, replies_if_adopted, replies_refusal, stays_kept, tells_edited}
 use Rattle.xt_session.proofs.changes.relocate.Goals as goal
 
 pub returns-in-Ok-clause-ok : goal.returns-in-Ok-clause-ok
@@ -16,6 +18,8 @@ returns-in-Ok-clause-ok c =
     replies_if_adopted _ (Move asked path other) c.adopt.result (stays_kept c.in-Ok.ensures.kept c.in-Ok.ensures.past)
     (edits_so c.doc_name.result change asked made.0 c.doc_name.ensures made.1 made.2)
     (brings_edited c.doc_name.result (moved_nodes (made_of held) path other) asked c.doc_name.ensures c.in-Ok.ensures.brings)
+    (tells_edited c.doc_name.result (moved_nodes (made_of held) path other) (move_marks (known_in held) path other) asked c.doc_name.ensures
+    c.in-Ok.ensures.tells)
     c.adopt.ensures.ok c.adopt.ensures.past
 
 pub returns-in-Ok-clause-err : goal.returns-in-Ok-clause-err

@@ -21,7 +21,7 @@ returns-in-Ok-clause-ok c =
     _ _ (sym kept.made) c.in-Ok.ensures.brings in
     replies_if_adopted _ (SetModule name body) c.adopt.result (stays_kept kept c.in-Ok.ensures.past)
     (kept_so (with_module name) _ made.0 (ap (λ (first : ℕ). document_of root_scope first body) kept.made ∙ made.1) made.2)
-    brings c.adopt.ensures.ok c.adopt.ensures.past
+    brings c.in-Ok.ensures.tells c.adopt.ensures.ok c.adopt.ensures.past
 
 pub returns-in-Ok-clause-err : goal.returns-in-Ok-clause-err
 returns-in-Ok-clause-err c = on_err_then c.adopt.result _ (stays_kept c.in-Ok.ensures.kept c.in-Ok.ensures.past) c.adopt.ensures.err

@@ -11,7 +11,7 @@ returns-in-Ok-clause-ok c =
     let value = c.args.value.now in
     let made = c.in-Ok.ensures.answer in
     replies_if_adopted _ (SetParameter name value) c.adopt.result (stays_kept c.in-Ok.ensures.kept c.in-Ok.ensures.past) (given_so name value made.0 made.1)
-    c.in-Ok.ensures.brings c.adopt.ensures.ok c.adopt.ensures.past
+    c.in-Ok.ensures.brings c.in-Ok.ensures.tells c.adopt.ensures.ok c.adopt.ensures.past
 
 pub returns-in-Ok-clause-err : goal.returns-in-Ok-clause-err
 returns-in-Ok-clause-err c = on_err_then c.adopt.result _ (stays_kept c.in-Ok.ensures.kept c.in-Ok.ensures.past) c.adopt.ensures.err

@@ -15,7 +15,7 @@ returns-in-Ok-clause-ok c =
     let body = c.args.body.now in
     let made = c.in-Ok.ensures.answer in
     replies_if_adopted _ (SetSource body) c.adopt.result (stays_itself held)
-    (kept_so with_source (document_of root_scope (made_of held) body) made.0 made.1 made.2) c.in-Ok.ensures.brings c.adopt.ensures.ok c.adopt.ensures.past
+    (kept_so with_source (document_of root_scope (made_of held) body) made.0 made.1 made.2) c.in-Ok.ensures.brings c.in-Ok.ensures.tells c.adopt.ensures.ok c.adopt.ensures.past
 
 pub returns-in-Err-Refused-clause-ok : goal.returns-in-Err-Refused-clause-ok
 returns-in-Err-Refused-clause-ok c =

@@ -127,7 +127,7 @@ pub returns-clause-counts : goal.returns-clause-counts
 returns-clause-counts c = ap counts_in c.take_over.ensures ∙ ap (counts_by c.args.ready.coming) c.put.ensures.told.counts
 
 pub returns-clause-past : goal.returns-clause-past
-returns-clause-past c = λ before past.
+returns-clause-past c = λ marks tells before past.
     let ready = c.args.ready in
     let held = c.args.self.now in
     let put : IsPut ready.change held c.put.new.self = record {
@@ -141,4 +141,4 @@ returns-clause-past c = λ before past.
       below = c.put.ensures.below;
     } in
     let is : IsAdopted ready held c.take_over.new.self = adopted_so ready held c.put.new.self c.take_over.new.self c.take_over.ensures put c.requires.others c.requires.below in
-    adopted_past ready held c.take_over.new.self is c.requires before past
+    adopted_past ready held c.take_over.new.self is c.requires marks tells before past

@@ -1,4 +1,4 @@
-use Rattle.std.proofs.Common.{ℕ, Option, ap, refl, subst, sym, ◌∙◌}
+use Rattle.std.proofs.Common.{ℕ, Option, ap, refl, subst, sym, ◌∙◌, List}
 use Rattle.std.specs.Option.{option_map}
 use Rattle.spec_document.specs.Forest.{Document, Plain}
 use Rattle.spec_run.specs.Documents.{main_name}
@@ -15,7 +15,10 @@ use Rattle.xt_held.proofs.Keys.{map-copied}
 use Rattle.xt_held.proofs.Making.{not_edited, told_from}
 use Rattle.xt_held.proofs.Paying.{unedited_modules}
 use Rattle.xt_held.specs.Complete.{KeepsWhere}
-use Rattle.xt_held.specs.Cost.{CostsRun, any_change}
+use Rattle.xt_held.specs.Cost.{CostsRun}
+use Rattle.spec_touch.specs.Marks.{WorldChange}
+use Rattle.xt_held.specs.Marked.{AreToldBy, known_in}
+use Rattle.xt_held.proofs.Asking.{as_told}
 use Rattle.xt_held.proofs.held.Held.commit_as_before.Goals as goal
 
 pub outcome_after-requires : goal.outcome_after-requires
@@ -47,11 +50,24 @@ returns-clause-ok c =
             compiled = c.requires.compiled;
             last = subst (λ (s : Option (Document ℕ)). LastHolds (outcome_of came.came.outcome) held.compiled given s
                 (left_by came.came held.last.before held.last)) c.as_ref.ensures.value came.ensures.last;
-            cost = subst (λ (s : Option (Document ℕ)). CostsRun held.compiled given s held.last.kept.records any_change came.came.counts)
+            cost = subst (λ (s : Option (Document ℕ)). CostsRun held.compiled given s held.last.kept.records came.came.counts)
                 c.as_ref.ensures.value came.ensures.cost;
             keeps = subst (λ (s : Option (Document ℕ)). KeepsWhere held.compiled given s came.came.kept) c.as_ref.ensures.value came.ensures.keeps;
             same = λ e. record { modules = unedited_modules held c.requires.current e; compiled = refl };
             called = λ e. absurd (not_edited (is_edited_by held.batch) c.requires.unedited e);
           }) tt c.requires.current.below tt;
       told = refl;
+    }
+
+pub returns-clause-tells : goal.returns-clause-tells
+returns-clause-tells c =
+    let held = c.args.self.now in
+    record {
+      tells = λ told is.
+          record {
+            all = told;
+            by = as_told (is_edited_by held.batch) (documents_of held).modules (known_in held) told c.requires.unedited;
+            asked = c.in_ok-came.ensures.asks told
+                (subst (λ (changes : List WorldChange). AreToldBy told changes) (sym c.in_ok-since.ensures) is);
+          };
     }

@@ -9,5 +9,5 @@ returns-clause-current c = search (rules, nothing_kept)
 
 pub returns-clause-past : goal.returns-clause-past
 returns-clause-past c = λ called.
-    first_past called _ refl c.new.ensures.empty refl refl c.new-3.ensures.records (ap (λ (counts : Counts). counts.ran) c.no_counts.ensures)
+    first_past called _ refl c.new.ensures.empty refl refl c.new-3.ensures.records c.nothing.ensures refl (ap (λ (counts : Counts). counts.ran) c.no_counts.ensures)
     (ap (λ (counts : Counts). counts.asked) c.no_counts.ensures)

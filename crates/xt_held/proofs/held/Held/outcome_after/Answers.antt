@@ -8,7 +8,8 @@ use Rattle.xt_held.specs.StylesheetView.{AreCompiled}
 use Rattle.xt_held.specs.declared.stylesheet.Compiled.{Compiled}
 use Rattle.xt_held.proofs.Left.{left_so, run_spared}
 use Rattle.xt_held.specs.Complete.{KeepsWhere}
-use Rattle.xt_held.specs.Cost.{CostsRun, any_change}
+use Rattle.xt_held.specs.Cost.{CostsRun}
+use Rattle.xt_held.proofs.Asking.{came_asked}
 use Rattle.xt_held.proofs.held.Held.outcome_after.Goals as goal
 
 pub outcome_of-requires : goal.outcome_of-requires
@@ -38,10 +39,14 @@ pub returns-clause-cost : goal.returns-clause-cost
 returns-clause-cost c =
     let held = c.args.self.now in
     subst (λ (o : Option Compiled). IfOk c.outcome_of.result (λ came. CostsRun o (parameters_of held.parameters) (option_copied c.args.source)
-    held.last.kept.records any_change came.counts)) c.as_ref-compiled.ensures.value c.outcome_of.ensures.cost
+    held.last.kept.records came.counts)) c.as_ref-compiled.ensures.value c.outcome_of.ensures.cost
 
 pub returns-clause-keeps : goal.returns-clause-keeps
 returns-clause-keeps c =
     let held = c.args.self.now in
     subst (λ (o : Option Compiled). IfOk c.outcome_of.result (λ came. KeepsWhere o (parameters_of held.parameters) (option_copied c.args.source) came.kept))
     c.as_ref-compiled.ensures.value c.outcome_of.ensures.keeps
+
+pub returns-clause-asks : goal.returns-clause-asks
+returns-clause-asks c = λ marks told.
+    came_asked marks (since_of c.args.since) c.args.self.now.last.kept.records c.outcome_of.result told c.outcome_of.ensures.asked c.outcome_of.ensures.since

@@ -1,4 +1,4 @@
-use Rattle.std.proofs.Common.{ℕ, Option, ap, subst, sym, ◌∙◌}
+use Rattle.std.proofs.Common.{ℕ, Option, ap, subst, sym, ◌∙◌, List}
 use Rattle.std.specs.Prelude.{IfOk, IfSome}
 use Rattle.std.specs.Option.{option_copied, option_map}
 use Rattle.spec_document.specs.Forest.{Document, Plain}
@@ -14,7 +14,10 @@ use Rattle.xt_held.specs.declared.stylesheet.Compiled.{Compiled}
 use Rattle.xt_held.proofs.Keys.{map-copied}
 use Rattle.xt_held.proofs.Left.{kept_stays, known_answers, known_before, left_so, run_spared}
 use Rattle.xt_held.specs.Complete.{KeepsWhere}
-use Rattle.xt_held.specs.Cost.{CostsRun, any_change}
+use Rattle.xt_held.specs.Cost.{CostsRun}
+use Rattle.spec_cost.specs.Marking.{AddsStyle, Mark, and_marks}
+use Rattle.xt_held.specs.Marked.{AreToldBy, known_in, known_of}
+use Rattle.xt_held.proofs.Asking.{styled_asked}
 use Rattle.xt_held.proofs.held.Held.outcome_with_modules.Goals as goal
 
 pub outcome_of-requires : goal.outcome_of-requires
@@ -26,7 +29,7 @@ outcome_of-requires c =
     let known = c.requires.known.last in
     let changes = since_of c.in_ok-since.since in
     let stays = subst (λ (what : Option Compiled). StaysSpared what (last_known compiled what) given given held.source held.source
-    (since_of held.last.since) changes) c.last_known-known.ensures (c.in_ok-since.ensures given held.source) in
+    (since_of held.last.since) changes) c.last_known-known.ensures (c.in_ok-since.ensures.spared given held.source) in
     subst (λ (s : Option (Document ℕ)). KeptSpared compiled given s held.last.kept changes) (sym c.as_ref-source.ensures.value)
     (run_spared compiled before given held.source held.last.kept changes
     (kept_stays before (last_known compiled before) given given held.source held.source (since_of held.last.since) changes stays held.last.kept known.answers
@@ -47,7 +50,7 @@ returns-clause-last c =
     let known = c.requires.known.last in
     let changes = since_of c.in_ok-since.since in
     let stays = subst (λ (what : Option Compiled). StaysSpared what (last_known compiled what) given given held.source held.source
-    (since_of held.last.since) changes) c.last_known-known.ensures (c.in_ok-since.ensures given held.source) in
+    (since_of held.last.since) changes) c.last_known-known.ensures (c.in_ok-since.ensures.spared given held.source) in
     let answers = known_answers compiled before c.requires.answers known.answers in
     let is = sym (known_before compiled held.compiled held.last.before) in
     left_so compiled (before_by compiled held.compiled held.last.before) given held.source held.last changes c.outcome_of.result c.outcome_of.ensures.fits
@@ -63,10 +66,18 @@ pub returns-clause-cost : goal.returns-clause-cost
 returns-clause-cost c =
     let held = c.args.self.now in
     subst (λ (s : Option (Document ℕ)). IfOk c.outcome_of.result (λ came. CostsRun (option_copied c.args.compiled) (parameters_of held.parameters) s
-    held.last.kept.records any_change came.counts)) c.as_ref-source.ensures.value c.outcome_of.ensures.cost
+    held.last.kept.records came.counts)) c.as_ref-source.ensures.value c.outcome_of.ensures.cost
 
 pub returns-clause-keeps : goal.returns-clause-keeps
 returns-clause-keeps c =
     let held = c.args.self.now in
     subst (λ (s : Option (Document ℕ)). IfOk c.outcome_of.result (λ came. KeepsWhere (option_copied c.args.compiled) (parameters_of held.parameters) s
     came.kept)) c.as_ref-source.ensures.value c.outcome_of.ensures.keeps
+
+pub returns-clause-asks : goal.returns-clause-asks
+returns-clause-asks c = λ told is modules are.
+    let changes = since_of c.in_ok-since.since in
+    let styled = subst (λ (what : Option Compiled). (style : List Mark) × AddsStyle modules (modules main_name) (known_of what) style
+    × AreToldBy (and_marks told style) changes) c.last_known-known.ensures (c.in_ok-since.ensures.told told is modules are) in
+    styled_asked modules (known_in c.args.self.now) told changes c.args.self.now.last.kept.records c.outcome_of.result styled c.outcome_of.ensures.asked
+    c.outcome_of.ensures.since

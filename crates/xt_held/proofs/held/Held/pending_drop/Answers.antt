@@ -1,4 +1,4 @@
-use Rattle.std.proofs.Common.{None, arith, refl}
+use Rattle.std.proofs.Common.{None, arith, refl, List, subst, sym}
 use Rattle.spec_cost.specs.Numbers as numbers
 use Rattle.spec_run.specs.Documents.{without_module}
 use Rattle.xt_world.specs.ParameterView.{parameters_of}
@@ -7,6 +7,8 @@ use Rattle.xt_held.specs.declared.ready.Change.TheVariants as changes
 use Rattle.xt_held.specs.declared.ready.Recompiled.TheVariants.{AsBefore}
 use Rattle.xt_held.proofs.Keeping.{serves_since}
 use Rattle.xt_held.proofs.Making.{mapped_edit, open_edited, pending_from}
+use Rattle.spec_touch.specs.Marks.{WorldChange}
+use Rattle.xt_held.specs.Marked.{AreToldBy}
 use Rattle.xt_held.proofs.held.Held.pending_drop.Goals as goal
 
 pub returns-clause-ok : goal.returns-clause-ok
@@ -33,3 +35,6 @@ returns-clause-ok c =
 pub returns-clause-brings : goal.returns-clause-brings
 returns-clause-brings c =
     record { numbers = λ i. numbers.with_module (c.in_ok-dropped.ensures i) None (numbers_of c.args.self.now); kind = refl }
+
+pub returns-clause-tells : goal.returns-clause-tells
+returns-clause-tells c = record { tells = λ told is. subst (λ (changes : List WorldChange). AreToldBy told changes) (sym c.in_ok-since.ensures) is }

@@ -13,6 +13,8 @@ use Rattle.xt_held.specs.declared.ready.Change.TheVariants as changes
 use Rattle.xt_held.specs.declared.ready.Recompiled.TheVariants.{AsBefore}
 use Rattle.xt_held.proofs.Keeping.{all_raised, kept_modules, serves_since}
 use Rattle.xt_held.proofs.Making.{mapped_edit, open_edited, pending_from}
+use Rattle.spec_touch.specs.Marks.{WorldChange}
+use Rattle.xt_held.specs.Marked.{AreToldBy}
 use Rattle.xt_held.proofs.held.Held.pending_module.Goals as goal
 
 pub returns-clause-ok : goal.returns-clause-ok
@@ -49,3 +51,6 @@ returns-clause-brings c =
 
 pub returns-clause-kept : goal.returns-clause-kept
 returns-clause-kept c = kept_modules c.args.self.now _ c.in-Ok-reserve.ensures.entries refl
+
+pub returns-clause-tells : goal.returns-clause-tells
+returns-clause-tells c = record { tells = λ told is. subst (λ (changes : List WorldChange). AreToldBy told changes) (sym c.in-Ok-copy.ensures) is }

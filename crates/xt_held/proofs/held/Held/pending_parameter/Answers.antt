@@ -18,10 +18,13 @@ returns-clause-ok c =
     c.requires.is_open c.in_ok-since.since c.requires.current
     (record {
       spared = kept_stays what what given (with_value c.args.name.now c.args.value.now given) held.source held.source (since_of held.last.since)
-          (since_of c.in_ok-since.since) (c.in_ok-since.ensures what given c.args.value.now held.source) held.last.kept known.answers known.answers known.spared;
+          (since_of c.in_ok-since.since) (c.in_ok-since.ensures.spared what given c.args.value.now held.source) held.last.kept known.answers known.answers known.spared;
       answers = known.answers;
       faultless = known.faultless;
     }) c.in-Ok.ensures.room
 
 pub returns-clause-kept : goal.returns-clause-kept
 returns-clause-kept c = kept_so c.args.self.now c.reserve.new.self c.in-Ok.ensures.same
+
+pub returns-clause-tells : goal.returns-clause-tells
+returns-clause-tells c = record { tells = λ told is. c.in_ok-since.ensures.told told is }

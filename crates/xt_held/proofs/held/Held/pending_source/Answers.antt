@@ -28,10 +28,13 @@ returns-clause-ok c =
             compiled = refl;
             before = refl;
             serves = record {
-              spared = kept_stays what what given given held.source (Some c.args.document) (since_of held.last.since) (since_of c.in-Ok.since) c.in-Ok.ensures
+              spared = kept_stays what what given given held.source (Some c.args.document) (since_of held.last.since) (since_of c.in-Ok.since) c.in-Ok.ensures.spared
                   held.last.kept known.answers known.answers known.spared;
               answers = known.answers;
               faultless = c.requires.faultless;
             };
           }) tt (all_raised (made_of held) c.args.next.number held c.requires.grows c.requires.current.below) c.requires.below;
     }
+
+pub returns-clause-tells : goal.returns-clause-tells
+returns-clause-tells c = record { tells = λ told is. c.in-Ok.ensures.told told is }

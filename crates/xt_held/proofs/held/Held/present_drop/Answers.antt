@@ -1,4 +1,4 @@
-use Rattle.std.proofs.Common.{None, Option, refl, subst, sym}
+use Rattle.std.proofs.Common.{None, Option, refl, subst, sym, ◌≡◌, true}
 use Rattle.spec_cost.specs.Numbers as numbers
 use Rattle.xt_import.specs.View.{modules_in}
 use Rattle.xt_world.specs.ParameterView.{parameters_of}
@@ -13,7 +13,15 @@ use Rattle.xt_held.proofs.Keeping.{kept_so}
 use Rattle.xt_held.proofs.Making.{none_open}
 use Rattle.xt_held.proofs.Marked.{answers_as_some, known_of}
 use Rattle.xt_held.specs.Complete.{KeepsWhere}
-use Rattle.xt_held.specs.Cost.{CostsRun, any_change}
+use Rattle.xt_held.specs.Cost.{CostsRun}
+use Rattle.std.specs.Option.{option_copied}
+use Rattle.spec_structure.specs.Modules.{Modules}
+use Rattle.spec_run.specs.Documents.{without_module}
+use Rattle.spec_cost.specs.Marking.{and_marks}
+use Rattle.xt_held.specs.Marked.{known_in}
+use Rattle.xt_held.specs.View.{is_edited_by}
+use Rattle.xt_held.proofs.Asking.{or_is_true, with_style}
+use Rattle.xt_held.proofs.Dropping.{same_modules}
 use Rattle.xt_held.proofs.held.Held.present_drop.Goals as goal
 
 pub returns-in_err-compiled-clause-kept : goal.returns-in_err-compiled-clause-kept
@@ -48,7 +56,7 @@ returns-clause-ok c =
     let are = subst (λ (o : Option Compiled). AreCompiled modules o) (sym c.as_ref.ensures.value) c.in_ok-compiled.ensures.compiled in
     let holds = subst (λ (o : Option Compiled). LastHolds (outcome_of came.outcome) o (parameters_of held.parameters) held.source
     (left_by came (before_by o held.compiled held.last.before) held.last)) c.as_ref.ensures.value c.in-Ok.ensures.last in
-    let cost = subst (λ (o : Option Compiled). CostsRun o (parameters_of held.parameters) held.source held.last.kept.records any_change came.counts)
+    let cost = subst (λ (o : Option Compiled). CostsRun o (parameters_of held.parameters) held.source held.last.kept.records came.counts)
     c.as_ref.ensures.value c.in-Ok.ensures.cost in
     let keeps = subst (λ (o : Option Compiled). KeepsWhere o (parameters_of held.parameters) held.source came.kept) c.as_ref.ensures.value
     c.in-Ok.ensures.keeps in
@@ -61,3 +69,24 @@ pub returns-clause-brings : goal.returns-clause-brings
 returns-clause-brings c =
     let new : Held = record c.args.self.now { modules = c.compiled_without.new.modules } in
     record { numbers = λ i. numbers.with_module (c.in_ok-dropped.ensures i) None (numbers_of new); kind = refl }
+
+pub returns-clause-tells : goal.returns-clause-tells
+returns-clause-tells c =
+    let held = c.args.self.now in
+    let new : Held = record held { modules = c.compiled_without.new.modules } in
+    let given = without_one c.args.name.now (modules_in held.modules.entries) in
+    let modules = (without_module c.in_ok-dropped.dropped (documents_of new)).modules in
+    let same : given ≡ modules
+    = λ i. without_one (sym c.in_ok-dropped.ensures i)
+    (sym (same_modules held.modules.entries c.compiled_without.new.modules.entries c.in_ok-compiled.ensures.kept) i) in
+    let are = subst (λ (ms : Modules). AreCompiled ms (option_copied c.as_ref.result)) same
+    (subst (λ (o : Option Compiled). AreCompiled given o) (sym c.as_ref.ensures.value) c.in_ok-compiled.ensures.compiled) in
+    record {
+      tells = λ told is.
+          let styled = c.in-Ok.ensures.asks told is modules are in
+          record {
+            all = and_marks told styled.0;
+            by = with_style (is_edited_by held.batch) true modules (known_in held) told styled.0 (or_is_true (is_edited_by held.batch)) styled.1;
+            asked = styled.2;
+          };
+    }

@@ -1,4 +1,4 @@
-use Rattle.std.proofs.Common.{◌≡◌, List, ℕ, Option, Some, refl, ap, sym, subst, string_bytes, ◌∙◌}
+use Rattle.std.proofs.Common.{◌≡◌, List, ℕ, Option, Some, refl, ap, sym, subst, string_bytes, ◌∙◌, true}
 use Rattle.std.specs.Option.{option_copied, option_map}
 use Rattle.std.specs.Str.{chars}
 use Rattle.std.specs.declared.alloc.Global.{Global}
@@ -26,7 +26,11 @@ use Rattle.xt_held.proofs.Making.{mapped_edit, none_open, told_from, told_ready}
 use Rattle.xt_held.proofs.Paying.{module_changes}
 use Rattle.xt_held.proofs.Marked.{answers_as_some, known_of}
 use Rattle.xt_held.specs.Complete.{KeepsWhere}
-use Rattle.xt_held.specs.Cost.{CostsRun, any_change}
+use Rattle.xt_held.specs.Cost.{CostsRun}
+use Rattle.spec_cost.specs.Marking.{and_marks}
+use Rattle.xt_held.specs.Marked.{known_in}
+use Rattle.xt_held.specs.View.{is_edited_by}
+use Rattle.xt_held.proofs.Asking.{or_is_true, with_style}
 use Rattle.xt_held.proofs.held.Held.present_module.Goals as goal
 
 pub outcome_with_modules-requires-clause-known : goal.outcome_with_modules-requires-clause-known
@@ -75,7 +79,7 @@ returns-clause-ok c =
             compiled = are;
             last = subst (λ (o : Option Compiled). LastHolds (outcome_of came.came.outcome) o (parameters_of held.parameters) held.source
                 (left_by came.came (before_by o held.compiled held.last.before) held.last)) c.as_ref.ensures.value came.ensures.last;
-            cost = subst (λ (o : Option Compiled). CostsRun o (parameters_of held.parameters) held.source held.last.kept.records any_change came.came.counts)
+            cost = subst (λ (o : Option Compiled). CostsRun o (parameters_of held.parameters) held.source held.last.kept.records came.came.counts)
                 c.as_ref.ensures.value came.ensures.cost;
             keeps = subst (λ (o : Option Compiled). KeepsWhere o (parameters_of held.parameters) held.source came.came.kept) c.as_ref.ensures.value
                 came.ensures.keeps;
@@ -101,3 +105,26 @@ returns-in_default-reserve-clause-kept c = kept_modules c.args.self.now _ (c.res
 
 pub returns-in_default-outcome_with_modules-clause-kept : goal.returns-in_default-outcome_with_modules-clause-kept
 returns-in_default-outcome_with_modules-clause-kept c = kept_modules c.args.self.now _ c.in_ok-tried.ensures.kept refl
+
+pub returns-clause-tells : goal.returns-clause-tells
+returns-clause-tells c =
+    let held = c.args.self.now in
+    let document = c.in_ok-tried.tried.document in
+    let key = chars (string_bytes c.in-Ok.key) in
+    let name : key ≡ c.args.name.now = ap chars c.in-Ok.ensures.ok ∙ c.as_str.ensures.characters in
+    let same : document ≡ c.args.document = c.in_ok-tried.ensures.document in
+    let entries : c.reserve.new.self.entries ≡ held.modules.entries = c.in-Ok-reserve.ensures.entries ∙ c.in_ok-tried.ensures.kept in
+    let modules = with_one key (plain_of document) (modules_in c.reserve.new.self.entries) in
+    let is_so : with_one c.args.name.now (plain_of c.args.document) (modules_in held.modules.entries) ≡ modules
+    = sym (λ i. with_one (name i) (plain_of (same i)) (modules_in (entries i))) in
+    let are = subst (λ (o : Option Compiled). AreCompiled modules o) (sym c.as_ref.ensures.value)
+    (subst (λ (ms : Modules). AreCompiled ms c.in_ok-tried.tried.compiled) is_so c.in_ok-tried.ensures.compiled) in
+    record {
+      tells = λ told is.
+          let styled = c.in-Ok-outcome_with_modules.ensures.asks told is modules are in
+          record {
+            all = and_marks told styled.0;
+            by = with_style (is_edited_by held.batch) true modules (known_in held) told styled.0 (or_is_true (is_edited_by held.batch)) styled.1;
+            asked = styled.2;
+          };
+    }

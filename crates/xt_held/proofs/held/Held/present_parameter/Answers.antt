@@ -1,4 +1,4 @@
-use Rattle.std.proofs.Common.{ℕ, Option, ap, sym, subst, ◌∙◌}
+use Rattle.std.proofs.Common.{ℕ, Option, ap, sym, subst, ◌∙◌, ◌∷◌, [], Ok}
 use Rattle.std.specs.Prelude.{IfSome}
 use Rattle.std.specs.Option.{option_copied, option_map}
 use Rattle.spec_document.specs.Forest.{Document, Plain}
@@ -17,7 +17,11 @@ use Rattle.xt_held.proofs.Keys.{map-copied}
 use Rattle.xt_held.proofs.Left.{kept_stays, last_so, run_spared}
 use Rattle.xt_held.proofs.Making.{compiled_alone, none_open}
 use Rattle.xt_held.specs.Complete.{KeepsWhere}
-use Rattle.xt_held.specs.Cost.{CostsRun, any_change}
+use Rattle.xt_held.specs.Cost.{CostsRun}
+use Rattle.spec_cost.specs.Marking.{Given, and_marks}
+use Rattle.xt_held.specs.Marked.{known_in}
+use Rattle.xt_held.specs.View.{is_edited_by}
+use Rattle.xt_held.proofs.Asking.{as_told, came_asked}
 use Rattle.xt_held.proofs.held.Held.present_parameter.Goals as goal
 
 pub outcome_with-requires : goal.outcome_with-requires
@@ -29,7 +33,7 @@ outcome_with-requires c =
     let changes = since_of c.in_ok-since.since in
     let answers = c.requires.current.serves.answers in
     let spared = kept_stays known known given values held.source held.source (since_of held.last.since) changes
-    (c.in_ok-since.ensures known given c.args.value.now held.source) held.last.kept answers answers c.requires.current.serves.spared in
+    (c.in_ok-since.ensures.spared known given c.args.value.now held.source) held.last.kept answers answers c.requires.current.serves.spared in
     subst (λ (o : Option Compiled). KeptSpared o values (option_copied c.as_ref-source.result) held.last.kept changes) (sym c.as_ref-compiled.ensures.value)
     (subst (λ (s : Option (Document ℕ)). KeptSpared held.compiled values s held.last.kept changes) (sym c.as_ref-source.ensures.value)
     (run_spared held.compiled held.last.before values held.source held.last.kept changes spared))
@@ -45,7 +49,7 @@ returns-clause-ok c =
     let changes = since_of c.in_ok-since.since in
     let answers = c.requires.current.serves.answers in
     let spared = kept_stays known known given values held.source held.source (since_of held.last.since) changes
-    (c.in_ok-since.ensures known given c.args.value.now held.source) held.last.kept answers answers c.requires.current.serves.spared in
+    (c.in_ok-since.ensures.spared known given c.args.value.now held.source) held.last.kept answers answers c.requires.current.serves.spared in
     let source = map-copied plain_of c.as_ref-source.result ∙ ap (option_map plain_of) c.as_ref-source.ensures.value in
     let alone = none_open held.batch (documents_of held) c.requires.alone in
     let are = compiled_alone held alone c.requires.current.compiled in
@@ -53,9 +57,9 @@ returns-clause-ok c =
     let kept = subst (λ (o : Option Compiled). IfSome tried.came.kept (KeptHolds o values held.source)) c.as_ref-compiled.ensures.value
     (subst (λ (s : Option (Document ℕ)). IfSome tried.came.kept (KeptHolds (option_copied c.as_ref-compiled.result) values s)) c.as_ref-source.ensures.value
     c.in_ok-tried.ensures.last) in
-    let cost = subst (λ (o : Option Compiled). CostsRun o values held.source held.last.kept.records any_change tried.came.counts)
+    let cost = subst (λ (o : Option Compiled). CostsRun o values held.source held.last.kept.records tried.came.counts)
     c.as_ref-compiled.ensures.value
-    (subst (λ (s : Option (Document ℕ)). CostsRun (option_copied c.as_ref-compiled.result) values s held.last.kept.records any_change tried.came.counts)
+    (subst (λ (s : Option (Document ℕ)). CostsRun (option_copied c.as_ref-compiled.result) values s held.last.kept.records tried.came.counts)
     c.as_ref-source.ensures.value c.in_ok-tried.ensures.cost) in
     let keeps = subst (λ (o : Option Compiled). KeepsWhere o values held.source tried.came.kept) c.as_ref-compiled.ensures.value
     (subst (λ (s : Option (Document ℕ)). KeepsWhere (option_copied c.as_ref-compiled.result) values s tried.came.kept)
@@ -71,3 +75,20 @@ returns-clause-ok c =
 
 pub returns-clause-kept : goal.returns-clause-kept
 returns-clause-kept c = kept_so c.args.self.now c.outcome_with.new.parameters c.in_ok-tried.ensures.kept
+
+pub returns-clause-tells : goal.returns-clause-tells
+returns-clause-tells c =
+    let held = c.args.self.now in
+    let documents = documents_of held in
+    let alone = none_open held.batch documents c.requires.alone in
+    record {
+      tells = λ told is.
+          let all = and_marks told (Given c.args.name.now ∷ []) in
+          let tried = c.in_ok-tried.ensures in
+          let changes = since_of c.in_ok-since.since in
+          record {
+            all = all;
+            by = as_told (is_edited_by held.batch) documents.modules (known_in held) all (ap is_edited_by alone);
+            asked = came_asked all changes held.last.kept.records (Ok c.in_ok-tried.tried.came) (c.in_ok-since.ensures.told told is) tried.asked tried.since;
+          };
+    }

@@ -1,0 +1,296 @@
+-- What changes mark is told of them, with one change more.
+--     TellsOf       each question that a change marks is marked by what is told of it
+--     told_and      one change more, and what is told of it
+--     anything_told where anything may be another
+--     edit_told, move_told, stylesheet_told, value_told
+use Rattle.std.proofs.Common.{◌≡◌, ◌≤◌, ◌⊎◌, ◌+◌, ℕ, inl, inr, Bool, true, false, cond, List, [], ◌∷◌, ◌++◌, Option, None, Some, Result, Ok}
+use Rattle.std.proofs.Common.{arith, refl, sym, ap, subst, ◌∙◌}
+use Rattle.std.specs.Prelude.{◌||◌, length, nat_lt, not}
+use Rattle.std.proofs.lemmas.Bool.{and_parts, lt-ltb, ltb-true}
+use Rattle.std.proofs.lemmas.List.{length-append}
+use Rattle.std.proofs.lemmas.List.Folds.{list_any-append}
+use Rattle.spec_document.specs.Forest.{Document, Plain}
+use Rattle.spec_document.specs.Name.{Expanded}
+use Rattle.spec_edit.specs.Edit as spec
+use Rattle.spec_change.specs.Change.{Change, IsEdit, change_of}
+use Rattle.spec_move.specs.Changed.{MoveChange}
+use Rattle.spec_seen.specs.Seen.{seen}
+use Rattle.spec_stylesheet.specs.Sheet as plain
+use Rattle.spec_stylesheet.specs.Sheet.{SpaceRule}
+use Rattle.spec_stylesheet.specs.declared.method.Method.{Method}
+use Rattle.spec_structure.specs.Modules.{Modules}
+use Rattle.spec_compile.specs.Sheet.{Refusal}
+use Rattle.spec_run.specs.Documents.{main_name}
+use Rattle.spec_items.specs.Lifted.{lifted}
+use Rattle.spec_items.specs.Liftable.{is_liftable, with_items}
+use Rattle.spec_meaning.specs.Question.{Question, Step, Text, Name, Place, Order, Key, Choice, Copy, Unit as UnitOf, External}
+use Rattle.spec_node.specs.declared.node_ref.NodeRef.{NodeRef}
+use Rattle.spec_cost.specs.Marking as tell
+use Rattle.spec_cost.specs.Marking.{AddsStyle, Known, Mark, StyleIs, and_marks, are_marked, edited_so, edit_marks, is_marked, moved_so, move_marks}
+use Rattle.spec_touch.specs.Leads.{Leads, seen_change}
+use Rattle.spec_touch.specs.Marks as world
+use Rattle.spec_touch.specs.Marks.{WorldChange, any_marks, marks}
+use Rattle.spec_touch.specs.Moved.{move_touched}
+use Rattle.spec_touch.specs.Plain.{spared, spared_by_move}
+use Rattle.spec_touch.specs.Touched.{is_touched}
+use Rattle.xt_touch.specs.View as since
+use Rattle.xt_tree.specs.Numbers.{IsNumbered}
+use Rattle.xt_tree.proofs.Bools.{or_cases, or_false, true_false}
+use Rattle.xt_syntax.specs.SheetView.{space_rules_of}
+use Rattle.xt_syntax.specs.declared.space_rules.SpaceRules.{SpaceRules}
+use Rattle.xt_compile.specs.declared.fault.StaticRefusal.{StaticRefusal}
+use Rattle.xt_world.specs.declared.stylesheet.Stylesheet.{Stylesheet as Held}
+use Rattle.xt_held.specs.Marked.{AreToldBy}
+use Rattle.xt_held.specs.RunView.{IsFaultless, SeesAll}
+use Rattle.xt_held.specs.StylesheetView.{AreCompiled, AreCompiledBy}
+use Rattle.xt_held.specs.declared.stylesheet.Compiled.{Compiled}
+use Rattle.xt_held.specs.declared.stylesheet.Compiled.TheVariants.{Stylesheet, Refused}
+use Rattle.xt_held.proofs.Sparing.{KeepingSpace, Leading, leads_so, sound_of}
+
+-- ---- Marks
+
+-- each question that the change marks is marked by what is told of it
+abbrev pub TellsOf : Mark → WorldChange → Type 0
+TellsOf mark change = (q : Question NodeRef) → marks change q ≡ true → is_marked mark q ≡ true
+
+true_unless : (b : Bool) → (b ≡ false → ⊥) → b ≡ true
+true_unless true h = refl
+true_unless false h = absurd (h refl)
+
+room_is : (changes : List WorldChange) (change : WorldChange) → nat_lt (length changes) since.most_remembered ≡ true
+    → since.remembered changes change ≡ changes ++ change ∷ []
+room_is changes change e = ap (λ (b : Bool). cond b (changes ++ change ∷ []) (world.Anything ∷ [])) e
+
+-- what is marked by one more is marked already, or by that
+either_marks : (q : Question NodeRef) (change : WorldChange) (changes : List WorldChange) → any_marks (changes ++ change ∷ []) q ≡ true
+    → (any_marks changes q ≡ true) ⊎ (marks change q ≡ true)
+either_marks q change changes h =
+    by (or_cases (any_marks changes q) (marks change q || false) (sym (list_any-append (λ c. marks c q) changes (change ∷ [])) ∙ h))
+  where
+    alone : (b : Bool) → (b || false) ≡ true → b ≡ true
+    alone true e = refl
+    alone false e = e
+
+    by : ((any_marks changes q ≡ true) ⊎ ((marks change q || false) ≡ true)) → (any_marks changes q ≡ true) ⊎ (marks change q ≡ true)
+    by (inl e) = inl e
+    by (inr e) = inr (alone (marks change q) e)
+
+-- where what is told leaves a question unmarked with one more: there was room, and neither marks it
+record Leaves (marks : List Mark) (mark : Mark) (q : Question NodeRef) : Type 0 where
+  room : nat_lt (length marks) tell.most_remembered ≡ true
+  before : are_marked marks q ≡ false
+  alone : is_marked mark q ≡ false
+
+leaves : (ms : List Mark) (mark : Mark) (q : Question NodeRef) → are_marked (tell.remembered ms mark) q ≡ false → Leaves ms mark q
+leaves ms mark q h = by (nat_lt (length ms) tell.most_remembered) refl h
+  where
+    by : (b : Bool) → nat_lt (length ms) tell.most_remembered ≡ b → are_marked (cond b (ms ++ mark ∷ []) (tell.Anything ∷ [])) q ≡ false
+        → Leaves ms mark q
+    by true e h =
+        let both = or_false (are_marked ms q) (is_marked mark q || false) (sym (list_any-append (λ m. is_marked m q) ms (mark ∷ [])) ∙ h) in
+        record { room = e; before = both.0; alone = (or_false (is_marked mark q) false both.1).0 }
+    by false e h = absurd (true_false h)
+
+told_room : (ms : List Mark) (mark : Mark) → nat_lt (length ms) tell.most_remembered ≡ true → tell.remembered ms mark ≡ ms ++ mark ∷ []
+told_room ms mark e = ap (λ (b : Bool). cond b (ms ++ mark ∷ []) (tell.Anything ∷ [])) e
+
+-- ---- One change more
+
+-- there is room for one more change where what is told leaves a question unmarked
+has_room : (ms : List Mark) (changes : List WorldChange) (mark : Mark) (q : Question NodeRef) → AreToldBy ms changes → Leaves ms mark q
+    → nat_lt (length changes) since.most_remembered ≡ true
+has_room ms changes mark q h left =
+    let most : length changes ≤ length ms = h.most q left.before in
+    let less = ltb-true (length ms) 256 left.room in
+    lt-ltb (length changes) 256 (omega (arith, most, less))
+
+pub told_and : (ms : List Mark) (mark : Mark) (changes : List WorldChange) (change : WorldChange) → TellsOf mark change → AreToldBy ms changes
+    → AreToldBy (tell.remembered ms mark) (since.remembered changes change)
+told_and ms mark changes change tells h = record {
+  marked = λ q any. true_unless (are_marked (tell.remembered ms mark) q) (λ u.
+      let left = leaves ms mark q u in
+      let room = room_is changes change (has_room ms changes mark q h left) in
+      apart q left (either_marks q change changes (subst (λ (cs : List WorldChange). any_marks cs q ≡ true) room any)));
+  most = λ q u.
+      let left = leaves ms mark q u in
+      let room = room_is changes change (has_room ms changes mark q h left) in
+      subst (λ (cs : List WorldChange). length cs ≤ length (tell.remembered ms mark)) (sym room)
+      (subst (λ (ks : List Mark). length (changes ++ change ∷ []) ≤ length ks) (sym (told_room ms mark left.room))
+      (longer (length-append changes (change ∷ [])) (length-append ms (mark ∷ [])) (h.most q left.before)));
+}
+  where
+    apart : (q : Question NodeRef) → Leaves ms mark q → ((any_marks changes q ≡ true) ⊎ (marks change q ≡ true)) → ⊥
+    apart q left (inl e) = true_false (sym (h.marked q e) ∙ left.before)
+    apart q left (inr e) = true_false (sym (tells q e) ∙ left.alone)
+
+    longer : {a b m n : ℕ} → a ≡ m + 1 → b ≡ n + 1 → m ≤ n → a ≤ b
+    longer e f k = omega (arith, e, f, k)
+
+-- where anything may be another, whatever changed
+all_marked : (ms : List Mark) (q : Question NodeRef) → are_marked (tell.remembered ms tell.Anything) q ≡ false → ⊥
+all_marked ms q u = true_false (leaves ms tell.Anything q u).alone
+
+pub anything_told : (ms : List Mark) (changes : List WorldChange) → AreToldBy (tell.remembered ms tell.Anything) changes
+anything_told ms changes = record {
+  marked = λ q any. true_unless (are_marked (tell.remembered ms tell.Anything) q) (all_marked ms q);
+  most = λ q u. absurd (all_marked ms q u);
+}
+
+pub anything_where : (ms : List Mark) (mark : Mark) (changes : List WorldChange) → mark ≡ tell.Anything → AreToldBy (tell.remembered ms mark) changes
+anything_where ms mark changes e = subst (λ (m : Mark). AreToldBy (tell.remembered ms m) changes) (sym e) (anything_told ms changes)
+
+-- where nothing changes
+pub same_told : (ms : List Mark) (changes next : List WorldChange) → next ≡ changes → AreToldBy ms changes → AreToldBy ms next
+same_told ms changes next e h = subst (λ (cs : List WorldChange). AreToldBy ms cs) (sym e) h
+
+-- ---- An edit of the source, and a move in it
+
+edit_tells : (change : Change) (asking : List (Option Expanded)) → TellsOf (tell.SourceEdited change) (world.SourceEdited change asking)
+edit_tells change asking q h = (and_parts (is_touched change q) (not (spared asking change q)) h).0
+
+move_tells : (change : MoveChange) (asking : List (Option Expanded)) → TellsOf (tell.SourceMoved change) (world.SourceMoved change asking)
+move_tells change asking q h = (and_parts (move_touched change q) (not (spared_by_move asking change q)) h).0
+
+-- the change of an edit is told as it is seen
+pub edit_told : Leading → KeepingSpace → (ms : List Mark) (rules : List SpaceRule) (edit : spec.Edit) (old new : Document ℕ) → IsFaultless old
+    → IsNumbered old → IsEdit edit old new → (first change : Change) → change_of edit old new ≡ Some first
+    → (Leads (seen_change first (seen rules old) (seen rules new)) (seen rules old) (seen rules new)
+    → change ≡ seen_change first (seen rules old) (seen rules new))
+    → (asking : List (Option Expanded)) (changes next : List WorldChange) → next ≡ since.remembered changes (world.SourceEdited change asking)
+    → AreToldBy ms changes → AreToldBy (tell.remembered ms (edit_marks (Some rules) edit old new)) next
+edit_told leading keeping ms rules edit old new faultless numbers q first change is seen_so asking changes next e h =
+    let same = seen_so (leads_so leading keeping rules edit old new q (sound_of old numbers faultless) first is) in
+    let mark : edit_marks (Some rules) edit old new ≡ tell.SourceEdited change
+    = ap (edited_so rules old new) is ∙ ap (λ (c : Change). tell.SourceEdited c) (sym same) in
+    subst (λ (cs : List WorldChange). AreToldBy (tell.remembered ms (edit_marks (Some rules) edit old new)) cs) (sym e)
+    (subst (λ (m : Mark). AreToldBy (tell.remembered ms m) (since.remembered changes (world.SourceEdited change asking))) (sym mark)
+    (told_and ms (tell.SourceEdited change) changes (world.SourceEdited change asking) (edit_tells change asking) h))
+
+pub move_told : (ms : List Mark) (is : Option MoveChange) (change : MoveChange) → Some change ≡ is
+    → (asking : List (Option Expanded)) (changes next : List WorldChange) → next ≡ since.remembered changes (world.SourceMoved change asking)
+    → AreToldBy ms changes → AreToldBy (tell.remembered ms (moved_so is)) next
+move_told ms is change e asking changes next f h =
+    subst (λ (cs : List WorldChange). AreToldBy (tell.remembered ms (moved_so is)) cs) (sym f)
+    (subst (λ (o : Option MoveChange). AreToldBy (tell.remembered ms (moved_so o)) (since.remembered changes (world.SourceMoved change asking))) e
+    (told_and ms (tell.SourceMoved change) changes (world.SourceMoved change asking) (move_tells change asking) h))
+
+pub no_move_told : (ms : List Mark) (is : Option MoveChange) (changes : List WorldChange) → None ≡ is
+    → AreToldBy (tell.remembered ms (moved_so is)) changes
+no_move_told ms is changes e =
+    subst (λ (o : Option MoveChange). AreToldBy (tell.remembered ms (moved_so o)) changes) e (anything_told ms changes)
+
+-- where all is seen it is the move that is told of; else anything
+pub move_where_all : (rules : SpaceRules) (path other : List ℕ) (old new : Document ℕ) → SeesAll rules
+    → move_marks (Some (space_rules_of rules).rules) path other old new ≡ move_marks (Some []) path other old new
+move_where_all rules path other old new e = ap (λ (rs : List SpaceRule). move_marks (Some rs) path other old new) e
+
+pub move_where_some : (rules : SpaceRules) (path other : List ℕ) (old new : Document ℕ) → (SeesAll rules → ⊥)
+    → move_marks (Some (space_rules_of rules).rules) path other old new ≡ tell.Anything
+move_where_some rules path other old new h = by (space_rules_of rules).rules h
+  where
+    by : (rs : List SpaceRule) → (rs ≡ [] → ⊥) → move_marks (Some rs) path other old new ≡ tell.Anything
+    by [] h = absurd (h refl)
+    by (r ∷ rs) h = refl
+
+-- ---- A change of modules
+
+style_tells : (units : List NodeRef) (asking : Option (List (Option Expanded))) → TellsOf tell.Restyled (world.ModulesChanged units asking)
+style_tells units asking (Step node axis test) h = absurd (cc)
+style_tells units asking (Text node) h = absurd (cc)
+style_tells units asking (Name node) h = absurd (cc)
+style_tells units asking (Place node) h = absurd (cc)
+style_tells units asking (Order nodes) h = absurd (cc)
+style_tells units asking (Key name value) h = refl
+style_tells units asking (Choice node mode candidates) h = refl
+style_tells units asking (Copy node) h = absurd (cc)
+style_tells units asking (UnitOf element) h = refl
+style_tells units asking (External name) h = absurd (cc)
+
+pub style_told : (ms : List Mark) (units : List NodeRef) (asking : Option (List (Option Expanded))) (changes next : List WorldChange)
+    → next ≡ since.remembered changes (world.ModulesChanged units asking) → AreToldBy ms changes → AreToldBy (tell.remembered ms tell.Restyled) next
+style_told ms units asking changes next e h =
+    same_told (tell.remembered ms tell.Restyled) (since.remembered changes (world.ModulesChanged units asking)) next e
+    (told_and ms tell.Restyled changes (world.ModulesChanged units asking) (style_tells units asking) h)
+
+-- nothing was known
+pub style_unknown : (known : Known) (sheet : plain.Sheet) → known ≡ None → StyleIs known (Ok sheet) (tell.Anything ∷ [])
+style_unknown known sheet e = subst (λ (k : Known). StyleIs k (Ok sheet) (tell.Anything ∷ [])) (sym e) refl
+
+-- the rules are as they were, or others
+pub style_same : (known : Known) (sheet : plain.Sheet) (old new : plain.SpaceRules) → known ≡ Some old.rules → new ≡ old → new ≡ sheet.space_rules
+    → StyleIs known (Ok sheet) (tell.Restyled ∷ [])
+style_same known sheet old new k same is =
+    subst (λ (k : Known). StyleIs k (Ok sheet) (tell.Restyled ∷ [])) (sym k) (inl (ap (λ (rs : plain.SpaceRules). rs.rules) (sym is ∙ same), refl))
+
+pub style_other : (known : Known) (sheet : plain.Sheet) (old new : plain.SpaceRules) → known ≡ Some old.rules → (new ≡ old → ⊥)
+    → new ≡ sheet.space_rules → StyleIs known (Ok sheet) (tell.Anything ∷ [])
+style_other known sheet old new k other is =
+    subst (λ (k : Known). StyleIs k (Ok sheet) (tell.Anything ∷ [])) (sym k)
+    (inr (λ same. other (is ∙ ap (λ (rs : List SpaceRule). record { rules = rs }) same), refl))
+
+-- the contents that are lifted bear on no rule for white space
+pub rules_with_items : (sheet : plain.Sheet) → (with_items sheet).space_rules ≡ sheet.space_rules
+rules_with_items sheet = by (is_liftable sheet)
+  where
+    by : (b : Bool) → (cond b (lifted sheet) sheet).space_rules ≡ sheet.space_rules
+    by true = refl
+    by false = refl
+
+-- of modules that are none, and of refused ones, nothing is told
+pub none_add : (modules : Modules) (known : Known) (compiled : Option Compiled) → compiled ≡ None → AreCompiled modules compiled
+    → AddsStyle modules (modules main_name) known []
+none_add modules known compiled e h = by (modules main_name) (subst (λ (c : Option Compiled). AreCompiledBy modules (modules main_name) c) e h.so)
+  where
+    by : (main : Option Plain) → AreCompiledBy modules main None → AddsStyle modules main known []
+    by None h = refl
+    by (Some main) h = absurd h
+
+pub refused_add : (modules : Modules) (known : Known) (compiled : Option Compiled) (why : StaticRefusal) → compiled ≡ Some (Refused why)
+    → AreCompiled modules compiled → AddsStyle modules (modules main_name) known []
+refused_add modules known compiled why e h = by (modules main_name) (subst (λ (c : Option Compiled). AreCompiledBy modules (modules main_name) c) e h.so)
+  where
+    by : (main : Option Plain) → AreCompiledBy modules main (Some (Refused why)) → AddsStyle modules main known []
+    by None h = absurd h
+    by (Some main) h = (h.result, h.is, subst (λ (r : Result plain.Sheet Refusal). StyleIs known r []) (sym h.holds) refl)
+
+-- the stylesheet that modules are, with these rules
+pub record Styles (modules : Modules) (rules : SpaceRules) : Type 0 where
+  pub sheet : plain.Sheet
+  pub rules_are : space_rules_of rules ≡ sheet.space_rules
+  pub adds : (known : Known) (style : List Mark) → StyleIs known (Ok sheet) style → AddsStyle modules (modules main_name) known style
+
+pub styles : (modules : Modules) (compiled : Option Compiled) (held : Held) (rules : SpaceRules) (method : Option (Method Expanded))
+    → compiled ≡ Some (Stylesheet held rules method) → AreCompiled modules compiled → Styles modules rules
+styles modules compiled held rules method e h =
+    let sheet = by (modules main_name) (subst (λ (c : Option Compiled). AreCompiledBy modules (modules main_name) c) e h.so) in
+    record { sheet = sheet.0; rules_are = sheet.1; adds = sheet.2 }
+  where
+    by : (main : Option Plain) → AreCompiledBy modules main (Some (Stylesheet held rules method))
+        → (sheet : plain.Sheet) × (space_rules_of rules ≡ sheet.space_rules)
+        × ((known : Known) (style : List Mark) → StyleIs known (Ok sheet) style → AddsStyle modules main known style)
+    by None h = absurd h
+    by (Some main) h = (
+      h.holds.0,
+      h.holds.3 ∙ rules_with_items h.holds.0,
+      λ known style is. (h.result, h.is, subst (λ (r : Result plain.Sheet Refusal). StyleIs known r style) (sym h.holds.1) is),
+    )
+
+-- ---- A parameter
+
+value_tells : (name : List ℕ) → TellsOf (tell.Given name) (world.ParameterGiven name)
+value_tells name (Step node axis test) h = absurd (cc)
+value_tells name (Text node) h = absurd (cc)
+value_tells name (Name node) h = absurd (cc)
+value_tells name (Place node) h = absurd (cc)
+value_tells name (Order nodes) h = absurd (cc)
+value_tells name (Key key value) h = absurd (cc)
+value_tells name (Choice node mode candidates) h = absurd (cc)
+value_tells name (Copy node) h = absurd (cc)
+value_tells name (UnitOf element) h = absurd (cc)
+value_tells name (External other) h = h
+
+pub value_told : (ms : List Mark) (name : List ℕ) (changes next : List WorldChange) → next ≡ since.remembered changes (world.ParameterGiven name)
+    → AreToldBy ms changes → AreToldBy (tell.remembered ms (tell.Given name)) next
+value_told ms name changes next e h =
+    same_told (tell.remembered ms (tell.Given name)) (since.remembered changes (world.ParameterGiven name)) next e
+    (told_and ms (tell.Given name) changes (world.ParameterGiven name) (value_tells name) h)
