@@ -8,5 +8,6 @@
 mod laws;
 
 pub use laws::{
-    no_more_is_run_than_there_is, what_is_kept_is_not_run_again, what_keeps_a_run_is_enough,
+    as_many_are_run_as_are_new, no_more_is_run_than_there_is, what_is_kept_is_not_run_again,
+    what_is_marked_is_asked, what_is_new_is_run, what_keeps_a_run_is_enough,
 };

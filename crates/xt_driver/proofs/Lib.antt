@@ -26,3 +26,4 @@ pub mod Finding
 pub mod Running
 pub mod Wholes
 pub mod Said
+pub mod Places

@@ -1,5 +1,5 @@
 -- What is counted while records are tried for a call.
-use Rattle.std.proofs.Common.{◌≡◌, ◌⊎◌, inl, inr, ℕ, zero, suc, ◌<◌, ◌≤◌, List, [], ◌∷◌, ◌++◌, map, Some, None, Result, Ok, Err, refl, sym}
+use Rattle.std.proofs.Common.{◌≡◌, ◌⊎◌, inl, inr, ℕ, zero, suc, ◌<◌, ◌≤◌, List, [], ◌∷◌, ◌++◌, length, map, Some, None, Result, Ok, Err, refl, sym}
 use Rattle.std.proofs.Common.{ap, subst, arith}
 use Rattle.std.specs.Prelude.{Box, IfOk}
 use Rattle.std.specs.declared.alloc.Global.{Global as Allocator}
@@ -19,14 +19,15 @@ use Rattle.spec_reuse.proofs.Within.{in_left, in_right, nested_of_run}
 use Rattle.spec_node.specs.declared.node_ref.NodeRef.{NodeRef}
 use Rattle.xt_record.specs.Asked.{Judges}
 use Rattle.xt_record.specs.Grown.{values_of}
-use Rattle.xt_record.specs.Search.{next_of, PassedOver, Stands, InKept, InLast}
+use Rattle.xt_record.specs.Search.{most, next_of, PassedOver, Stands, InKept, InLast}
 use Rattle.xt_record.specs.View.{kept_in, AsksHold, MayServe}
 use Rattle.xt_record.specs.declared.index.Index.{Index}
 use Rattle.xt_record.specs.declared.pool.Pool.{Pool}
 use Rattle.xt_record.specs.declared.record.Record.{Record}
 use Rattle.xt_record.specs.declared.reuse.Found.{Found}
 use Rattle.xt_record.specs.declared.reuse.Reuse.{Reuse}
-use Rattle.xt_record.proofs.Standing.{stands_above, stands_once, judged_on}
+use Rattle.xt_record.proofs.Standing.{judged_on}
+use Rattle.xt_driver.proofs.Places.{stands_above, stands_once}
 use Rattle.xt_text.specs.declared.memory.Memory.{Memory}
 use Rattle.xt_driver.specs.declared.drive.Served.{Served}
 use Rattle.xt_driver.specs.declared.drive.Served.TheVariants as served
@@ -98,10 +99,11 @@ pub record Tried (s : Setting NodeRef) (i : Instantiation NodeRef) (a b : Hand) 
   pub counted : CountedFront s i.past.values (nested_in s i) a b
   pub passed : (at : ℕ) (r : Record) → Stands a.reuse at r → at ≤ from → Serves s i (kept_in r) → ledger.AsksHold s.ask (kept_in r).trace → ⊥
 
-pub tried_begun : (s : Setting NodeRef) (i : Instantiation NodeRef) (a : Hand) → IsReady s i.past.values a → Tried s i a a 0
-tried_begun s i a ready = record {
+pub tried_begun : (s : Setting NodeRef) (i : Instantiation NodeRef) (a : Hand) → length a.reuse.last.now.records.items ≤ most
+    → IsReady s i.past.values a → Tried s i a a 0
+tried_begun s i a few ready = record {
   counted = front_none s i.past.values (nested_in s i) a ready;
-  passed = λ at r h low. absurd (let above = stands_above a.reuse at r h in omega (arith, above, low));
+  passed = λ at r h low. absurd (let above = stands_above a.reuse few at r h in omega (arith, above, low));
 }
 
 split : (m n : ℕ) → (m ≤ n) ⊎ (n < m)
@@ -126,10 +128,10 @@ front_judged s i a b reuse from j t =
     front_on s i.past.values (nested_in s i) a b reuse t.counted j.last (judges_same b.reuse reuse j) j.ran
 
 pub tried_next : (s : Setting NodeRef) (i : Instantiation NodeRef) (a b after : Hand) (reuse : Reuse) (from : ℕ) (f : Found)
-    → Judges b.reuse reuse → PassedOver s.ask i.call i.below b.reuse from (Some f) → Stands b.reuse f.next f.record.value
+    → length b.reuse.last.now.records.items ≤ most → Judges b.reuse reuse → PassedOver s.ask i.call i.below b.reuse from (Some f) → Stands b.reuse f.next f.record.value
     → IsIn i (instantiations s) → Tried s i a b from
     → CountsLost s i (kept_in f.record.value) lost.Nothing (record { reuse = reuse; entries = b.entries }) after → Tried s i a after f.next
-tried_next s i a b after reuse from f j passed stands h t x = record {
+tried_next s i a b after reuse from f few j passed stands h t x = record {
   counted = fronts s i.past.values (nested_in s i) a (judged_hand reuse b) after (nested_of_run s i h) (front_judged s i a b reuse from j t) x.0;
   passed = λ at r st low serves asks. none at r st low serves asks (split at from) (split f.next at);
 }
@@ -142,7 +144,7 @@ tried_next s i a b after reuse from f j passed stands h t x = record {
     none at r st low serves asks (inr e) (inl k) =
         let same : f.next ≡ at = omega (arith, low, k) in
         let S : ℕ → Type 0 = λ n. Stands b.reuse n f.record.value in
-        let one = stands_once b.reuse at r f.record.value (t.counted.stands at r st) (subst S same stands) in
+        let one = stands_once b.reuse few at r f.record.value (t.counted.stands at r st) (subst S same stands) in
         let P : Record → Type 0 = λ y. Serves s i (kept_in y) in
         x.1 (subst P one serves)
 

@@ -13,7 +13,7 @@ use Rattle.spec_cost.specs.Marking.{Known, KnowsOf, Mark, and_marks, known_by, m
 use Rattle.spec_cost.specs.Numbers.{NumberedDocuments}
 use Rattle.xt_syntax.specs.SheetView.{space_rules_of}
 use Rattle.xt_compile.specs.View.{refusal_in}
-use Rattle.spec_touch.specs.Marks.{WorldChange}
+use Rattle.spec_touch.specs.Marks.{WorldChange, Anything}
 use Rattle.xt_text.specs.declared.memory.Memory.{Memory}
 use Rattle.xt_touch.specs.View.{since_of}
 use Rattle.xt_touch.specs.declared.since.Since.{Since}
@@ -92,19 +92,19 @@ known_after change held modules are =
 -- ---- What is told of a source
 
 pub none_told : (known : Known) (origin : Origin) (before : Option (Document ℕ)) → before ≡ None → (document : Document ℕ) (told : List Mark)
-    (changes : List WorldChange) → AreToldBy (and_marks told (source_marks known origin before document)) changes
-none_told known origin before none document told changes =
+    (changes : List WorldChange) → changes ≡ Anything ∷ [] → AreToldBy (and_marks told (source_marks known origin before document)) changes
+none_told known origin before none document told changes is =
     subst (λ (b : Option (Document ℕ)). AreToldBy (and_marks told (source_marks known origin b document)) changes) (sym none) (by origin)
   where
     by : (origin : Origin) → AreToldBy (and_marks told (source_marks known origin None document)) changes
-    by Given = anything_told told changes
-    by (Edited edit) = anything_told told changes
-    by (Moved path other) = anything_told told changes
+    by Given = anything_told told changes is
+    by (Edited edit) = anything_told told changes is
+    by (Moved path other) = anything_told told changes is
 
 pub given_told : (known : Known) (origin : Origin) → origin ≡ Given → (before : Option (Document ℕ)) (document : Document ℕ) (told : List Mark)
-    (changes : List WorldChange) → AreToldBy (and_marks told (source_marks known origin before document)) changes
-given_told known origin given before document told changes =
-    subst (λ (o : Origin). AreToldBy (and_marks told (source_marks known o before document)) changes) (sym given) (anything_told told changes)
+    (changes : List WorldChange) → changes ≡ Anything ∷ [] → AreToldBy (and_marks told (source_marks known origin before document)) changes
+given_told known origin given before document told changes is =
+    subst (λ (o : Origin). AreToldBy (and_marks told (source_marks known o before document)) changes) (sym given) (anything_told told changes is)
 
 -- with what is known of, how it was made, and what it was
 pub source_told : {known other : Known} {origin of : Origin} {before : Option (Document ℕ)} {old : Document ℕ} → other ≡ known → origin ≡ of

@@ -18,3 +18,4 @@ pub mod Left
 pub mod Making
 pub mod Batches
 pub mod Paying
+pub mod Least

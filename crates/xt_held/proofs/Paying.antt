@@ -38,7 +38,7 @@ use Rattle.xt_world.specs.declared.stylesheet.Stylesheet as world
 use Rattle.xt_driver.specs.Counted.{kept_at}
 use Rattle.xt_held.specs.Complete.{KeepsFor, KeepsWhere}
 use Rattle.xt_held.specs.Cost.{Costs, CostsRun, kept_among, setting_on, setting_seen}
-use Rattle.xt_held.specs.Marked.{AreToldBy, Tells, known_in, known_of, left_of}
+use Rattle.xt_held.specs.Marked.{AreToldBy, IsLeastOf, Tells, known_in, known_of, left_of}
 use Rattle.xt_held.specs.RunView.{last_known}
 use Rattle.xt_held.specs.OutcomeView.{no_counts}
 use Rattle.xt_held.specs.Called.{AreCalled, IsCalled, IsCalledIn, numbered_modules}
@@ -148,18 +148,25 @@ marks_by s None marks (Some left) h = refl
 marks_by s (Some why) marks None h = refl
 marks_by s (Some why) marks (Some left) h = absurd h
 
--- no more questions of the records were asked again than these marks
-abbrev AsksOf : Kept → List Mark → Counts → Type 0
-AsksOf kept marks counts = counts.asked ≤ marked_among marks (kept_among kept.records)
+-- no more questions of the records were asked again than these marks, and no less where there is a result
+abbrev AsksOf : Kept → Option Kept → List Mark → Counts → Type 0
+AsksOf kept new marks counts = (counts.asked ≤ marked_among marks (kept_among kept.records)) × IfSome new (λ left. IsLeastOf marks kept.records counts)
+
+least_by : (P : Type 0) (s : Setting NodeRef) (refusal : Option Refusal) (new : Option Kept) → KeepsFor refusal s new → IfSome new (λ left. P)
+    → refusal ≡ None → P
+least_by P s None None h least e = absurd h
+least_by P s None (Some left) h least e = least
+least_by P s (Some why) new h least e = absurd (cc)
 
 cost_so : (s : Setting NodeRef) (kept : Kept) (new : Option Kept) (counts : Counts) (marks : List Mark) → Costs s kept.records counts
-    → AsksOf kept marks counts → KeepsFor (run_of s).refusal s new
+    → AsksOf kept new marks counts → KeepsFor (run_of s).refusal s new
     → IsCost s (kept_among kept.records) marks counts.ran counts.asked (kept_among (unwrap_or new kept).records) (left_of new marks)
 cost_so s kept new counts marks cost asked keeps = record {
   list = cost.list;
   counted = cost.counted;
   told = cost.ran;
-  again = asked;
+  again = asked.0;
+  least = least_by (IsLeastOf marks kept.records counts) s (run_of s).refusal new keeps asked.1;
   keeps = keeps_by s (run_of s).refusal kept new keeps;
   leaves = marks_by s (run_of s).refusal marks new keeps;
 }
@@ -186,7 +193,7 @@ called_so called sheet held rules parameters source is same =
 costs_so : (called : Place → NodeRef) (modules : Modules) (parameters : Parameters) (main : Option Plain) (source : Option (Document ℕ))
     (compiled : Option Compiled) → AreCompiledBy modules main compiled → IsCalledIn called modules compiled
     → (kept : Kept) (new : Option Kept) (counts : Counts) (marks : List Mark) → CostsRun compiled parameters source kept.records counts
-    → AsksOf kept marks counts → KeepsWhere compiled parameters source new
+    → AsksOf kept new marks counts → KeepsWhere compiled parameters source new
     → CostsOn called modules parameters main source (kept_among kept.records) marks counts.ran counts.asked (kept_among (unwrap_or new kept).records)
     (left_of new marks)
 costs_so called modules parameters None source None are is kept new counts marks cost asked keeps = free_so kept new counts marks cost keeps
@@ -306,7 +313,7 @@ module _ (change : Change) (next : NodeId) (old new : Held) (marks : List Mark) 
       let present : documents ≡ next_present ready old
       = sym (ap (λ (batch : Option Batch). (present_by batch (next_basis ready old)).documents) told.closed) in
       let costs = costs_so chosen.called documents.modules documents.parameters (documents.modules main_name) (next_source change old) compiled
-      told.compiled.so chosen.is old.last.kept came.kept came.counts asks.all told.cost asks.asked.again told.keeps in
+      told.compiled.so chosen.is old.last.kept came.kept came.counts asks.all told.cost (asks.asked.again, asks.asked.least) told.keeps in
       let CostsOf : Documents → List (Trail NodeRef) → Type 0
       = λ ds records. CostsOn chosen.called ds.modules ds.parameters (ds.modules main_name) (next_source change old) records asks.all came.counts.ran
       came.counts.asked (kept_among left.records) (left_of came.kept asks.all) in

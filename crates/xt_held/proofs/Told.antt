@@ -5,7 +5,7 @@
 --     edit_told, move_told, stylesheet_told, value_told
 use Rattle.std.proofs.Common.{◌≡◌, ◌≤◌, ◌⊎◌, ◌+◌, ℕ, inl, inr, Bool, true, false, cond, List, [], ◌∷◌, ◌++◌, Option, None, Some, Result, Ok}
 use Rattle.std.proofs.Common.{arith, refl, sym, ap, subst, ◌∙◌}
-use Rattle.std.specs.Prelude.{◌||◌, length, nat_lt, not}
+use Rattle.std.specs.Prelude.{◌&&◌, ◌||◌, length, nat_lt, not}
 use Rattle.std.proofs.lemmas.Bool.{and_parts, lt-ltb, ltb-true}
 use Rattle.std.proofs.lemmas.List.{length-append}
 use Rattle.std.proofs.lemmas.List.Folds.{list_any-append}
@@ -13,7 +13,7 @@ use Rattle.spec_document.specs.Forest.{Document, Plain}
 use Rattle.spec_document.specs.Name.{Expanded}
 use Rattle.spec_edit.specs.Edit as spec
 use Rattle.spec_change.specs.Change.{Change, IsEdit, change_of}
-use Rattle.spec_move.specs.Changed.{MoveChange}
+use Rattle.spec_move.specs.Changed.{MoveChange, in_order, between}
 use Rattle.spec_seen.specs.Seen.{seen}
 use Rattle.spec_stylesheet.specs.Sheet as plain
 use Rattle.spec_stylesheet.specs.Sheet.{SpaceRule}
@@ -40,7 +40,7 @@ use Rattle.xt_syntax.specs.SheetView.{space_rules_of}
 use Rattle.xt_syntax.specs.declared.space_rules.SpaceRules.{SpaceRules}
 use Rattle.xt_compile.specs.declared.fault.StaticRefusal.{StaticRefusal}
 use Rattle.xt_world.specs.declared.stylesheet.Stylesheet.{Stylesheet as Held}
-use Rattle.xt_held.specs.Marked.{AreToldBy}
+use Rattle.xt_held.specs.Marked.{AreHeeded, AreToldBy, MarkAll}
 use Rattle.xt_held.specs.RunView.{IsFaultless, SeesAll}
 use Rattle.xt_held.specs.StylesheetView.{AreCompiled, AreCompiledBy}
 use Rattle.xt_held.specs.declared.stylesheet.Compiled.{Compiled}
@@ -52,6 +52,10 @@ use Rattle.xt_held.proofs.Sparing.{KeepingSpace, Leading, leads_so, sound_of}
 -- each question that the change marks is marked by what is told of it
 abbrev pub TellsOf : Mark → WorldChange → Type 0
 TellsOf mark change = (q : Question NodeRef) → marks change q ≡ true → is_marked mark q ≡ true
+
+-- and each that is asked of the source or of a parameter alone, and that what is told of it marks, is marked by it
+abbrev pub HeedsOf : Mark → WorldChange → Type 0
+HeedsOf mark change = (q : Question NodeRef) → tell.by_modules q ≡ false → is_marked mark q ≡ true → marks change q ≡ true
 
 true_unless : (b : Bool) → (b ≡ false → ⊥) → b ≡ true
 true_unless true h = refl
@@ -104,9 +108,95 @@ has_room ms changes mark q h left =
     let less = ltb-true (length ms) 256 left.room in
     lt-ltb (length changes) 256 (omega (arith, most, less))
 
-pub told_and : (ms : List Mark) (mark : Mark) (changes : List WorldChange) (change : WorldChange) → TellsOf mark change → AreToldBy ms changes
-    → AreToldBy (tell.remembered ms mark) (since.remembered changes change)
-told_and ms mark changes change tells h = record {
+-- ---- What is heeded
+
+-- where there is no room, anything may be another
+full_is : (changes : List WorldChange) (change : WorldChange) → nat_lt (length changes) since.most_remembered ≡ false
+    → since.remembered changes change ≡ world.Anything ∷ []
+full_is changes change e = ap (λ (b : Bool). cond b (changes ++ change ∷ []) (world.Anything ∷ [])) e
+
+or_true : (b c : Bool) → b ≡ true → (b || c) ≡ true
+or_true true c e = refl
+or_true false c e = absurd (cc)
+
+true_or_so : (b c : Bool) → c ≡ true → (b || c) ≡ true
+true_or_so true c e = refl
+true_or_so false c e = e
+
+all_is : (changes : List WorldChange) → changes ≡ world.Anything ∷ [] → MarkAll changes
+all_is changes e = λ q. ap (λ (cs : List WorldChange). any_marks cs q) e
+
+-- more changes mark what these do, and one that is marked by the last is
+still_marks : (changes : List WorldChange) (change : WorldChange) (q : Question NodeRef) → any_marks changes q ≡ true
+    → any_marks (changes ++ change ∷ []) q ≡ true
+still_marks changes change q e =
+    list_any-append (λ c. marks c q) changes (change ∷ []) ∙ or_true (any_marks changes q) (marks change q || false) e
+
+last_marks : (changes : List WorldChange) (change : WorldChange) (q : Question NodeRef) → marks change q ≡ true
+    → any_marks (changes ++ change ∷ []) q ≡ true
+last_marks changes change q e =
+    list_any-append (λ c. marks c q) changes (change ∷ [])
+    ∙ true_or_so (any_marks changes q) (marks change q || false) (or_true (marks change q) false e)
+
+module _ (ms : List Mark) (mark : Mark) (changes : List WorldChange) (change : WorldChange) (heeds : HeedsOf mark change) where
+  abbrev Heeded : Type 0
+  Heeded = MarkAll (since.remembered changes change) ⊎ AreHeeded (tell.remembered ms mark) (since.remembered changes change)
+
+  full : nat_lt (length changes) since.most_remembered ≡ false → Heeded
+  full e = inl (all_is (since.remembered changes change) (full_is changes change e))
+
+  more_all : MarkAll changes → Heeded
+  more_all h = by (nat_lt (length changes) since.most_remembered) refl
+    where
+      by : (b : Bool) → nat_lt (length changes) since.most_remembered ≡ b → Heeded
+      by true e = inl (subst MarkAll (sym (room_is changes change e)) (λ q. still_marks changes change q (h q)))
+      by false e = full e
+
+  either_told : (q : Question NodeRef) → are_marked (ms ++ mark ∷ []) q ≡ true → (are_marked ms q ≡ true) ⊎ (is_marked mark q ≡ true)
+  either_told q h =
+      by (or_cases (are_marked ms q) (is_marked mark q || false) (sym (list_any-append (λ m. is_marked m q) ms (mark ∷ [])) ∙ h))
+    where
+      alone : (b : Bool) → (b || false) ≡ true → b ≡ true
+      alone true e = refl
+      alone false e = e
+
+      by : ((are_marked ms q ≡ true) ⊎ ((is_marked mark q || false) ≡ true)) → (are_marked ms q ≡ true) ⊎ (is_marked mark q ≡ true)
+      by (inl e) = inl e
+      by (inr e) = inr (alone (is_marked mark q) e)
+
+  in_step : AreHeeded ms changes → nat_lt (length changes) since.most_remembered ≡ true → nat_lt (length ms) tell.most_remembered ≡ true
+  in_step h e = sym (ap (λ (n : ℕ). nat_lt n 256) h.count) ∙ e
+
+  more_heeded : AreHeeded ms changes → Heeded
+  more_heeded h = by (nat_lt (length changes) since.most_remembered) refl
+    where
+      heeded : AreHeeded (ms ++ mark ∷ []) (changes ++ change ∷ [])
+      heeded = record {
+        count = both (length-append changes (change ∷ [])) (length-append ms (mark ∷ [])) h.count;
+        marked = λ q alone is. so q alone (either_told q is);
+      }
+        where
+          both : {a b m n : ℕ} → a ≡ m + 1 → b ≡ n + 1 → m ≡ n → a ≡ b
+          both e f k = omega (arith, e, f, k)
+
+          so : (q : Question NodeRef) → tell.by_modules q ≡ false → ((are_marked ms q ≡ true) ⊎ (is_marked mark q ≡ true))
+              → any_marks (changes ++ change ∷ []) q ≡ true
+          so q alone (inl e) = still_marks changes change q (h.marked q alone e)
+          so q alone (inr e) = last_marks changes change q (heeds q alone e)
+
+      by : (b : Bool) → nat_lt (length changes) since.most_remembered ≡ b → Heeded
+      by true e =
+          inr (subst (λ (cs : List WorldChange). AreHeeded (tell.remembered ms mark) cs) (sym (room_is changes change e))
+          (subst (λ (ks : List Mark). AreHeeded ks (changes ++ change ∷ [])) (sym (told_room ms mark (in_step h e))) heeded))
+      by false e = full e
+
+  heeded_and : (MarkAll changes ⊎ AreHeeded ms changes) → Heeded
+  heeded_and (inl h) = more_all h
+  heeded_and (inr h) = more_heeded h
+
+pub told_and : (ms : List Mark) (mark : Mark) (changes : List WorldChange) (change : WorldChange) → TellsOf mark change → HeedsOf mark change
+    → AreToldBy ms changes → AreToldBy (tell.remembered ms mark) (since.remembered changes change)
+told_and ms mark changes change tells heeds h = record {
   marked = λ q any. true_unless (are_marked (tell.remembered ms mark) q) (λ u.
       let left = leaves ms mark q u in
       let room = room_is changes change (has_room ms changes mark q h left) in
@@ -117,6 +207,7 @@ told_and ms mark changes change tells h = record {
       subst (λ (cs : List WorldChange). length cs ≤ length (tell.remembered ms mark)) (sym room)
       (subst (λ (ks : List Mark). length (changes ++ change ∷ []) ≤ length ks) (sym (told_room ms mark left.room))
       (longer (length-append changes (change ∷ [])) (length-append ms (mark ∷ [])) (h.most q left.before)));
+  heeded = heeded_and ms mark changes change heeds h.heeded;
 }
   where
     apart : (q : Question NodeRef) → Leaves ms mark q → ((any_marks changes q ≡ true) ⊎ (marks change q ≡ true)) → ⊥
@@ -130,14 +221,16 @@ told_and ms mark changes change tells h = record {
 all_marked : (ms : List Mark) (q : Question NodeRef) → are_marked (tell.remembered ms tell.Anything) q ≡ false → ⊥
 all_marked ms q u = true_false (leaves ms tell.Anything q u).alone
 
-pub anything_told : (ms : List Mark) (changes : List WorldChange) → AreToldBy (tell.remembered ms tell.Anything) changes
-anything_told ms changes = record {
+pub anything_told : (ms : List Mark) (changes : List WorldChange) → changes ≡ world.Anything ∷ [] → AreToldBy (tell.remembered ms tell.Anything) changes
+anything_told ms changes is = record {
   marked = λ q any. true_unless (are_marked (tell.remembered ms tell.Anything) q) (all_marked ms q);
   most = λ q u. absurd (all_marked ms q u);
+  heeded = inl (all_is changes is);
 }
 
-pub anything_where : (ms : List Mark) (mark : Mark) (changes : List WorldChange) → mark ≡ tell.Anything → AreToldBy (tell.remembered ms mark) changes
-anything_where ms mark changes e = subst (λ (m : Mark). AreToldBy (tell.remembered ms m) changes) (sym e) (anything_told ms changes)
+pub anything_where : (ms : List Mark) (mark : Mark) (changes : List WorldChange) → changes ≡ world.Anything ∷ [] → mark ≡ tell.Anything
+    → AreToldBy (tell.remembered ms mark) changes
+anything_where ms mark changes is e = subst (λ (m : Mark). AreToldBy (tell.remembered ms m) changes) (sym e) (anything_told ms changes is)
 
 -- where nothing changes
 pub same_told : (ms : List Mark) (changes next : List WorldChange) → next ≡ changes → AreToldBy ms changes → AreToldBy ms next
@@ -147,6 +240,38 @@ same_told ms changes next e h = subst (λ (cs : List WorldChange). AreToldBy ms 
 
 edit_tells : (change : Change) (asking : List (Option Expanded)) → TellsOf (tell.SourceEdited change) (world.SourceEdited change asking)
 edit_tells change asking q h = (and_parts (is_touched change q) (not (spared asking change q)) h).0
+
+-- no other question is spared than the choice of a rule
+unspared : (b c : Bool) → c ≡ false → b ≡ true → (b && not c) ≡ true
+unspared b c e h = ap (λ (x : Bool). b && not x) e ∙ by b h
+  where
+    by : (b : Bool) → b ≡ true → (b && true) ≡ true
+    by true h = refl
+    by false h = h
+
+spares_choices : (change : Change) (asking : List (Option Expanded)) (q : Question NodeRef) → tell.by_modules q ≡ false → spared asking change q ≡ false
+spares_choices change asking (Step node axis test) alone = refl
+spares_choices change asking (Text node) alone = refl
+spares_choices change asking (Name node) alone = refl
+spares_choices change asking (Place node) alone = refl
+spares_choices change asking (Order nodes) alone = refl
+spares_choices change asking (Key name value) alone = absurd (cc)
+spares_choices change asking (Choice node mode candidates) alone = absurd (cc)
+spares_choices change asking (Copy node) alone = refl
+spares_choices change asking (UnitOf element) alone = absurd (cc)
+spares_choices change asking (External name) alone = refl
+
+edit_heeds : (change : Change) (asking : List (Option Expanded)) → HeedsOf (tell.SourceEdited change) (world.SourceEdited change asking)
+edit_heeds change asking q alone h = unspared (is_touched change q) (spared asking change q) (spares_choices change asking q alone) h
+
+moves_spare_choices : (change : MoveChange) (asking : List (Option Expanded)) (q : Question NodeRef) → tell.by_modules q ≡ false
+    → spared_by_move asking change q ≡ false
+moves_spare_choices (in_order change) asking q alone = spares_choices change asking q alone
+moves_spare_choices (between left entered) asking q alone =
+    ap (λ (b : Bool). b && spared asking entered q) (spares_choices left asking q alone)
+
+move_heeds : (change : MoveChange) (asking : List (Option Expanded)) → HeedsOf (tell.SourceMoved change) (world.SourceMoved change asking)
+move_heeds change asking q alone h = unspared (move_touched change q) (spared_by_move asking change q) (moves_spare_choices change asking q alone) h
 
 move_tells : (change : MoveChange) (asking : List (Option Expanded)) → TellsOf (tell.SourceMoved change) (world.SourceMoved change asking)
 move_tells change asking q h = (and_parts (move_touched change q) (not (spared_by_move asking change q)) h).0
@@ -164,7 +289,7 @@ edit_told leading keeping ms rules edit old new faultless numbers q first change
     = ap (edited_so rules old new) is ∙ ap (λ (c : Change). tell.SourceEdited c) (sym same) in
     subst (λ (cs : List WorldChange). AreToldBy (tell.remembered ms (edit_marks (Some rules) edit old new)) cs) (sym e)
     (subst (λ (m : Mark). AreToldBy (tell.remembered ms m) (since.remembered changes (world.SourceEdited change asking))) (sym mark)
-    (told_and ms (tell.SourceEdited change) changes (world.SourceEdited change asking) (edit_tells change asking) h))
+    (told_and ms (tell.SourceEdited change) changes (world.SourceEdited change asking) (edit_tells change asking) (edit_heeds change asking) h))
 
 pub move_told : (ms : List Mark) (is : Option MoveChange) (change : MoveChange) → Some change ≡ is
     → (asking : List (Option Expanded)) (changes next : List WorldChange) → next ≡ since.remembered changes (world.SourceMoved change asking)
@@ -172,12 +297,12 @@ pub move_told : (ms : List Mark) (is : Option MoveChange) (change : MoveChange) 
 move_told ms is change e asking changes next f h =
     subst (λ (cs : List WorldChange). AreToldBy (tell.remembered ms (moved_so is)) cs) (sym f)
     (subst (λ (o : Option MoveChange). AreToldBy (tell.remembered ms (moved_so o)) (since.remembered changes (world.SourceMoved change asking))) e
-    (told_and ms (tell.SourceMoved change) changes (world.SourceMoved change asking) (move_tells change asking) h))
+    (told_and ms (tell.SourceMoved change) changes (world.SourceMoved change asking) (move_tells change asking) (move_heeds change asking) h))
 
-pub no_move_told : (ms : List Mark) (is : Option MoveChange) (changes : List WorldChange) → None ≡ is
+pub no_move_told : (ms : List Mark) (is : Option MoveChange) (changes : List WorldChange) → changes ≡ world.Anything ∷ [] → None ≡ is
     → AreToldBy (tell.remembered ms (moved_so is)) changes
-no_move_told ms is changes e =
-    subst (λ (o : Option MoveChange). AreToldBy (tell.remembered ms (moved_so o)) changes) e (anything_told ms changes)
+no_move_told ms is changes all e =
+    subst (λ (o : Option MoveChange). AreToldBy (tell.remembered ms (moved_so o)) changes) e (anything_told ms changes all)
 
 -- where all is seen it is the move that is told of; else anything
 pub move_where_all : (rules : SpaceRules) (path other : List ℕ) (old new : Document ℕ) → SeesAll rules
@@ -206,11 +331,14 @@ style_tells units asking (Copy node) h = absurd (cc)
 style_tells units asking (UnitOf element) h = refl
 style_tells units asking (External name) h = absurd (cc)
 
+style_heeds : (units : List NodeRef) (asking : Option (List (Option Expanded))) → HeedsOf tell.Restyled (world.ModulesChanged units asking)
+style_heeds units asking q alone h = absurd (true_false (sym h ∙ alone))
+
 pub style_told : (ms : List Mark) (units : List NodeRef) (asking : Option (List (Option Expanded))) (changes next : List WorldChange)
     → next ≡ since.remembered changes (world.ModulesChanged units asking) → AreToldBy ms changes → AreToldBy (tell.remembered ms tell.Restyled) next
 style_told ms units asking changes next e h =
     same_told (tell.remembered ms tell.Restyled) (since.remembered changes (world.ModulesChanged units asking)) next e
-    (told_and ms tell.Restyled changes (world.ModulesChanged units asking) (style_tells units asking) h)
+    (told_and ms tell.Restyled changes (world.ModulesChanged units asking) (style_tells units asking) (style_heeds units asking) h)
 
 -- nothing was known
 pub style_unknown : (known : Known) (sheet : plain.Sheet) → known ≡ None → StyleIs known (Ok sheet) (tell.Anything ∷ [])
@@ -289,8 +417,20 @@ value_tells name (Copy node) h = absurd (cc)
 value_tells name (UnitOf element) h = absurd (cc)
 value_tells name (External other) h = h
 
+value_heeds : (name : List ℕ) → HeedsOf (tell.Given name) (world.ParameterGiven name)
+value_heeds name (Step node axis test) alone h = absurd (cc)
+value_heeds name (Text node) alone h = absurd (cc)
+value_heeds name (Name node) alone h = absurd (cc)
+value_heeds name (Place node) alone h = absurd (cc)
+value_heeds name (Order nodes) alone h = absurd (cc)
+value_heeds name (Key key value) alone h = absurd (cc)
+value_heeds name (Choice node mode candidates) alone h = absurd (cc)
+value_heeds name (Copy node) alone h = absurd (cc)
+value_heeds name (UnitOf element) alone h = absurd (cc)
+value_heeds name (External other) alone h = h
+
 pub value_told : (ms : List Mark) (name : List ℕ) (changes next : List WorldChange) → next ≡ since.remembered changes (world.ParameterGiven name)
     → AreToldBy ms changes → AreToldBy (tell.remembered ms (tell.Given name)) next
 value_told ms name changes next e h =
     same_told (tell.remembered ms (tell.Given name)) (since.remembered changes (world.ParameterGiven name)) next e
-    (told_and ms (tell.Given name) changes (world.ParameterGiven name) (value_tells name) h)
+    (told_and ms (tell.Given name) changes (world.ParameterGiven name) (value_tells name) (value_heeds name) h)

@@ -1,23 +1,27 @@
 -- What changes mark, by what is told of them, and what a run asks again by that.
---     AreToldBy     changes mark no more than what is told of them
+--     AreToldBy     changes mark no more than what is told of them, and what is told of the source and of parameters alone
 --     source_marks  what is told of a source that is given, edited, or in which a node was moved
+--     AsksLeast     what it says of changes that nothing was run and nothing asked again
 --     IsAskedBy     what a run asked again, and what is told of after it
 --     Tells         what is told of a change that is ready
-use Rattle.std.specs.Prelude.{ℕ, ◌≡◌, ◌≤◌, Bool, true, false, List, [], ◌∷◌, length, map, ◌||◌, Option, None, Some}
+use Rattle.std.specs.Prelude.{ℕ, ◌≡◌, ◌⊎◌, ◌≤◌, Bool, true, false, List, [], ◌∷◌, length, map, ◌||◌, Option, None, Some, IfSome}
 use Rattle.spec_document.specs.Forest.{Document}
 use Rattle.spec_meaning.specs.Question.{Question}
 use Rattle.spec_node.specs.declared.node_ref.NodeRef.{NodeRef}
-use Rattle.spec_cost.specs.Marking.{Known, Mark, Anything, and_marks, are_marked, edit_marks, marked_among, marks_between, move_marks}
+use Rattle.spec_cost.specs.Marking.{Known, Mark, Anything, and_marks, are_marked, by_modules, edit_marks, marked_among, marks_between, move_marks}
 use Rattle.spec_cost.specs.Numbers.{NumberedDocuments}
+use Rattle.spec_cost.specs.Paying as paying
 use Rattle.spec_cost.specs.Paying.{MarksFor}
 use Rattle.spec_touch.specs.Marks.{WorldChange, any_marks}
 use Rattle.xt_edit.specs.View.{edit_of}
 use Rattle.xt_syntax.specs.SheetView.{space_rules_of}
 use Rattle.xt_touch.specs.View.{since_of}
+use Rattle.xt_record.specs.Asked.{NoneMarkedAmong}
 use Rattle.xt_record.specs.declared.pool.Pool.{Pool}
 use Rattle.xt_driver.specs.Counted.{kept_at}
 use Rattle.xt_held.specs.RunView.{last_known}
 use Rattle.xt_held.specs.View.{is_edited_by, is_of_module, next_documents}
+use Rattle.xt_held.specs.declared.counts.Counts.{Counts}
 use Rattle.xt_held.specs.declared.held.Held.{Held}
 use Rattle.xt_held.specs.declared.last_run.Kept.{Kept}
 use Rattle.xt_held.specs.declared.name.DocName.{DocName}
@@ -33,11 +37,21 @@ use Rattle.xt_held.specs.declared.stylesheet.Compiled.TheVariants.{Stylesheet, R
 
 -- ---- What changes mark
 
+-- these changes mark any question
+abbrev pub MarkAll : List WorldChange → Type 0
+MarkAll changes = (question : Question NodeRef) → any_marks changes question ≡ true
+
+-- as many are remembered as are told of, and each question that is asked of the source or of a parameter alone is marked by them if it is by these
+pub record AreHeeded (marks : List Mark) (changes : List WorldChange) : Type 0 where
+  pub count : length changes ≡ length marks
+  pub marked : (question : Question NodeRef) → by_modules question ≡ false → are_marked marks question ≡ true → any_marks changes question ≡ true
+
 -- each question that one of these changes marks is marked by what is told of them; and where that leaves a question unmarked, no more are remembered than are
--- told of
+-- told of. And they mark what is told of the source and of parameters, or anything
 pub record AreToldBy (marks : List Mark) (changes : List WorldChange) : Type 0 where
   pub marked : (question : Question NodeRef) → any_marks changes question ≡ true → are_marked marks question ≡ true
   pub most : (question : Question NodeRef) → are_marked marks question ≡ false → length changes ≤ length marks
+  pub heeded : MarkAll changes ⊎ AreHeeded marks changes
 
 -- the rules for white space of modules that are this, where they are a stylesheet
 abbrev pub known_of : Option Compiled → Known
@@ -75,9 +89,19 @@ abbrev pub left_of : Option Kept → List Mark → List Mark
 left_of None marks = marks
 left_of (Some kept) marks = []
 
--- no more questions of these records were asked again than are marked; and what changed since the last result is told of still
+-- where nothing was run and nothing asked again, these changes mark no question of these records that is asked of the source or of a parameter alone
+abbrev pub AsksLeast : List WorldChange → Pool → Counts → Type 0
+AsksLeast changes records counts = counts.ran ≡ 0 → counts.asked ≡ 0 → NoneMarkedAmong changes records.records.items
+
+-- the same by what is told of them
+abbrev pub IsLeastOf : List Mark → Pool → Counts → Type 0
+IsLeastOf marks records counts = counts.ran ≡ 0 → counts.asked ≡ 0 → paying.NoneMarkedAmong marks (map kept_at records.records.items)
+
+-- no more questions of these records were asked again than are marked, and no less than is told where there is a result; and what changed since the last
+-- result is told of still
 pub record IsAskedBy (marks : List Mark) (records : Pool) (came : Came) : Type 0 where
   pub again : came.counts.asked ≤ marked_among marks (map kept_at records.records.items)
+  pub least : IfSome came.kept (λ kept. IsLeastOf marks records came.counts)
   pub left : AreToldBy (left_of came.kept marks) (since_of came.since)
 
 -- ---- What a change tells

@@ -30,6 +30,7 @@ use std::alloc::Global;
 use std::mem;
 use xt_base::EditCode;
 use xt_edit::EditFault;
+use xt_strip::Sighted;
 use xt_text::{Memory, Text};
 use xt_touch::Since;
 use xt_tree::{Doc, NodeId};
@@ -38,7 +39,7 @@ use xt_world::Parameters;
 /// What is present while a batch is open, to which all goes back where it is abandoned.
 #[derive(Drop)]
 pub(crate) struct Batch {
-    pub source: Option<Doc>,
+    pub source: Option<Sighted>,
     pub modules: IndexMap<String, Doc>,
     pub parameters: Parameters,
     /// What had changed since the last run that ended with a result when the batch was opened.
@@ -210,7 +211,7 @@ impl Held {
         &self,
         alloc: Global,
         origin: Origin<'_>,
-        document: Doc,
+        document: Sighted,
         next: NodeId,
     ) -> Result<Ready, Memory>
         requires current { IsCurrent self.now }
@@ -318,7 +319,7 @@ impl Held {
 }
 
 // The same source, in memory of its own.
-fn copied_source(alloc: Global, source: &Option<Doc>) -> Result<Option<Doc>, Memory>
+fn copied_source(alloc: Global, source: &Option<Sighted>) -> Result<Option<Sighted>, Memory>
     ensures { IfOk result (λ copy. copy ≡ source.now) }
 {
     match source {

@@ -43,6 +43,7 @@ use crate::origin::Origin;
 use crate::outcome::{Came, Outcome, at_no_element, outcome_of};
 use crate::parameter::{TriedParameter, outcome_with, parameter_fault};
 use crate::ready::{Change, Coming, Ready, Recompiled};
+use crate::sighting::{document_in, sighted_after};
 use crate::stylesheet::{Compiled, is_stylesheet, last_known};
 use crate::tried::{Tried, compiled_with, compiled_without};
 use crate::unread::unread_line;
@@ -59,6 +60,7 @@ use xt_io::Line;
 use xt_names::Scope;
 use xt_own::OwnReads;
 use xt_record::Pool;
+use xt_strip::Sighted;
 use xt_text::{Memory, Path, Text};
 use xt_touch::Since;
 use xt_tree::{Doc, NodeId};
@@ -72,7 +74,7 @@ use xt_world::Parameters;
 /// speak; what the modules are, the outcome and what the last change took are those of what is present.
 #[derive(Drop)]
 pub struct Held {
-    pub(crate) source: Option<Doc>,
+    pub(crate) source: Option<Sighted>,
     pub(crate) modules: IndexMap<String, Doc>,
     pub(crate) compiled: Option<Compiled>,
     pub(crate) parameters: Parameters,
@@ -321,7 +323,7 @@ impl Held {
         ensures { option_copied result ≡ numbered_document name.entry self.now }
     {
         match name {
-            DocName::Source => self.source.as_ref(),
+            DocName::Source => document_in(&self.source),
             DocName::Module(name) => self.module(name.as_str()),
         }
     }
@@ -417,12 +419,49 @@ impl Held {
         }
     }
 
-    // In a batch it runs nothing.
+    // What is seen of it is told from what was seen of the present one, where an edit made it.
     fn source_ready(
         &self,
         alloc: Global,
         origin: Origin<'_>,
         document: Doc,
+        next: NodeId,
+    ) -> Result<Ready, Memory>
+        requires current { IsCurrent self.now }
+        requires made { IsMadeBy origin self.now.source document }
+        requires faultless { IsFaultless document }
+        requires grows { made_of self.now ≤ next.number }
+        requires below { AreBelow next.number document }
+        ensures ok { IfOk result (λ ready. IsReady (with_source (plain_of document)) next.number self.now ready) }
+        ensures brings { IfOk result (Brings (numbers.with_source document (numbers_of self.now)) false self.now) }
+        ensures tells { IfOk result (Tells (source_marks (known_in self.now) origin.entry self.now.source document) self.now) }
+    {
+        let source = self.sighted(alloc, origin, document)?;
+        self.sighted_ready(alloc, origin, source, next)
+    }
+
+    // The document with what is seen of it, where that is told from what was seen of the present source.
+    fn sighted(&self, alloc: Global, origin: Origin<'_>, document: Doc) -> Result<Sighted, Memory>
+        requires { IsMadeBy origin self.now.source document }
+        ensures { IfOk result (λ sighted. sighted ≡ document) }
+    {
+        let known = last_known(&self.compiled, &self.last.before);
+        match &self.source {
+            None => Ok(Sighted::new(document)),
+            Some(old) => match origin {
+                Origin::Given => Ok(Sighted::new(document)),
+                Origin::Edited(edit) => sighted_after(alloc, known, old, edit, document),
+                Origin::Moved(_, _) => Ok(Sighted::new(document)),
+            },
+        }
+    }
+
+    // In a batch it runs nothing.
+    fn sighted_ready(
+        &self,
+        alloc: Global,
+        origin: Origin<'_>,
+        document: Sighted,
         next: NodeId,
     ) -> Result<Ready, Memory>
         requires current { IsCurrent self.now }
@@ -446,7 +485,7 @@ impl Held {
         &self,
         alloc: Global,
         origin: Origin<'_>,
-        document: Doc,
+        document: Sighted,
         next: NodeId,
     ) -> Result<Ready, Memory>
         requires current { IsCurrent self.now }
@@ -475,7 +514,7 @@ impl Held {
         &self,
         alloc: Global,
         origin: Origin<'_>,
-        document: &Doc,
+        document: &Sighted,
     ) -> Result<Came, Memory>
         requires known { IsKnown self.now }
         requires made { IsMadeBy origin self.now.source document.now }
@@ -498,7 +537,7 @@ impl Held {
     pub(crate) fn outcome_after(
         &self,
         alloc: Global,
-        source: Option<&Doc>,
+        source: Option<&Sighted>,
         since: Since,
     ) -> Result<Came, Memory>
         requires { LastServes self.now.compiled (parameters_of self.now.parameters) (option_copied source) (record self.now.last { since = since }) }
@@ -522,7 +561,7 @@ impl Held {
         &self,
         alloc: Global,
         origin: Origin<'_>,
-        document: &Doc,
+        document: &Sighted,
     ) -> Result<Since, Memory>
         requires known { IsKnown self.now }
         requires made { IsMadeBy origin self.now.source document.now }
@@ -740,7 +779,7 @@ impl Held {
         }
     }
 
-    fn put_source(&mut self, document: Doc)
+    fn put_source(&mut self, document: Sighted)
         ensures documents { documents_of self.new ≡ with_source (plain_of document) (documents_of self.old) }
         ensures source { self.new.source ≡ Some document }
         ensures compiled { self.new.compiled ≡ self.old.compiled }

@@ -36,6 +36,7 @@ mod origin;
 mod outcome;
 mod parameter;
 mod ready;
+mod sighting;
 mod stylesheet;
 mod tried;
 mod unread;

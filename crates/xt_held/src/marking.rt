@@ -29,17 +29,18 @@ ghost use Rattle.xt_held.specs.StylesheetView.{AreCompiled};
 ghost use Rattle.xt_held.specs.declared.stylesheet.Compiled.{Compiled as What};
 ghost use Rattle.xt_held.specs.declared.stylesheet.Compiled.TheVariants as compiled;
 
+use crate::sighting::{change_of, move_change_of};
 use crate::stylesheet::Compiled;
 use spec_touch::{
     edits_keep_space, edits_lead_as_they_are_seen, unmarked_questions_keep_their_answers_in_worlds,
 };
 use std::alloc::Global;
-use xt_edit::{Change, Edit, change_of, move_change_of};
-use xt_strip::seen;
+use xt_edit::{Change, Edit};
+use xt_strip::Sighted;
 use xt_syntax::{Rule, SpaceRules};
 use xt_text::{Memory, Path, Text};
 use xt_touch::{Elements, Modes, Since, WorldChange, seen_change};
-use xt_tree::{Doc, NodeRef};
+use xt_tree::NodeRef;
 use xt_world::{Stylesheet, same_plain_choices, same_rules, same_units};
 
 /// After this edit, which makes the new source of the old one.
@@ -47,9 +48,9 @@ pub(crate) fn since_edit(
     alloc: Global,
     known: Option<&Compiled>,
     since: &Since,
-    old: &Doc,
+    old: &Sighted,
     edit: &Edit,
-    new: &Doc,
+    new: &Sighted,
 ) -> Result<Since, Memory>
     requires edit { IsEdit (edit_of edit.now) old.now new.now }
     requires faultless { IsFaultless old.now }
@@ -75,9 +76,9 @@ fn since_edit_of(
     stylesheet: &Stylesheet,
     space_rules: &SpaceRules,
     since: &Since,
-    old: &Doc,
+    old: &Sighted,
     edit: &Edit,
-    new: &Doc,
+    new: &Sighted,
 ) -> Result<Since, Memory>
     requires edit { IsEdit (edit_of edit.now) old.now new.now }
     requires faultless { IsFaultless old.now }
@@ -105,18 +106,18 @@ fn change_seen(
     alloc: Global,
     space_rules: &SpaceRules,
     change: Change,
-    old: &Doc,
-    new: &Doc,
+    old: &Sighted,
+    new: &Sighted,
 ) -> Result<Change, Memory>
     ensures { IfOk result (λ told. let rules = (space_rules_of space_rules.now).rules in
         let is = leads.seen_change (change_in change) (sight.seen rules old.now) (sight.seen rules new.now) in
         Leads is (sight.seen rules old.now) (sight.seen rules new.now) → change_in told ≡ is) }
 {
-    let Ok(old) = seen(alloc, old, space_rules.rules.as_slice()) else {
+    let Ok(old) = old.seen(alloc, space_rules) else {
         drop(change);
         return Err(Memory);
     };
-    let Ok(new) = seen(alloc, new, space_rules.rules.as_slice()) else {
+    let Ok(new) = new.seen(alloc, space_rules) else {
         drop(old);
         drop(change);
         return Err(Memory);
@@ -134,10 +135,10 @@ pub(crate) fn since_move(
     alloc: Global,
     known: Option<&Compiled>,
     since: &Since,
-    old: &Doc,
+    old: &Sighted,
     path: &Path,
     other: &Path,
-    new: &Doc,
+    new: &Sighted,
 ) -> Result<Since, Memory>
     requires moved { IsMove path.now other.now old.now new.now }
     requires faultless { IsFaultless old.now }
@@ -172,10 +173,10 @@ fn since_move_of(
     alloc: Global,
     stylesheet: &Stylesheet,
     since: &Since,
-    old: &Doc,
+    old: &Sighted,
     path: &Path,
     other: &Path,
-    new: &Doc,
+    new: &Sighted,
 ) -> Result<Since, Memory>
     requires moved { IsMove path.now other.now old.now new.now }
     requires faultless { IsFaultless old.now }

@@ -1,5 +1,5 @@
 // What the transformation of documents comes to.
-ghost use Rattle.std.specs.Prelude.{◌≡◌, ◌≤◌, IfOk, IfSome, None, Ok, Some, []};
+ghost use Rattle.std.specs.Prelude.{◌≡◌, ◌≤◌, IfOk, IfSome, None, Ok, OnOk, Some, []};
 ghost use Rattle.std.specs.Option.{option_copied};
 ghost use Rattle.spec_document.specs.Forest.{Plain};
 ghost use Rattle.spec_expression.specs.declared.code.Code.TheVariants as codes;
@@ -17,7 +17,7 @@ ghost use Rattle.xt_compile.specs.View.{refusal_in};
 ghost use Rattle.xt_engine.specs.View.{refused_of};
 ghost use Rattle.xt_driver.specs.View.{whole_of};
 ghost use Rattle.xt_import.specs.View.{plain_of};
-ghost use Rattle.xt_record.specs.Asked.{marked_of};
+ghost use Rattle.xt_record.specs.Asked.{Judges, NoneMarkedAmong, marked_of};
 ghost use Rattle.xt_record.specs.Sure.{AreAnswered, IsSure};
 ghost use Rattle.xt_own.specs.View.{Carries, OwnDecides};
 ghost use Rattle.spec_run.specs.Documents.{Parameters as Values};
@@ -26,6 +26,7 @@ ghost use Rattle.xt_world.specs.View.{truth_in};
 ghost use Rattle.xt_touch.specs.View.{since_of};
 ghost use Rattle.xt_held.specs.Complete.{Completes, KeepsWhere};
 ghost use Rattle.xt_held.specs.Cost.{Costs, CostsRun, setting_on, setting_seen};
+ghost use Rattle.xt_held.specs.Marked.{AsksLeast};
 ghost use Rattle.xt_held.specs.OutcomeView.{Fits, no_counts, outcome_of, plain_in, since_after};
 ghost use Rattle.xt_held.specs.RunView.{Ask, HoldsWith, KeptHolds, KeptSpared, SparedIn, SparesRecords, truth_seen};
 ghost use Rattle.xt_held.specs.StylesheetView.{AnswersAs, AreCompiled, IsCompiledFrom};
@@ -42,12 +43,12 @@ use xt_compile::StaticRefusal;
 use xt_driver::{Whole, run};
 use xt_engine::Refused;
 use xt_own::{OwnReads, Prepared};
-use xt_questions::copy_place;
+use xt_questions::{World, copy_place};
 use xt_record::{Pool, Reuse};
 use xt_result::{ResultTree, shape};
 use xt_runner::Runner;
 use xt_spared::Spared;
-use xt_strip::seen;
+use xt_strip::Sighted;
 use xt_syntax::{Method, SpaceRules};
 use xt_text::{Memory, Path, Text};
 use xt_touch::Since;
@@ -95,7 +96,7 @@ pub(crate) fn outcome_of(
     alloc: Global,
     compiled: Option<&Compiled>,
     parameters: &Parameters,
-    source: Option<&Doc>,
+    source: Option<&Sighted>,
     last: &Kept,
     since: Since,
 ) -> Result<Came, Memory>
@@ -107,6 +108,7 @@ pub(crate) fn outcome_of(
     ensures since { IfOk result (λ came. since_of came.since ≡ since_after came.kept (since_of since)) }
     ensures cost { IfOk result (λ came. CostsRun (option_copied compiled.entry) (parameters_of parameters.now) (option_copied source.entry) last.now.records came.counts) }
     ensures asked { IfOk result (λ came. came.counts.asked ≤ marked_of (since_of since) last.now.records) }
+    ensures least { IfOk result (λ came. IfSome came.kept (λ kept. AsksLeast (since_of since) last.now.records came.counts)) }
     ensures keeps { IfOk result (λ came. KeepsWhere (option_copied compiled.entry) (parameters_of parameters.now) (option_copied source.entry) came.kept) }
 {
     match compiled {
@@ -152,7 +154,7 @@ fn transformed(
     alloc: Global,
     compiled: &Compiled,
     parameters: &Parameters,
-    source: &Doc,
+    source: &Sighted,
     last: &Kept,
     since: Since,
 ) -> Result<Came, Memory>
@@ -164,6 +166,7 @@ fn transformed(
     ensures since { IfOk result (λ came. since_of came.since ≡ since_after came.kept (since_of since)) }
     ensures cost { IfOk result (λ came. CostsRun (Some compiled.now) (parameters_of parameters.now) (Some source.now) last.now.records came.counts) }
     ensures asked { IfOk result (λ came. came.counts.asked ≤ marked_of (since_of since) last.now.records) }
+    ensures least { IfOk result (λ came. IfSome came.kept (λ kept. AsksLeast (since_of since) last.now.records came.counts)) }
     ensures keeps { IfOk result (λ came. KeepsWhere (Some compiled.now) (parameters_of parameters.now) (Some source.now) came.kept) }
 {
     items_change_no_outcome();
@@ -231,7 +234,7 @@ fn whole_of_seen(
     stylesheet: &Stylesheet,
     space_rules: &SpaceRules,
     parameters: &Parameters,
-    source: &Doc,
+    source: &Sighted,
     last: &Kept,
     since: &Since,
 ) -> Result<Over, Memory>
@@ -241,10 +244,11 @@ fn whole_of_seen(
     ensures kept { IfOk result (λ over. HoldsWith stylesheet.now (truth_seen stylesheet.now space_rules.now (parameters_of parameters.now) source.now) over.kept) }
     ensures cost { IfOk result (λ over. Costs (setting_seen stylesheet.now space_rules.now (parameters_of parameters.now) source.now) last.now.records over.counts) }
     ensures asked { IfOk result (λ over. over.counts.asked ≤ marked_of (since_of since.now) last.now.records) }
+    ensures least { IfOk result (λ over. AsksLeast (since_of since.now) last.now.records over.counts) }
     ensures complete { IfOk result (λ over. Completes (setting_seen stylesheet.now space_rules.now (parameters_of parameters.now) source.now) over.whole over.kept.records) }
 {
     labels_do_not_matter();
-    let seen = seen(alloc, source, space_rules.rules.as_slice())?;
+    let seen = source.seen(alloc, space_rules)?;
     whole(alloc, stylesheet, parameters, &seen, last, since)
 }
 
@@ -263,6 +267,7 @@ fn whole(
     ensures kept { IfOk result (λ over. HoldsWith stylesheet.now (truth_in stylesheet.now (parameters_of parameters.now) source.now) over.kept) }
     ensures cost { IfOk result (λ over. Costs (setting_on stylesheet.now (parameters_of parameters.now) source.now) last.now.records over.counts) }
     ensures asked { IfOk result (λ over. over.counts.asked ≤ marked_of (since_of since.now) last.now.records) }
+    ensures least { IfOk result (λ over. AsksLeast (since_of since.now) last.now.records over.counts) }
     ensures complete { IfOk result (λ over. Completes (setting_on stylesheet.now (parameters_of parameters.now) source.now) over.whole over.kept.records) }
 {
     source.distinct_numbers();
@@ -293,6 +298,7 @@ fn run_recorded(
     ensures records { IfOk result (λ over. AreAnswered (truth_in stylesheet.now (parameters_of parameters.now) source.now) over.records) }
     ensures cost { IfOk result (λ over. Costs (setting_on stylesheet.now (parameters_of parameters.now) source.now) last.now over.counts) }
     ensures asked { IfOk result (λ over. over.counts.asked ≤ marked_of (since_of spared.now.since.now) last.now) }
+    ensures least { IfOk result (λ over. AsksLeast (since_of spared.now.since.now) last.now over.counts) }
     ensures complete { IfOk result (λ over. Completes (setting_on stylesheet.now (parameters_of parameters.now) source.now) over.whole over.records) }
 {
     same_run();
@@ -309,7 +315,30 @@ fn run_recorded(
         stylesheet.globals.as_slice(),
         &mut reuse,
     );
+    let whole = with_what_is_left(alloc, whole, &mut reuse, &mut world);
     with_records(whole, reuse, engine.did)
+}
+
+// The run, after which what is left is asked where nothing was run and nothing asked.
+fn with_what_is_left<W: World>(
+    alloc: Global,
+    whole: Result<Whole, Memory>,
+    reuse: &mut Reuse<'_>,
+    world: &mut W,
+) -> Result<Whole, Memory>
+    requires { OnOk whole (IsSure (W.state world.now).truth reuse.now) }
+    ensures whole { IfOk result (λ over. whole ≡ Ok over) }
+    ensures sure { OnOk result (IsSure (W.state world.old).truth reuse.new) }
+    ensures judges { Judges reuse.old reuse.new }
+    ensures least { OnOk result (reuse.new.steps.ran ≡ 0 → reuse.new.steps.asked ≡ 0
+        → NoneMarkedAmong (since_of reuse.old.spared.now.since.now) reuse.old.last.now.records.items) }
+{
+    let whole = whole?;
+    let Ok(()) = reuse.ask_what_is_left(alloc, world) else {
+        drop(whole);
+        return Err(Memory);
+    };
+    Ok(whole)
 }
 
 // The run with the records that it keeps, where its engine did so many instructions.
@@ -322,6 +351,7 @@ fn with_records(
     ensures next { IfOk result (λ over. over.records ≡ reuse.entry.next) }
     ensures records { IfOk result (λ over. (ask : Ask) → IsSure ask reuse.entry → AreAnswered ask over.records) }
     ensures ran { IfOk result (λ over. over.counts.ran ≡ reuse.entry.steps.ran) }
+    ensures steps { IfOk result (λ over. over.counts.asked ≡ reuse.entry.steps.asked) }
     ensures asked { IfOk result (λ over. (ask : Ask) → IsSure ask reuse.entry → over.counts.asked ≤ marked_of (since_of reuse.entry.spared.now.since.now) reuse.entry.last.now) }
 {
     match whole {

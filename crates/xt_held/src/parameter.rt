@@ -13,6 +13,7 @@ ghost use Rattle.xt_touch.specs.View.{since_of};
 ghost use Rattle.xt_record.specs.Asked.{marked_of};
 ghost use Rattle.xt_held.specs.Complete.{KeepsWhere};
 ghost use Rattle.xt_held.specs.Cost.{CostsRun};
+ghost use Rattle.xt_held.specs.Marked.{AsksLeast};
 ghost use Rattle.xt_held.specs.OutcomeView.{Fits, outcome_of, plain_in, since_after};
 ghost use Rattle.xt_held.specs.RunView.{KeptHolds, KeptSpared};
 ghost use Rattle.xt_held.specs.StylesheetView.{AreCompiled};
@@ -23,9 +24,9 @@ use crate::stylesheet::Compiled;
 use std::alloc::Global;
 use xt_base::EditCode;
 use xt_names::{is_char, is_ncname};
+use xt_strip::Sighted;
 use xt_text::{Memory, Text};
 use xt_touch::Since;
-use xt_tree::Doc;
 use xt_world::Parameters;
 
 /// Why the parameter of this name may not be given this value: one of its characters, else the name.
@@ -66,7 +67,7 @@ pub(crate) fn outcome_with(
     parameters: &mut Parameters,
     name: &Text,
     value: &Text,
-    source: Option<&Doc>,
+    source: Option<&Sighted>,
     last: &Kept,
     since: Since,
 ) -> Result<TriedParameter, Memory>
@@ -78,6 +79,7 @@ pub(crate) fn outcome_with(
     ensures since { IfOk result (λ tried. since_of tried.came.since ≡ since_after tried.came.kept (since_of since)) }
     ensures cost { IfOk result (λ tried. CostsRun (option_copied compiled.entry) (with_value name.now value.now (parameters_of parameters.old)) (option_copied source.entry) last.now.records tried.came.counts) }
     ensures asked { IfOk result (λ tried. tried.came.counts.asked ≤ marked_of (since_of since) last.now.records) }
+    ensures least { IfOk result (λ tried. IfSome tried.came.kept (λ kept. AsksLeast (since_of since) last.now.records tried.came.counts)) }
     ensures keeps { IfOk result (λ tried. KeepsWhere (option_copied compiled.entry) (with_value name.now value.now (parameters_of parameters.old)) (option_copied source.entry) tried.came.kept) }
     ensures name { IfOk result (λ tried. chars (string_bytes tried.name) ≡ name.now) }
     ensures value { IfOk result (λ tried. tried.value ≡ value.now) }

@@ -1,6 +1,7 @@
 // Changes that are ready to be adopted.
 use crate::outcome::{Came, Outcome};
 use crate::stylesheet::Compiled;
+use xt_strip::Sighted;
 use xt_text::Text;
 use xt_touch::Since;
 use xt_tree::{Doc, NodeId};
@@ -18,7 +19,7 @@ pub struct Ready {
 #[derive(Drop)]
 pub(crate) enum Change {
     /// This document becomes the source.
-    Source(Doc),
+    Source(Sighted),
     /// This document becomes the module of this name, with which the modules are this.
     Module(String, Doc, Recompiled),
     /// There is no module of this name any more, and the modules are this.

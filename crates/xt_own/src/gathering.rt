@@ -15,7 +15,7 @@ use std::rc::Rc;
 use xt_engine::Event;
 use xt_names::{Expanded, copy_name};
 use xt_questions::Question;
-use xt_record::Record;
+use xt_record::Pool;
 use xt_spared::{OwnChoice, OwnChoices, Spared};
 use xt_text::Memory;
 use xt_touch::Modes;
@@ -30,7 +30,7 @@ pub(crate) fn gather_choices<'a>(
     stylesheet: &Stylesheet,
     modes: &Modes,
     spared: &Spared<'a>,
-    records: &[Rc<Record>],
+    kept: &Pool,
     choices: &mut OwnChoices,
     names: &mut Vec<Expanded>,
 ) -> Result<(), Memory>
@@ -44,7 +44,7 @@ pub(crate) fn gather_choices<'a>(
         stylesheet,
         modes,
         spared,
-        records,
+        kept,
         &mut choosing,
         choices,
         names,
@@ -58,7 +58,7 @@ fn gather_from<'a, 'b>(
     stylesheet: &Stylesheet,
     modes: &Modes,
     spared: &Spared<'a>,
-    records: &[Rc<Record>],
+    kept: &Pool,
     choosing: &mut Choosing<'b>,
     choices: &mut OwnChoices,
     names: &mut Vec<Expanded>,
@@ -68,8 +68,8 @@ fn gather_from<'a, 'b>(
         → AllDecide stylesheet.now (truth_in stylesheet.now parameters document) (owns_of choices.old)
         → OnOk result (AllDecide stylesheet.now (truth_in stylesheet.now parameters document) (owns_of choices.new)) }
 {
-    for record in records {
-        let events = record.ran.events.as_slice();
+    for turn in 0..kept.count() {
+        let events = kept.record_at(turn).ran.events.as_slice();
         gather_events(
             alloc, stylesheet, modes, spared, events, choosing, choices, names,
         )?;

@@ -10,10 +10,9 @@ ghost use Rattle.xt_own.specs.View.{AllDecide};
 use crate::choosing::Choosing;
 use crate::gathering::made;
 use std::alloc::Global;
-use std::rc::Rc;
 use xt_engine::Event;
 use xt_questions::Question;
-use xt_record::Record;
+use xt_record::Pool;
 use xt_spared::OwnChoices;
 use xt_text::Memory;
 use xt_touch::{Modes, Since};
@@ -29,7 +28,7 @@ pub(crate) fn choices_made_now(
     document: &Doc,
     stylesheet: &Stylesheet,
     since: &Since,
-    records: &[Rc<Record>],
+    kept: &Pool,
 ) -> Result<OwnChoices, Memory>
     ensures { (parameters : Parameters) → IfOk result (λ choices. AllDecide stylesheet.now (truth_in stylesheet.now parameters document.now) (owns_of choices)) }
 {
@@ -41,7 +40,7 @@ pub(crate) fn choices_made_now(
         stylesheet,
         &modes,
         since,
-        records,
+        kept,
         &mut choices,
     );
     drop(modes);
@@ -61,7 +60,7 @@ fn add_choices(
     stylesheet: &Stylesheet,
     modes: &Modes,
     since: &Since,
-    records: &[Rc<Record>],
+    kept: &Pool,
     choices: &mut OwnChoices,
 ) -> Result<(), Memory>
     ensures { (parameters : Parameters) → AllDecide stylesheet.now (truth_in stylesheet.now parameters document.now) (owns_of choices.old)
@@ -73,7 +72,7 @@ fn add_choices(
         stylesheet,
         modes,
         since,
-        records,
+        kept,
         &mut choosing,
         choices,
     );
@@ -86,7 +85,7 @@ fn add_from<'a>(
     stylesheet: &Stylesheet,
     modes: &Modes,
     since: &Since,
-    records: &[Rc<Record>],
+    kept: &Pool,
     choosing: &mut Choosing<'a>,
     choices: &mut OwnChoices,
 ) -> Result<(), Memory>
@@ -94,8 +93,8 @@ fn add_from<'a>(
         → AllDecide stylesheet.now (truth_in stylesheet.now parameters document) (owns_of choices.old)
         → OnOk result (AllDecide stylesheet.now (truth_in stylesheet.now parameters document) (owns_of choices.new)) }
 {
-    for record in records {
-        let events = record.ran.events.as_slice();
+    for turn in 0..kept.count() {
+        let events = kept.record_at(turn).ran.events.as_slice();
         add_of_events(alloc, stylesheet, modes, since, events, choosing, choices)?;
     }
     Ok(())

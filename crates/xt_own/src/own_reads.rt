@@ -131,7 +131,7 @@ fn made_after(
     if !since.moves() {
         return Ok(OwnChoices::new(alloc));
     }
-    choices_made_now(alloc, document, stylesheet, since, last.records())
+    choices_made_now(alloc, document, stylesheet, since, last)
 }
 
 // With these keys that stay, and all choices.
@@ -238,14 +238,13 @@ fn choices_asked<'a>(
         drop(modes);
         return Ok(choices);
     }
-    let records = kept.records();
     let gathered = gather_choices(
         alloc,
         document,
         stylesheet,
         &modes,
         spared,
-        records,
+        kept,
         &mut choices,
         names,
     );

@@ -1,5 +1,5 @@
 -- How records of one key hang together where one is added, and where one goes along them.
-use Rattle.std.proofs.Common.{◌≡◌, ℕ, zero, suc, ◌<◌, ◌≤◌, Bool, true, false, cond, ◌&&◌, nat_eq, List, [], ◌∷◌, ◌++◌, length, length-append, get_or, slice_get, slice_index_or, Option, None, Some, unwrap_or, if◌then◌else◌, true≢false, lt-ltb, le-ltb, refl, sym, ap, subst, ◌∙◌, arith}
+use Rattle.std.proofs.Common.{◌≡◌, ℕ, zero, suc, ◌<◌, ◌≤◌, Bool, true, false, cond, ◌&&◌, nat_eq, List, [], ◌∷◌, ◌++◌, length, length-append, slice_get, slice_index_or, Option, None, Some, unwrap_or, if◌then◌else◌, true≢false, lt-ltb, le-ltb, refl, sym, ap, subst, ◌∙◌, arith}
 use Rattle.std.proofs.Math.Logic.{∥∥₁_elim, ∥∥₁_map, ∥∥₁_prop}
 use Rattle.std.proofs.lemmas.Bool.Decides.{Decides-eqb}
 use Rattle.std.specs.Coded.{le_prop}
@@ -150,32 +150,13 @@ module _ (ks : List Key) (k₀ : Key) where
         (link_now (old k₀) t _ e (here ∙ is) (h.ends k₀)));
   }
 
-keys_more : (rs : List (Rc Record Global)) (r : Rc Record Global) → keys_in (rs ++ r ∷ []) ≡ keys_in rs ++ key_in r.value ∷ []
+pub keys_more : (rs : List (Rc Record Global)) (r : Rc Record Global) → keys_in (rs ++ r ∷ []) ≡ keys_in rs ++ key_in r.value ∷ []
 keys_more [] r = refl
 keys_more (x ∷ rs) r = ap (λ (ks : List Key). key_in x.value ∷ ks) (keys_more rs r)
-
--- the keys that stand beside the records
-pub keyed_more : (rs all : List (Rc Record Global)) (r : Rc Record Global) (ks now : List Key) (k : Key) → k ≡ key_in r.value
-    → all ≡ rs ++ r ∷ [] → now ≡ ks ++ k ∷ [] → ∥ ks ≡ keys_in rs ∥₁ → ∥ now ≡ keys_in all ∥₁
-keyed_more rs all r ks now k of more_rs more_ks keyed = ∥∥₁_map keyed (λ e.
-    more_ks ∙ ap (λ (xs : List Key). xs ++ k ∷ []) e ∙ ap (λ (x : Key). keys_in rs ++ x ∷ []) of ∙ sym (keys_more rs r)
-    ∙ ap (λ (xs : List (Rc Record Global)). keys_in xs) (sym more_rs))
 
 pub keys_count : (rs : List (Rc Record Global)) → length (keys_in rs) ≡ length rs
 keys_count [] = refl
 keys_count (x ∷ rs) = omega (arith, keys_count rs)
-
-pub key_got : (ks : List Key) (turn : ℕ) (k : Key) → turn < length ks → k ≡ get_or ks turn k → slice_get ks turn ≡ Some k
-key_got [] turn k lt is = absurd (omega (arith, lt))
-key_got (x ∷ ks) zero k lt is = ap (λ (q : Key). Some q) (sym is)
-key_got (x ∷ ks) (suc turn) k lt is = key_got ks turn k (omega (arith, lt)) is
-
--- the key that stands beside a record is its own
-pub key_there : (rs : List (Rc Record Global)) (turn : ℕ) (r : Rc Record Global) (k : Key) → slice_get rs turn ≡ Some r
-    → slice_get (keys_in rs) turn ≡ Some k → k ≡ key_in r.value
-key_there [] turn r k here at = absurd (none_some here)
-key_there (x ∷ rs) zero r k here at = sym (some_is at) ∙ ap (λ (y : Rc Record Global). key_in y.value) (some_is here)
-key_there (x ∷ rs) (suc turn) r k here at = key_there rs turn r k here at
 
 pub both_more : (rs all : List (Rc Record Global)) (r : Rc Record Global) (bs now : List ℕ) (b : ℕ) → length bs ≡ length rs → all ≡ rs ++ r ∷ []
     → now ≡ bs ++ b ∷ [] → length now ≡ length all
@@ -278,20 +259,17 @@ pass_one ks key turn end at is other h = record {
       (λ few. let same : t ≡ at = omega (arith, le, few) in other (subst (λ n. slice_get ks n ≡ Some key) same there));
 }
 
-pub pass_found : (rs : List (Rc Record Global)) (ks : List Key) (key : Key) (turn end at : ℕ) → ∥ ks ≡ keys_in rs ∥₁ → suc at ≡ end
-    → slice_get ks at ≡ Some key → IsPassed ks key turn end → ∥ IsLatest (keys_in rs) key turn (Some at) ∥₁
-pass_found rs ks key turn end at keyed is here h = ∥∥₁_map keyed (λ e.
-    subst (λ (xs : List Key). IsLatest xs key turn (Some at)) e (record {
-      below = let lt : at < turn = omega (arith, is, h.turn_is) in lt;
-      has = here;
-      last = λ t lt there. let le : t ≤ at = split at t (λ more. absurd (h.passed t (omega (arith, is, more)) lt there)) (λ few. few) in le;
-    }))
+pub pass_found : (ks : List Key) (key : Key) (turn end at : ℕ) → suc at ≡ end → slice_get ks at ≡ Some key → IsPassed ks key turn end
+    → IsLatest ks key turn (Some at)
+pass_found ks key turn end at is here h = record {
+  below = let lt : at < turn = omega (arith, is, h.turn_is) in lt;
+  has = here;
+  last = λ t lt there. let le : t ≤ at = split at t (λ more. absurd (h.passed t (omega (arith, is, more)) lt there)) (λ few. few) in le;
+}
 
-pub pass_none : (rs : List (Rc Record Global)) (ks : List Key) (key : Key) (turn end : ℕ) → ∥ ks ≡ keys_in rs ∥₁ → end ≡ 0 → IsPassed ks key turn end
-    → ∥ IsLatest (keys_in rs) key turn None ∥₁
-pass_none rs ks key turn end keyed is h = ∥∥₁_map keyed (λ e.
-    subst (λ (xs : List Key). IsLatest xs key turn None) e (record {
-      below = tt;
-      has = tt;
-      last = λ t lt there. absurd (h.passed t (omega (arith, is)) lt there);
-    }))
+pub pass_none : (ks : List Key) (key : Key) (turn end : ℕ) → end ≡ 0 → IsPassed ks key turn end → IsLatest ks key turn None
+pass_none ks key turn end is h = record {
+  below = tt;
+  has = tt;
+  last = λ t lt there. absurd (h.passed t (omega (arith, is)) lt there);
+}

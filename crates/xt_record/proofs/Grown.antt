@@ -1,5 +1,5 @@
 -- The trees in a list of records, as more records are added and as a tree is taken over.
-use Rattle.std.proofs.Common.{◌≡◌, ℕ, zero, suc, ◌+◌, ◌-◌, ◌<◌, ◌≤◌, inl, inr, List, [], ◌∷◌, ◌++◌, take, drop, length, slice_get, Option, Some, refl, sym, ap, subst, ◌∙◌, append_assoc, length-append, arith}
+use Rattle.std.proofs.Common.{◌≡◌, ℕ, zero, suc, ◌+◌, ◌-◌, ◌<◌, ◌≤◌, inl, inr, List, [], ◌∷◌, ◌++◌, take, drop, length, slice_get, Option, Some, refl, sym, ap, subst, ◌∙◌, append_assoc, append-nil, length-append, arith}
 use Rattle.std.proofs.lemmas.List.{map-append}
 use Rattle.std.specs.Prelude.{IfSome}
 use Rattle.std.specs.declared.rc.Rc.{Rc}
@@ -10,11 +10,14 @@ use Rattle.spec_node.specs.declared.node_ref.NodeRef.{NodeRef}
 use Rattle.xt_record.specs.View.{kept_in, AsksHold}
 use Rattle.xt_record.specs.Grown.{value_in, values_of, part_of, AreTrees, IsTreeAt}
 use Rattle.xt_record.specs.Sure.{AllHold}
-use Rattle.xt_record.specs.Taken.{IsTaken}
+use Rattle.xt_record.specs.Listed.{Listed, records_in, trees_in}
+use Rattle.xt_record.specs.Taken.{AllWithin, IsPartOf, IsTaken}
+use Rattle.xt_record.specs.declared.entry.Entry.{Entry}
 use Rattle.xt_record.specs.declared.record.Record.{Record}
 use Rattle.xt_record.specs.declared.tree.Summary.{Summary}
 use Rattle.xt_record.specs.declared.tree.Tree.{Tree}
 use Rattle.xt_record.proofs.Chaining.{from_more, none_some, some_is}
+use Rattle.xt_record.proofs.Pieced.{map_part, part_begins, parts_join}
 
 -- ---- Lists
 
@@ -213,18 +216,17 @@ there (x ∷ xs) (suc n) lt = let h = there xs n (omega (arith, lt)) in record {
 pub at_item : {A : Type 0} (P : A → Type 0) (o : Option A) (x : A) → o ≡ Some x → IfSome o P → P x
 at_item {A = A} P o x e h = let Q : Option A → Type 0 = λ y. IfSome y P in subst Q e h
 
--- what one step of taking over leaves
-pub record Stepped (others : List (Rc Record Global)) (given : List Tree) (first at : ℕ) (old mid now : List Record) (ts now_trees : List Tree) : Type 0 where
-  pub records : now ≡ old ++ part_of first (suc at - first) (values_of others)
-  pub trees : AreTrees (values_of others) given → AreTrees mid ts → AreTrees now now_trees
+-- what one step of taking over leaves, from a turn up to an end
+pub record IsStep (others : List Record) (given : List Tree) (first at end : ℕ) (mid now : List Record) (ts now_trees : List Tree) : Type 0 where
+  pub records : now ≡ mid ++ part_of at (end - at) others
+  pub trees : (old : List Record) → mid ≡ old ++ part_of first (at - first) others → AreTrees others given → AreTrees mid ts → AreTrees now now_trees
 
-pub taken_step : (others : List (Rc Record Global)) (given : List Tree) (first at : ℕ) (old : List Record) (mid now : List (Rc Record Global))
-    (ts now_trees : List Tree) → first ≤ at → at < length others → length given ≡ length others → length ts ≡ length mid
-    → values_of mid ≡ old ++ part_of first (at - first) (values_of others)
+pub one_step : (others : List (Rc Record Global)) (given : List Tree) (first at end : ℕ) (mid now : List (Rc Record Global)) (ts now_trees : List Tree)
+    → first ≤ at → at < length others → end ≡ suc at → length given ≡ length others → length ts ≡ length mid
     → IfSome (slice_get others at) (λ r. values_of now ≡ values_of mid ++ r.value ∷ [])
     → IfSome (slice_get given at) (λ t. IsTaken first at t ts now_trees)
-    → Stepped others given first at old (values_of mid) (values_of now) ts now_trees
-taken_step others given first at old mid now ts now_trees le lt even paired so more taken =
+    → IsStep (values_of others) given first at end (values_of mid) (values_of now) ts now_trees
+one_step others given first at end mid now ts now_trees le lt next even paired more taken =
     let r = there others at lt in
     let t = there given at (omega (arith, lt, even)) in
     let v = r.item.value in
@@ -233,13 +235,83 @@ taken_step others given first at old mid now ts now_trees le lt even paired so m
     at_item (λ (x : Rc Record Global). values_of now ≡ values_of mid ++ x.value ∷ []) (slice_get others at) r.item r.here more in
     let took : IsTaken first at t.item ts now_trees =
     at_item (λ (x : Tree). IsTaken first at x ts now_trees) (slice_get given at) t.item t.here taken in
-    let place : at ≡ first + (at - first) = omega (arith, le) in
-    let count : suc at - first ≡ suc (at - first) = omega (arith, le) in
+    let one : part_of at (end - at) (values_of others) ≡ v ∷ [] =
+    ap (λ n. part_of at n (values_of others)) (count at end next) ∙ part_next (values_of others) at 0 at v (omega arith) here in
     record {
-      records = more_records ∙ ap (λ (xs : List Record). xs ++ v ∷ []) so
-          ∙ append_assoc old (part_of first (at - first) (values_of others)) (v ∷ [])
-          ∙ ap (λ (xs : List Record). old ++ xs) (sym (part_next (values_of others) first (at - first) at v place here))
-          ∙ ap (λ n. old ++ part_of first n (values_of others)) (sym count);
-      trees = trees_taken (values_of others) given first at t.item v old (values_of mid) (values_of now) ts now_trees le so here t.here
+      records = more_records ∙ ap (λ (xs : List Record). values_of mid ++ xs) (sym one);
+      trees = λ old so. trees_taken (values_of others) given first at t.item v old (values_of mid) (values_of now) ts now_trees le so here t.here
           (paired ∙ sym (values_count mid)) more_records took;
     }
+  where
+    count : (m n : ℕ) → n ≡ suc m → n - m ≡ suc 0
+    count m n e = omega (arith, e)
+
+-- those that are shared are added one after another
+pieces_taken : (others : List Record) (given : List Tree) (first : ℕ) (old : List Record) → AreTrees others given
+    → (q : List Entry) (at : ℕ) (vs : List Record) (ts : List Tree) → first ≤ at → vs ≡ old ++ part_of first (at - first) others
+    → length ts ≡ length vs → take (length q) (drop at others) ≡ values_of (records_in q) → take (length q) (drop at given) ≡ trees_in q
+    → AllWithin (at - first) q → AreTrees vs ts → AreTrees (vs ++ values_of (records_in q)) (ts ++ trees_in q)
+pieces_taken others given first old all [] at vs ts le so paired records trees inside h =
+    let Both : List Record → List Tree → Type 0 = λ xs ys. AreTrees xs ys in
+    subst (λ (xs : List Record). Both xs (ts ++ [])) (sym (append-nil vs)) (subst (λ (ys : List Tree). Both vs ys) (sym (append-nil ts)) h)
+pieces_taken others given first old all (e ∷ q) at vs ts le so paired records trees inside h =
+    let v = e.record.value in
+    let t = e.tree in
+    let rest = values_of (records_in q) in
+    let below = trees_in q in
+    let record_here = part_begins others at (length q) v rest records in
+    let tree_here = part_begins given at (length q) t below trees in
+    let taken : IsTaken first at t ts (ts ++ t ∷ []) = record {
+      tree = t;
+      added = refl;
+      size = refl;
+      whole = λ w is. (w, is, refl);
+      inside = λ w is. let few = inside 0 e w refl is in omega (arith, few);
+    } in
+    let one = trees_taken others given first at t v old vs (vs ++ v ∷ []) ts (ts ++ t ∷ []) le so record_here.0 tree_here.0 paired refl taken all h in
+    let so_far : vs ++ v ∷ [] ≡ old ++ part_of first (suc at - first) others =
+    ap (λ (xs : List Record). xs ++ v ∷ []) so ∙ append_assoc old (part_of first (at - first) others) (v ∷ [])
+    ∙ ap (λ (xs : List Record). old ++ xs) (sym (part_next others first (at - first) at v (omega (arith, le)) record_here.0))
+    ∙ ap (λ n. old ++ part_of first n others) (count le) in
+    let even : length (ts ++ t ∷ []) ≡ length (vs ++ v ∷ []) = omega (arith, paired, length-append ts (t ∷ []), length-append vs (v ∷ [])) in
+    let all_here = pieces_taken others given first old all q (suc at) (vs ++ v ∷ []) (ts ++ t ∷ []) (omega (arith, le)) so_far even record_here.1
+    tree_here.1 (λ n x w here is. let few = inside (suc n) x w here is in omega (arith, few, le)) one in
+    let Both : List Record → List Tree → Type 0 = λ xs ys. AreTrees xs ys in
+    subst (λ (xs : List Record). Both xs (ts ++ t ∷ below)) (append_assoc vs (v ∷ []) rest)
+    (subst (λ (ys : List Tree). Both ((vs ++ v ∷ []) ++ rest) ys) (append_assoc ts (t ∷ []) below) all_here)
+  where
+    count : first ≤ at → suc (at - first) ≡ suc at - first
+    count few = omega (arith, few)
+
+pub piece_step : (pool : Listed) (first at end bound : ℕ) (q : List Entry) (mid now : List (Rc Record Global)) (ts now_trees : List Tree)
+    → first ≤ at → end ≡ at + length q → length ts ≡ length mid → IsPartOf first at bound pool q → now ≡ mid ++ records_in q
+    → now_trees ≡ ts ++ trees_in q
+    → IsStep (values_of pool.records.items) pool.trees.items first at end (values_of mid) (values_of now) ts now_trees
+piece_step pool first at end bound q mid now ts now_trees le next paired part more more_trees =
+    let others = values_of pool.records.items in
+    let given = pool.trees.items in
+    let n = length q in
+    let added : values_of now ≡ values_of mid ++ values_of (records_in q) =
+    ap (λ (rs : List (Rc Record Global)). values_of rs) more ∙ map-append value_in mid (records_in q) in
+    let shared : values_of (records_in q) ≡ part_of at n others =
+    ap (λ (rs : List (Rc Record Global)). values_of rs) part.records ∙ map_part value_in pool.records.items at n in
+    let Both : List Record → List Tree → Type 0 = λ xs ys. AreTrees xs ys in
+    record {
+      records = added ∙ ap (λ (xs : List Record). values_of mid ++ xs) (shared ∙ ap (λ m. part_of at m others) (count at n end next));
+      trees = λ old so all h.
+          let taken = pieces_taken others given first old all q at (values_of mid) ts le so (paired ∙ sym (values_count mid)) (sym shared)
+          (sym part.trees) part.inside h in
+          subst (λ (xs : List Record). Both xs now_trees) (sym added)
+          (subst (λ (ys : List Tree). Both (values_of mid ++ values_of (records_in q)) ys) (sym more_trees) taken);
+    }
+  where
+    count : (m k e : ℕ) → e ≡ m + k → k ≡ e - m
+    count m k e is = omega (arith, is)
+
+-- steps that follow each other
+pub taken_on : (others old mid now : List Record) (first at end : ℕ) → first ≤ at → at ≤ end → mid ≡ old ++ part_of first (at - first) others
+    → now ≡ mid ++ part_of at (end - at) others → now ≡ old ++ part_of first (end - first) others
+taken_on others old mid now first at end le up_to so step =
+    step ∙ ap (λ (xs : List Record). xs ++ part_of at (end - at) others) so
+    ∙ append_assoc old (part_of first (at - first) others) (part_of at (end - at) others)
+    ∙ ap (λ (xs : List Record). old ++ xs) (parts_join others first at end le up_to)

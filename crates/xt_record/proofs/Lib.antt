@@ -7,6 +7,9 @@ pub mod Judging
 pub mod Counting
 pub mod Sparing
 pub mod Chaining
+pub mod Pieced
+pub mod Turns
+pub mod Listing
 pub mod Passing
 pub mod Standing
 pub mod Streams
@@ -15,3 +18,4 @@ pub mod Naming
 pub mod Reaching
 pub mod Holes
 pub mod Saying
+pub mod Quiet

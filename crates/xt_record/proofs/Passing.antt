@@ -74,7 +74,7 @@ module _ (ask : Question NodeRef → Answer NodeRef) (call : Call NodeRef) (belo
 
 -- ---- In both lists
 
-pub at_most : (v : Vec (Rc Record Global) Global) → length v.items ≤ most
+pub at_most : {A : Type 0} (v : Vec A Global) → length v.items ≤ most
 at_most v = omega (arith, v.ok.0, v.ok.1, v.small)
 
 module _ (ask : Question NodeRef → Answer NodeRef) (call : Call NodeRef) (below : ℕ) (reuse : Reuse) (from : ℕ) where
@@ -91,12 +91,12 @@ module _ (ask : Question NodeRef → Answer NodeRef) (call : Call NodeRef) (belo
       (subst (λ x. MayServe ask call below (kept_in x)) (sym here.is) may)
 
   -- one that this run kept comes before all of the last run
-  pub over_kept : (f : Found) → f.next ≤ most → PassedAmong ask call below kept_place reuse.kept.records.items from (Some f)
+  pub over_kept : (f : Found) → length reuse.last.now.records.items ≤ most → f.next ≤ most → PassedAmong ask call below kept_place reuse.kept.records.items from (Some f)
       → PassedOver ask call below reuse from (Some f)
-  over_kept f le passed at r (InKept s) after before may = kept_so (Some f) passed at r s.turn s.here s.stands after before may
-  over_kept f le passed at r (InLast s) after before may =
+  over_kept f few le passed at r (InKept s) after before may = kept_so (Some f) passed at r s.turn s.here s.stands after before may
+  over_kept f few le passed at r (InLast s) after before may =
       let lt = within reuse.last.now.records.items s.turn s.here.handle s.here.here in
-      absurd (omega (arith, lt, at_most reuse.last.now.records, s.stands, before, le))
+      absurd (omega (arith, lt, few, s.stands, before, le))
 
   pub over_last : (o : Option Found) → PassedAmong ask call below kept_place reuse.kept.records.items from None
       → PassedAmong ask call below last_place reuse.last.now.records.items from o → PassedOver ask call below reuse from o

@@ -60,16 +60,16 @@ said_so ask spared rs ts turn levels call t w v here at read room of spares all 
 
 -- the same by what is read of the last run's records and trees at that turn
 pub tree_said : (ask : Question NodeRef → Answer NodeRef) (spared : Spared) (pool : Pool) (turn levels : ℕ) (call : Call NodeRef)
-    (w copy : Rc Summary Global) (r : Rc Record Global) → turn < length pool.records.items
+    (w copy : Rc Summary Global) (r : Rc Record Global) → length pool.trees.items ≡ length pool.records.items → turn < length pool.records.items
     → IfSome (slice_get pool.trees.items turn) (λ t. t.whole ≡ Some w) → copy.value ≡ w.value → suc w.value.levels ≤ levels
     → ((question : Question NodeRef) → Covers w.value.named question → IsSparedBy spared question) → IsOf call (kept_in r.value)
     → r.value ≡ (get_or pool.records.items turn r).value → AreTrees (values_of pool.records.items) pool.trees.items
     → AllSpared ask spared pool.records.items
     → IsSaidAt ask (values_of pool.records.items) pool.trees.items turn call levels copy.value r.value
-tree_said ask spared pool turn levels call w copy r within tree same room spares of is trees all =
+tree_said ask spared pool turn levels call w copy r paired within tree same room spares of is trees all =
     let rs = pool.records.items in
     let ts = pool.trees.items in
-    let t = there ts turn (omega (arith, within, pool.paired)) in
+    let t = there ts turn (omega (arith, within, paired)) in
     let whole : t.item.whole ≡ Some w = at_item (λ (x : Tree). x.whole ≡ Some w) (slice_get ts turn) t.item t.here tree in
     let here : slice_get (values_of rs) turn ≡ Some r.value =
     values_at rs turn (get_or rs turn r) (slice_get-get_or rs turn r within) ∙ ap (λ (x : Record). Some x) (sym is) in

@@ -1,5 +1,5 @@
 -- Where records stand in a search, and that they stay there.
-use Rattle.std.proofs.Common.{◌≡◌, ℕ, zero, suc, ◌<◌, List, [], ◌∷◌, ◌++◌, slice_get, Some, Bor, sym, ap, subst, ◌∙◌, arith}
+use Rattle.std.proofs.Common.{length, ◌^◌, ◌+◌, ◌≤◌, ◌≡◌, ℕ, zero, suc, ◌<◌, List, [], ◌∷◌, ◌++◌, slice_get, Some, Bor, sym, ap, subst, ◌∙◌, arith}
 use Rattle.std.specs.declared.rc.Rc.{Rc}
 use Rattle.std.specs.declared.alloc.Global.{Global}
 use Rattle.xt_record.specs.View.{IsAt}
@@ -20,12 +20,12 @@ one_at rs t u one other h k e =
     let same = some_is (sym h.here ∙ ap (λ n. slice_get rs n) e ∙ k.here) in
     sym h.is ∙ ap (λ (x : Rc Record Global). x.value) same ∙ k.is
 
-module _ (reuse : Reuse) where
+module _ (reuse : Reuse) (few : length reuse.last.now.records.items ≤ 2 ^ 62 + 64) where
   kept_below : (t : ℕ) (r : Record) → IsAt reuse.kept.records.items t r → t < most
   kept_below t r h = omega (arith, within reuse.kept.records.items t h.handle h.here, at_most reuse.kept.records)
 
   last_below : (t : ℕ) (r : Record) → IsAt reuse.last.now.records.items t r → t < most
-  last_below t r h = omega (arith, within reuse.last.now.records.items t h.handle h.here, at_most reuse.last.now.records)
+  last_below t r h = omega (arith, within reuse.last.now.records.items t h.handle h.here, few)
 
   pub stands_above : (at : ℕ) (r : Record) → Stands reuse at r → 0 < at
   stands_above at r (InKept s) = omega (arith, kept_below s.turn r s.here, s.stands)

@@ -2,15 +2,16 @@
 --     marked_in   those that changes mark among what was done
 --     marked_of   those of all that a run kept
 --     marked_left those of the records that were not judged yet
+--     NoneMarked  where none is marked of those that are asked of the source or of a parameter alone
 --     Asks        what asking some of them counts
 --     Judges      what a run that judges records leaves as it was
 --     StaysSo     what it leaves as it was where it does not even that
-use Rattle.std.specs.Prelude.{◌≡◌, ℕ, ◌+◌, ◌≤◌, Bool, true, false, List, [], ◌∷◌}
+use Rattle.std.specs.Prelude.{◌≡◌, ℕ, ◌+◌, ◌≤◌, Bool, true, false, List, [], ◌∷◌, None}
 use Rattle.std.specs.declared.rc.Rc.{Rc}
 use Rattle.std.specs.declared.alloc.Global.{Global}
 use Rattle.spec_run.specs.Going.{Event, Asked, Saw, Entered, Held}
 use Rattle.spec_node.specs.declared.node_ref.NodeRef.{NodeRef}
-use Rattle.spec_touch.specs.Marks.{WorldChange, any_marks}
+use Rattle.spec_touch.specs.Marks.{WorldChange, any_marks, by_modules}
 use Rattle.xt_record.specs.View.{kept_in}
 use Rattle.xt_record.specs.declared.pool.Pool.{Pool}
 use Rattle.xt_record.specs.declared.record.Record.{Record}
@@ -47,6 +48,29 @@ marked_left changes (v ∷ vs) [] = 0
 marked_left changes (Unasked ∷ vs) (r ∷ rs) = marked_in changes (kept_in r.value).trace + marked_left changes vs rs
 marked_left changes (Holds ∷ vs) (r ∷ rs) = marked_left changes vs rs
 marked_left changes (Fails ∷ vs) (r ∷ rs) = marked_left changes vs rs
+
+-- ---- Questions that no change of modules marks
+
+-- none of them among what was done is marked
+abbrev pub NoneMarked : List WorldChange → List (Event NodeRef) → Type 0
+NoneMarked changes [] = Unit {0}
+NoneMarked changes (Asked question answer ∷ es) = (by_modules [] None question ≡ false → any_marks changes question ≡ false) × NoneMarked changes es
+NoneMarked changes (Saw wanted depth place supplied ∷ es) = NoneMarked changes es
+NoneMarked changes (Entered call depth ∷ es) = NoneMarked changes es
+NoneMarked changes (Held first contents ∷ es) = NoneMarked changes es
+
+-- nor of each of these records
+abbrev pub NoneMarkedAmong : List WorldChange → List (Rc Record Global) → Type 0
+NoneMarkedAmong changes [] = Unit {0}
+NoneMarkedAmong changes (r ∷ rs) = NoneMarked changes (kept_in r.value).trace × NoneMarkedAmong changes rs
+
+-- nor of each of those that were judged
+abbrev pub NoneMarkedJudged : List WorldChange → List Verdict → List (Rc Record Global) → Type 0
+NoneMarkedJudged changes [] rs = Unit {0}
+NoneMarkedJudged changes (v ∷ vs) [] = Unit {0}
+NoneMarkedJudged changes (Unasked ∷ vs) (r ∷ rs) = NoneMarkedJudged changes vs rs
+NoneMarkedJudged changes (Holds ∷ vs) (r ∷ rs) = NoneMarked changes (kept_in r.value).trace × NoneMarkedJudged changes vs rs
+NoneMarkedJudged changes (Fails ∷ vs) (r ∷ rs) = NoneMarked changes (kept_in r.value).trace × NoneMarkedJudged changes vs rs
 
 -- ---- What was asked in between
 

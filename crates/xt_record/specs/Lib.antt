@@ -2,6 +2,8 @@ pub mod Kept
 pub mod View
 pub mod Names
 pub mod Chain
+pub mod Listed
+pub mod Pieced
 pub mod Grown
 pub mod Taken
 pub mod Reached

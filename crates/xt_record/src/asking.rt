@@ -1,10 +1,10 @@
 // Whether what was asked has its answers.
-ghost use Rattle.std.specs.Prelude.{◌≡◌, ◌∷◌, [], IfOk, map};
+ghost use Rattle.std.specs.Prelude.{◌≡◌, ◌<◌, ◌∷◌, [], false, IfOk, map};
 ghost use Rattle.std.specs.Bool.{Decides};
 ghost use Rattle.xt_questions.specs.View.{answer_of, question_of};
 ghost use Rattle.xt_engine.specs.View.{event_of};
 ghost use Rattle.xt_record.specs.View.{AsksHold};
-ghost use Rattle.xt_record.specs.Asked.{Asks};
+ghost use Rattle.xt_record.specs.Asked.{Asks, NoneMarked};
 ghost use Rattle.xt_record.specs.Sure.{AsksSpared};
 ghost use Rattle.xt_touch.specs.View.{since_of};
 
@@ -27,6 +27,7 @@ pub(crate) fn asks_hold<W: World>(
     requires spared { AsksSpared (W.state world.now).truth spared.now (map event_of events.now) }
     ensures holds { IfOk result (λ b. Decides b (AsksHold (W.state world.old).truth (map event_of events.now))) }
     ensures steps { Asks (since_of spared.now.since.now) (map event_of events.now) steps.old steps.new }
+    ensures quiet { IfOk result (λ b. steps.new.asked ≡ 0 → NoneMarked (since_of spared.now.since.now) (map event_of events.now)) }
     ensures truth { (W.state world.new).truth ≡ (W.state world.old).truth }
     ensures name { W.name world.new ≡ W.name world.old }
 {
@@ -49,6 +50,8 @@ fn asks_so<W: World>(
     requires spared { AsksSpared (W.state world.now).truth spared.now (event_of event.now ∷ []) }
     ensures holds { IfOk result (λ b. Decides b (AsksHold (W.state world.old).truth (event_of event.now ∷ []))) }
     ensures steps { Asks (since_of spared.now.since.now) (event_of event.now ∷ []) steps.old steps.new }
+    ensures quiet { IfOk result (λ b. steps.new.asked ≡ 0 → NoneMarked (since_of spared.now.since.now) (event_of event.now ∷ [])) }
+    ensures fails { IfOk result (λ b. b ≡ false → 0 < steps.new.asked) }
     ensures truth { (W.state world.new).truth ≡ (W.state world.old).truth }
     ensures name { W.name world.new ≡ W.name world.old }
 {

@@ -41,7 +41,7 @@ impl Pool {
     {
         let size = self.count().saturating_sub(mark) + 1;
         let whole = self.whole_behind(alloc, &kept, mark)?;
-        self.add(kept, Tree { size, whole })
+        self.add(alloc, kept, Tree { size, whole })
     }
 
     // What a record says by itself with those that stand from this place on, where it does.

@@ -13,7 +13,9 @@
 #![tactic(auto)]
 
 mod asking;
+mod block;
 mod calls;
+mod entry;
 mod filling;
 mod frames;
 mod growing;
@@ -21,6 +23,8 @@ mod index;
 mod keeping;
 mod key;
 mod matching;
+mod piece;
+mod pieces;
 mod places;
 mod pool;
 mod reach;

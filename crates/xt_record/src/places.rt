@@ -15,6 +15,7 @@ pub fn a_record_stands(before: &Reuse<'_>, after: &Reuse<'_>)
     ensures judged { Judges before.now after.now → StandOn before.now after.now }
     ensures kept { (more : List (Rc Record Global)) → after.now.last ≡ before.now.last → after.now.kept.records.items ≡ before.now.kept.records.items ++ more → StandOn before.now after.now }
 {
-    let _ = before;
+    // No list is so long that a place is 0.
+    let _ = before.last.count();
     let _ = after;
 }

@@ -1,29 +1,50 @@
 // What a run keeps.
-ghost use Rattle.std.specs.Bool.{Decides};
-ghost use Rattle.std.specs.Prelude.{◌≡◌, ℕ, ◌<◌, ◌≤◌, ◌+◌, ◌-◌, ◌++◌, ◌∷◌, [], suc, length, get_or, slice_get, IfOk, IfSome, IfNone, OnOk, Some};
+ghost use Rattle.std.specs.Prelude.{◌≡◌, ℕ, ◌<◌, ◌≤◌, ◌+◌, ◌-◌, ◌^◌, ◌++◌, ◌∷◌, [], suc, length, get_or, slice_get, IfOk, IfSome, IfNone, OnOk, Some};
 ghost use Rattle.spec_reuse.specs.Serving.{IsOf};
 ghost use Rattle.xt_engine.specs.View.{call_of};
 ghost use Rattle.xt_record.specs.View.{kept_in, DoesNotSuit};
-ghost use Rattle.xt_record.specs.Chain.{key_in, key_of, keys_in, IsLatest};
+ghost use Rattle.xt_record.specs.Chain.{key_of, keys_in, IsLatest};
+ghost use Rattle.xt_record.specs.Listed.{records_in, trees_in};
+ghost use Rattle.xt_record.specs.Taken.{IsPartOf};
 
 use crate::Record;
-use crate::key::{Key, key_of};
+use crate::block::latest_in;
+use crate::entry::Entry;
+use crate::key::key_of;
 use crate::matching::is_of;
+use crate::piece::Piece;
+use crate::pieces::{FULL, Pieces};
 use crate::tree::{Summary, Tree};
 use std::alloc::Global;
+use std::marker::Model;
+use std::mem;
 use std::rc::Rc;
 use xt_engine::Call;
 use xt_text::Memory;
 
-/// The records that a run keeps, each behind those of what its call entered.
+/// The records that a run keeps, each behind those of what its call entered. What is taken over from another run is shared
+/// with it, block by block.
 #[derive(Drop)]
 pub struct Pool {
-    pub(crate) records: Vec<Rc<Record>>,
-    // The numbers by which each is found, and its tree.
-    keys: Vec<Key>,
-    pub(crate) trees: Vec<Tree>,
-    ghost keyed: { ∥ keys.items ≡ keys_in records.items ∥₁ },
-    ghost paired: { length trees.items ≡ length records.items },
+    pieces: Pieces,
+    // Those behind all pieces.
+    loose: Vec<Entry>,
+}
+
+impl Model for Pool {
+    ghost use Rattle.std.specs.Prelude.{◌≤◌, ◌++◌, length};
+    ghost use Rattle.std.specs.Coded.{codes};
+    ghost use Rattle.xt_record.specs.Listed.{Listed, listed};
+    ghost use Rattle.xt_record.specs.contracts.record.Record as record_row;
+    ghost use Rattle.xt_record.specs.contracts.tree.Tree as tree_row;
+
+    ghost Value = { Listed };
+
+    ghost coded = { Prim.hlevel (codes, record_row.the_row.coded, tree_row.the_row.coded) };
+
+    ghost view = { λ p. listed (p.pieces ++ p.loose.items) };
+
+    ghost invariant = { λ p. length p.loose.items ≤ 64 };
 }
 
 impl Pool {
@@ -33,60 +54,71 @@ impl Pool {
         ensures trees { result.trees.items ≡ [] }
     {
         Pool {
-            records: Vec::new(alloc),
-            keys: Vec::new(alloc),
-            trees: Vec::new(alloc),
+            pieces: Pieces::new(alloc),
+            loose: Vec::new(alloc),
         }
     }
 
-    /// The records, in the order in which they were kept.
-    pub fn records(&self) -> &[Rc<Record>]
-        ensures { result.now ≡ self.now.records.items }
-    {
-        self.records.as_slice()
-    }
-
     /// How many records there are.
-    pub(crate) fn count(&self) -> usize
-        ensures { result ≡ length self.now.records.items }
+    pub fn count(&self) -> usize
+        ensures records { result ≡ length self.now.records.items }
+        ensures trees { result ≡ length self.now.trees.items }
+        ensures few { result ≤ 2 ^ 62 + 64 }
     {
-        self.records.len()
-    }
-
-    /// Makes room for so many records more.
-    pub(crate) fn reserve(&mut self, count: usize) -> Result<(), Memory>
-        ensures records { self.new.records.items ≡ self.old.records.items }
-        ensures trees { self.new.trees.items ≡ self.old.trees.items }
-    {
-        self.records.reserve(count)?;
-        self.keys.reserve(count)?;
-        self.trees.reserve(count)?;
-        Ok(())
+        self.pieces.count() + self.loose.len()
     }
 
     /// Adds a record with its tree.
-    pub(crate) fn add(&mut self, kept: Rc<Record>, tree: Tree) -> Result<(), Memory>
+    pub(crate) fn add(&mut self, alloc: Global, kept: Rc<Record>, tree: Tree) -> Result<(), Memory>
         ensures records { OnOk result (self.new.records.items ≡ self.old.records.items ++ kept ∷ []) }
         ensures trees { OnOk result (self.new.trees.items ≡ self.old.trees.items ++ tree ∷ []) }
     {
         let key = key_of(&kept.call);
-        self.add_known(kept, key, tree)
+        let entry = Entry {
+            record: kept,
+            key,
+            tree,
+        };
+        self.push(alloc, entry)
     }
 
-    /// The same, where its key is known.
-    pub(crate) fn add_known(&mut self, kept: Rc<Record>, key: Key, tree: Tree) -> Result<(), Memory>
-        requires { ∥ key ≡ key_in kept.value ∥₁ }
-        ensures records { OnOk result (self.new.records.items ≡ self.old.records.items ++ kept ∷ []) }
-        ensures trees { OnOk result (self.new.trees.items ≡ self.old.trees.items ++ tree ∷ []) }
+    /// The same, as it is kept.
+    pub(crate) fn push(&mut self, alloc: Global, entry: Entry) -> Result<(), Memory>
+        ensures records { OnOk result (self.new.records.items ≡ self.old.records.items ++ entry.record ∷ []) }
+        ensures trees { OnOk result (self.new.trees.items ≡ self.old.trees.items ++ entry.tree ∷ []) }
+        ensures paired { OnOk result (length self.old.trees.items ≡ length self.old.records.items) }
     {
-        // What can fail comes first, so that all go in step.
-        self.records.reserve(1)?;
-        self.keys.reserve(1)?;
-        self.trees.reserve(1)?;
-        self.keys.push(key).unwrap();
-        self.trees.push(tree).unwrap();
-        self.records.push(kept).unwrap();
+        make_room(alloc, &mut self.pieces, &mut self.loose)?;
+        self.loose.push(entry)?;
         Ok(())
+    }
+
+    /// Adds all of a piece.
+    pub(crate) fn share(&mut self, alloc: Global, piece: Piece) -> Result<(), Memory>
+        ensures records { OnOk result (self.new.records.items ≡ self.old.records.items ++ records_in piece) }
+        ensures trees { OnOk result (self.new.trees.items ≡ self.old.trees.items ++ trees_in piece) }
+        ensures paired { OnOk result (length self.old.trees.items ≡ length self.old.records.items) }
+    {
+        seal(alloc, &mut self.pieces, &mut self.loose)?;
+        self.pieces.push(piece)
+    }
+
+    /// What can be shared from this turn on, up to the end, of a tree whose first record is at the first turn.
+    pub(crate) fn part(
+        &self,
+        first: usize,
+        turn: usize,
+        end: usize,
+    ) -> Result<Option<Piece>, Memory>
+        requires first { first ≤ turn }
+        requires turn { turn < end }
+        ensures part { IfOk result (λ o. IfSome o (IsPartOf first turn end self.now)) }
+        ensures paired { length self.now.trees.items ≡ length self.now.records.items }
+    {
+        if turn >= self.pieces.count() {
+            return Ok(None);
+        }
+        self.pieces.part(turn, end - turn, turn - first)
     }
 
     /// The turn of the latest record before this turn that has the key of this call. It goes over all behind it.
@@ -95,42 +127,31 @@ impl Pool {
         ensures latest { ∥ IsLatest (keys_in self.now.records.items) (key_of (call_of call.now)) turn result ∥₁ }
     {
         let key = key_of(call);
-        let mut end = nearer(turn, self.keys.len());
-        while end > 0 {
-            let at = end - 1;
-            if self.has_key(at, key) {
-                return Some(at);
-            }
-            end = at;
+        let count = self.pieces.count();
+        if let Some(at) = latest_in(self.loose.as_slice(), key, turn.saturating_sub(count)) {
+            return Some(count + at);
         }
-        None
-    }
-
-    // Whether the record at this turn has this key.
-    fn has_key(&self, turn: usize, key: Key) -> bool
-        requires { turn < length self.now.keys.items }
-        ensures { Decides result (slice_get self.now.keys.items turn ≡ Some key) }
-    {
-        self.keys[turn] == key
+        self.pieces.latest_before(key, turn)
     }
 
     /// Whether the record at this turn has the key of this call.
     pub(crate) fn is_at(&self, turn: usize, call: &Call) -> bool {
-        if turn >= self.keys.len() {
+        if turn >= self.count() {
             return false;
         }
-        self.has_key(turn, key_of(call))
+        self.entry_at(turn).key == key_of(call)
     }
 
     /// What the tree of the record at this turn says, where it says all by itself.
     pub(crate) fn whole_at(&self, turn: usize) -> Option<&Rc<Summary>>
         ensures within { IfSome result (λ w. turn < length self.now.records.items) }
         ensures tree { IfSome result (λ w. IfSome (slice_get self.now.trees.items turn) (λ t. t.whole ≡ Some w.now)) }
+        ensures paired { length self.now.trees.items ≡ length self.now.records.items }
     {
-        if turn >= self.trees.len() {
+        if turn >= self.count() {
             return None;
         }
-        self.trees[turn].whole.as_ref()
+        self.entry_at(turn).tree.whole.as_ref()
     }
 
     /// The record at this turn, where it is of the call and there are the levels for it.
@@ -145,12 +166,13 @@ impl Pool {
         ensures levels { IfOk result (λ o. IfSome o (λ r. r.value.ran.height ≤ below)) }
         ensures within { IfOk result (λ o. IfSome o (λ r. turn < length self.now.records.items)) }
         ensures at { IfOk result (λ o. IfSome o (λ r. r.value ≡ (get_or self.now.records.items turn r).value)) }
+        ensures paired { length self.now.trees.items ≡ length self.now.records.items }
         ensures passes { IfOk result (λ o. IfNone o (DoesNotSuit (call_of call.now) below self.now.records.items turn)) }
     {
-        if turn >= self.records.len() {
+        if turn >= self.count() {
             return Ok(None);
         }
-        let record = &self.records[turn];
+        let record = self.record_at(turn);
         if record.ran.height > below {
             return Ok(None);
         }
@@ -161,32 +183,38 @@ impl Pool {
     }
 
     /// The record at this turn.
-    pub(crate) fn record_at(&self, turn: usize) -> &Rc<Record>
+    pub fn record_at(&self, turn: usize) -> &Rc<Record>
         requires { turn < length self.now.records.items }
         ensures { slice_get self.now.records.items turn ≡ Some result.now }
     {
-        &self.records[turn]
-    }
-
-    /// Its key.
-    pub(crate) fn key_at(&self, turn: usize) -> Key
-        requires { turn < length self.now.records.items }
-        ensures { ∥ slice_get (keys_in self.now.records.items) turn ≡ Some result ∥₁ }
-    {
-        self.keys[turn]
+        &self.entry_at(turn).record
     }
 
     /// Its tree.
     pub(crate) fn tree_at(&self, turn: usize) -> &Tree
-        requires { turn < length self.now.trees.items }
+        requires { turn < length self.now.records.items }
         ensures { slice_get self.now.trees.items turn ≡ Some result.now }
     {
-        &self.trees[turn]
+        &self.entry_at(turn).tree
+    }
+
+    /// All that is kept of it.
+    pub(crate) fn entry_at(&self, turn: usize) -> &Entry
+        requires { turn < length self.now.records.items }
+        ensures record { slice_get self.now.records.items turn ≡ Some result.now.record }
+        ensures tree { slice_get self.now.trees.items turn ≡ Some result.now.tree }
+        ensures room { turn < 2 ^ 64 - 1 }
+    {
+        let count = self.pieces.count();
+        if turn < count {
+            return self.pieces.entry_at(turn);
+        }
+        &self.loose[turn - count]
     }
 
     /// The turns of what was entered by the call of the record at this turn, the first at the end.
     pub(crate) fn turns_below(&self, alloc: Global, turn: usize) -> Result<Vec<usize>, Memory> {
-        if turn >= self.trees.len() {
+        if turn >= self.count() {
             return Ok(Vec::new(alloc));
         }
         self.turns_between(alloc, self.first_of(turn), turn)
@@ -194,13 +222,13 @@ impl Pool {
 
     /// The turns of what no other entered, the first at the end.
     pub(crate) fn turns_of_all(&self, alloc: Global) -> Result<Vec<usize>, Memory> {
-        self.turns_between(alloc, 0, self.trees.len())
+        self.turns_between(alloc, 0, self.count())
     }
 
     // Those of the trees that stand side by side from the first turn up to the end.
     fn turns_between(&self, alloc: Global, first: usize, end: usize) -> Result<Vec<usize>, Memory> {
         let mut turns = Vec::new(alloc);
-        let mut end = end.min(self.trees.len());
+        let mut end = end.min(self.count());
         while end > first {
             let turn = end - 1;
             turns.push(turn)?;
@@ -211,20 +239,40 @@ impl Pool {
 
     /// The turn of the first record of the tree at this turn.
     pub(crate) fn first_of(&self, turn: usize) -> usize
-        requires { turn < length self.now.trees.items }
+        requires { turn < length self.now.records.items }
         ensures within { result ≤ turn }
         ensures first { IfSome (slice_get self.now.trees.items turn) (λ t. 0 < t.size → result ≡ suc turn - t.size) }
+        ensures room { turn < 2 ^ 64 - 1 }
     {
-        let size = self.trees[turn].size;
+        let size = self.entry_at(turn).tree.size;
         (turn + 1).saturating_sub(size).min(turn)
     }
 }
 
-// The turn, or the count where it is less.
-fn nearer(turn: usize, count: usize) -> usize
-    ensures turn { result ≤ turn }
-    ensures count { result ≤ count }
-    ensures behind { (t : ℕ) → result ≤ t → t < turn → count ≤ t }
+// Puts those that are loose into a piece of their own, where they are as many as a full one has.
+fn make_room(alloc: Global, pieces: &mut Pieces, loose: &mut Vec<Entry>) -> Result<(), Memory>
+    ensures same { OnOk result (pieces.new ++ loose.new.items ≡ pieces.old ++ loose.old.items) }
+    ensures room { OnOk result (length loose.new.items < 64) }
+    ensures fewer { length loose.new.items ≤ length loose.old.items }
 {
-    if turn < count { turn } else { count }
+    if loose.len() < FULL {
+        return Ok(());
+    }
+    seal(alloc, pieces, loose)
+}
+
+// Puts those that are loose into a piece of their own.
+fn seal(alloc: Global, pieces: &mut Pieces, loose: &mut Vec<Entry>) -> Result<(), Memory>
+    ensures pieces { OnOk result (pieces.new ≡ pieces.old ++ loose.old.items) }
+    ensures loose { OnOk result (loose.new.items ≡ []) }
+    ensures fewer { length loose.new.items ≤ length loose.old.items }
+{
+    if loose.is_empty() {
+        return Ok(());
+    }
+    let mut entries = mem::replace(loose, Vec::new(alloc));
+    // They stay, so they hold no room for more.
+    entries.shrink_to_fit();
+    let piece = Piece::of(alloc, entries)?;
+    pieces.push(piece)
 }

@@ -1,13 +1,14 @@
 // What a run may reuse.
-ghost use Rattle.std.specs.Prelude.{◌≡◌, ◌<◌, ◌≤◌, ◌+◌, ◌++◌, ◌∷◌, [], true, length, get_or, slice_get, min, suc, IfOk, IfSome, IfNone, OnOk, Some};
+ghost use Rattle.std.specs.Prelude.{◌≡◌, ◌<◌, ◌≤◌, ◌+◌, ◌++◌, ◌∷◌, [], true, false, drop, length, get_or, slice_get, min, suc, IfOk, IfSome, IfNone, OnOk, Some};
 ghost use Rattle.std.specs.Bool.{Decides};
 ghost use Rattle.spec_meaning.specs.Question.{Question, Answer};
 ghost use Rattle.spec_node.specs.declared.node_ref.NodeRef.{NodeRef};
 ghost use Rattle.xt_engine.specs.View.{call_of};
 ghost use Rattle.xt_record.specs.View.{AsksHold, DoesNotServe, DoesNotSuit, IsAt, MayServe, kept_in};
-ghost use Rattle.xt_record.specs.Asked.{Judges, marked_of, StaysSo};
+ghost use Rattle.spec_touch.specs.Marks.{any_marks};
+ghost use Rattle.xt_record.specs.Asked.{Judges, NoneMarked, NoneMarkedAmong, marked_of, StaysSo};
 ghost use Rattle.xt_record.specs.Chain.{key_of, keys_in, IsLatest};
-ghost use Rattle.xt_record.specs.Grown.{values_of, IsSaidAt, IsTakenOver};
+ghost use Rattle.xt_record.specs.Grown.{values_of, AreTrees, IsSaidAt, IsTakenOver};
 ghost use Rattle.xt_record.specs.Sure.{AreAnswered, IsSure, verdict_of};
 ghost use Rattle.xt_record.specs.Search.{PassedAmong, PassedOver, Stands, StandsAmong, kept_place, last_place, most, next_of};
 ghost use Rattle.xt_record.specs.declared.reuse.Verdict.TheVariants as Verdict;
@@ -70,7 +71,7 @@ pub struct Said {
 /// a call, and counts what it does.
 #[derive(Drop)]
 pub struct Reuse<'a> {
-    last: &'a Pool,
+    pub(crate) last: &'a Pool,
     // Which questions need not be asked again, by what changed since. The others may have other answers now.
     spared: &'a Spared<'a>,
     // One for each record of the last run.
@@ -281,7 +282,7 @@ impl<'a> Reuse<'a> {
         if self.in_order.is_some() {
             return Ok(());
         }
-        self.in_order = Some(index_of(alloc, self.last.records())?);
+        self.in_order = Some(index_of(alloc, self.last)?);
         Ok(())
     }
 
@@ -326,6 +327,7 @@ impl<'a> Reuse<'a> {
         ensures sure { OnOk result (IsSure (W.state world.old).truth self.new) }
         ensures holds { IfOk result (λ b. Decides b (AsksHold (W.state world.old).truth (kept_in kept.now.value).trace)) }
         ensures judges { Judges self.old self.new }
+        ensures quiet { OnOk result (self.new.steps.asked ≡ 0 → NoneMarked (since_of self.old.spared.now.since.now) (kept_in kept.now.value).trace) }
         ensures truth { (W.state world.new).truth ≡ (W.state world.old).truth }
         ensures name { W.name world.new ≡ W.name world.old }
     {
@@ -408,7 +410,7 @@ impl<'a> Reuse<'a> {
         let Some(said) = self.tree_for(alloc, turn, call, levels)? else {
             return Ok(None);
         };
-        self.next.take_over(self.last, turn)?;
+        self.next.take_over(alloc, self.last, turn)?;
         let _ = self.frames.close(0);
         Ok(Some(said))
     }
@@ -449,7 +451,8 @@ impl<'a> Reuse<'a> {
 
     // Where it says so, no question of a tree need be asked.
     fn spares_all(&self, whole: &Rc<Summary>) -> bool
-        ensures { result ≡ true → (question : Question NodeRef) → Covers whole.now.value.named question → IsSparedBy self.now.spared.now question }
+        ensures spared { result ≡ true → (question : Question NodeRef) → Covers whole.now.value.named question → IsSparedBy self.now.spared.now question }
+        ensures unmarked { result ≡ true → (question : Question NodeRef) → Covers whole.now.value.named question → any_marks (since_of self.now.spared.now.since.now) question ≡ false }
     {
         self.spared.spares_all(&whole.named)
     }
@@ -479,6 +482,75 @@ impl<'a> Reuse<'a> {
                 whole: copy,
             })),
         }
+    }
+
+    /// Where nothing was run and no question asked again, goes over the records of the last run, from the end on, up to the
+    /// first of which a question is asked. So one is asked where any is marked that is asked of the source or of a parameter
+    /// alone: who sees that nothing was run sees whether the change was looked at. Trees of which no question need be asked are
+    /// passed over, so it mostly ends at once.
+    ///
+    /// # Errors
+    /// Want of memory.
+    pub fn ask_what_is_left<W: World>(&mut self, alloc: Global, world: &mut W) -> Result<(), Memory>
+        requires sure { IsSure (W.state world.now).truth self.now }
+        ensures sure { OnOk result (IsSure (W.state world.old).truth self.new) }
+        ensures judges { Judges self.old self.new }
+        ensures least { OnOk result (self.new.steps.ran ≡ 0 → self.new.steps.asked ≡ 0 → NoneMarkedAmong (since_of self.old.spared.now.since.now) self.old.last.now.records.items) }
+        ensures truth { (W.state world.new).truth ≡ (W.state world.old).truth }
+        ensures name { W.name world.new ≡ W.name world.old }
+    {
+        if self.steps.ran > 0 {
+            return Ok(());
+        }
+        let mut end = self.last.count();
+        while end > 0 {
+            if self.steps.asked > 0 {
+                return Ok(());
+            }
+            end = self.judge_at(alloc, world, end - 1)?;
+        }
+        Ok(())
+    }
+
+    // Judges the record at this turn of the last run, or passes over its tree. It is known of all from the answer on.
+    fn judge_at<W: World>(
+        &mut self,
+        alloc: Global,
+        world: &mut W,
+        turn: usize,
+    ) -> Result<usize, Memory>
+        requires sure { IsSure (W.state world.now).truth self.now }
+        requires within { turn < length self.now.last.now.records.items }
+        ensures sure { OnOk result (IsSure (W.state world.old).truth self.new) }
+        ensures judges { Judges self.old self.new }
+        ensures before { IfOk result (λ n. n ≤ turn) }
+        ensures quiet { IfOk result (λ n. self.new.steps.asked ≡ 0
+            → NoneMarkedAmong (since_of self.old.spared.now.since.now) (drop (suc turn) self.old.last.now.records.items)
+            → NoneMarkedAmong (since_of self.old.spared.now.since.now) (drop n self.old.last.now.records.items)) }
+        ensures truth { (W.state world.new).truth ≡ (W.state world.old).truth }
+        ensures name { W.name world.new ≡ W.name world.old }
+    {
+        if let Some(first) = self.spared_from(turn) {
+            return Ok(first);
+        }
+        let last = self.last;
+        self.holds(alloc, world, turn, last.record_at(turn))?;
+        Ok(turn)
+    }
+
+    // The turn of the first record of the tree at this turn of the last run, where none of its questions need be asked.
+    fn spared_from(&self, turn: usize) -> Option<usize>
+        requires { turn < length self.now.last.now.records.items }
+        ensures before { IfSome result (λ n. n ≤ turn) }
+        ensures quiet { AreTrees (values_of self.now.last.now.records.items) self.now.last.now.trees.items → IfSome result (λ n.
+            NoneMarkedAmong (since_of self.now.spared.now.since.now) (drop (suc turn) self.now.last.now.records.items)
+            → NoneMarkedAmong (since_of self.now.spared.now.since.now) (drop n self.now.last.now.records.items)) }
+    {
+        let whole = self.last.whole_at(turn)?;
+        if !self.spares_all(whole) {
+            return None;
+        }
+        Some(self.last.first_of(turn))
     }
 
     /// Counts an instantiation that is run.
@@ -545,13 +617,13 @@ fn turn_of(found: &Option<Found>) -> Option<usize> {
     }
 }
 
-// These records, in order by their calls.
-fn index_of(alloc: Global, records: &[Rc<Record>]) -> Result<Index, Memory>
-    ensures { IfOk result (λ index. keys_in index.records.items ≡ keys_in records.now) }
+// What a run kept, in order by their calls.
+fn index_of(alloc: Global, pool: &Pool) -> Result<Index, Memory>
+    ensures { IfOk result (λ index. keys_in index.records.items ≡ keys_in pool.now.records.items) }
 {
     let mut index = Index::new(alloc);
-    for kept in records {
-        index.add(kept.clone()?)?;
+    for turn in 0..pool.count() {
+        index.add(pool.record_at(turn).clone()?)?;
     }
     Ok(index)
 }

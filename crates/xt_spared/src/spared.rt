@@ -1,10 +1,10 @@
 // What need not be asked again.
-ghost use Rattle.std.specs.Prelude.{◌≡◌, true, false, IfSome};
+ghost use Rattle.std.specs.Prelude.{◌≡◌, [], true, false, IfSome, None};
 ghost use Rattle.std.specs.List.{list_any};
 ghost use Rattle.spec_document.specs.Name.{same_name};
 ghost use Rattle.spec_meaning.specs.Question as asked;
 ghost use Rattle.spec_node.specs.declared.node_ref.NodeRef.{NodeRef as Node};
-ghost use Rattle.spec_touch.specs.Marks.{any_marks};
+ghost use Rattle.spec_touch.specs.Marks.{any_marks, by_modules};
 ghost use Rattle.xt_questions.specs.View.{question_of};
 ghost use Rattle.xt_touch.specs.Named.{Covers};
 ghost use Rattle.xt_touch.specs.View.{since_of};
@@ -53,9 +53,13 @@ impl<'a> Spared<'a> {
     pub fn spares(&self, question: &Question) -> bool
         ensures spared { result ≡ true → IsSparedBy self.now (question_of question.now) }
         ensures marked { result ≡ false → any_marks (since_of self.now.since.now) (question_of question.now) ≡ true }
+        ensures alone { result ≡ true → by_modules [] None (question_of question.now) ≡ false → any_marks (since_of self.now.since.now) (question_of question.now) ≡ false }
     {
         if self.stays(question) {
             return true;
+        }
+        if !is_choice(question) {
+            return false;
         }
         if self.own_choice(question).is_some() {
             return true;
@@ -65,7 +69,8 @@ impl<'a> Spared<'a> {
 
     /// Where it says so, no question of which this is what is named need be asked again. Takes no memory.
     pub fn spares_all(&self, named: &Named) -> bool
-        ensures { result ≡ true → (question : asked.Question Node) → Covers named.now question → IsSparedBy self.now question }
+        ensures spared { result ≡ true → (question : asked.Question Node) → Covers named.now question → IsSparedBy self.now question }
+        ensures unmarked { result ≡ true → (question : asked.Question Node) → Covers named.now question → any_marks (since_of self.now.since.now) question ≡ false }
     {
         self.since.spares_all(named)
     }
@@ -112,6 +117,16 @@ impl<'a> Spared<'a> {
         ensures { result ≡ stays (since_of self.now.since.now) self.now.keys.items (question_of question.now) }
     {
         !self.since.marks(question) || is_key_among(self.keys.as_slice(), question)
+    }
+}
+
+// Whether it asks for the choice of a rule. What does not was not found by what was asked for it.
+fn is_choice(question: &Question) -> bool
+    ensures { result ≡ true → by_modules [] None (question_of question.now) ≡ true }
+{
+    match question {
+        Question::Choice(_, _, _) => true,
+        _ => false,
     }
 }
 

@@ -1,11 +1,14 @@
 -- The walk over siblings: what is seen of those so far, of the next one, and of those behind it.
-use Rattle.std.proofs.Common.{◌≡◌, ℕ, ◌+◌, ◌<◌, ◌≤◌, List, [], ◌∷◌, ◌++◌, length, get_or, take, drop, Option, refl, sym, ap, ◌∙◌}
-use Rattle.std.proofs.lemmas.List.{at_drop_all, at_drop_more, take_all, take_more}
+use Rattle.std.proofs.Common.{◌≡◌, ℕ, ◌+◌, ◌<◌, ◌≤◌, List, [], ◌∷◌, ◌++◌, length, get_or, take, drop, Option, true, false, arith, refl, sym, ap, ◌∙◌}
+use Rattle.std.proofs.lemmas.Bool.{ltb-true, ltb-false}
+use Rattle.std.proofs.lemmas.List.{at_drop_all, at_drop_more, drop_all, take_all, take_more}
+use Rattle.std.specs.Prelude.{min, nat_lt}
 use Rattle.std.specs.Option.{unwrap_or}
 use Rattle.std.specs.declared.rc.Rc.{Rc}
 use Rattle.std.specs.declared.alloc.Global.{Global}
 use Rattle.spec_document.specs.Forest as spec
 use Rattle.spec_document.specs.Forest.{Forest, followed}
+use Rattle.spec_edit.specs.Splice.{sibling_count}
 use Rattle.spec_seen.specs.Seen.{Around, seen_among}
 use Rattle.spec_seen.specs.Seen as texts
 use Rattle.spec_seen.specs.Seen.{LosesTexts}
@@ -68,3 +71,18 @@ pub nodes_lost : {f g : Forest ℕ} → LosesTexts f g → LosesNodes f g
 nodes_lost texts.at_end = nodes.at_end
 nodes_lost (texts.loses h) = nodes.loses (nodes_lost h)
 nodes_lost (texts.keeps h k) = nodes.keeps (nodes_lost h) (nodes_lost k)
+
+-- an index past the last sibling is the one after it
+pub drop_min : (n : ℕ) (xs : List (Rc Node Global)) → drop (min n (length xs)) xs ≡ drop n xs
+drop_min n xs =
+    elim (nat_lt n (length xs)) as (λ b. nat_lt n (length xs) ≡ b → drop (min n (length xs)) xs ≡ drop n xs) [
+      | true ↦ λ e. let h = ltb-true n (length xs) e in let least : min n (length xs) ≡ n = omega arith in ap (λ m. drop m xs) least
+      | false ↦ λ e.
+          let h = ltb-false n (length xs) e in
+          let least : min n (length xs) ≡ length xs = omega arith in
+          ap (λ m. drop m xs) least ∙ drop_all (length xs) xs (omega arith) ∙ sym (drop_all n xs h)
+    ] refl
+
+pub count_length : (xs : List (Rc Node Global)) → sibling_count (forest_of xs) ≡ length xs
+count_length [] = refl
+count_length (x ∷ xs) = let rest = count_length xs in omega (arith, rest)

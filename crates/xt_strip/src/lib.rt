@@ -3,11 +3,19 @@
 //!
 //! ```text
 //! seen(alloc, &document, &rules)?    // the document without them; its nodes keep their numbers
+//! seen_edited(alloc, &rules, &edit, &before, &seen_before, &after)?    // the same after an edit, with no walk of the document
 //! ```
 #![tactic(auto)]
 
+mod along;
+mod copied;
+mod edited;
+mod place;
 mod rule;
+mod sighted;
 mod source;
 mod walk;
 
+pub use edited::seen_edited;
+pub use sighted::Sighted;
 pub use source::seen;

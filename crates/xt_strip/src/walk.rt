@@ -1,5 +1,6 @@
 // The walk over a document: what is seen of siblings, and of all below them.
 ghost use Rattle.std.specs.Prelude.{ℕ, ◌≡◌, ◌&&◌, ◌∷◌, [], IfOk, map, if◌then◌else◌};
+ghost use Rattle.std.specs.Bool.{Decides};
 ghost use Rattle.std.specs.Option.{unwrap_or};
 ghost use Rattle.std.specs.Str.{chars};
 ghost use Rattle.spec_document.specs.Forest as forest;
@@ -41,10 +42,19 @@ impl Around {
             strips: false,
         })
     }
+
+    /// Whether both are the same. Takes no memory.
+    pub(crate) fn same(&self, other: &Around) -> bool
+        ensures { Decides result (around_of self.now ≡ around_of other.now) }
+    {
+        self.scope.same(&other.scope)
+            && self.preserves == other.preserves
+            && self.strips == other.strips
+    }
 }
 
-// Below an element of this name with these attributes.
-fn around_in(
+/// Below an element of this name with these attributes.
+pub(crate) fn around_in(
     alloc: Global,
     rules: &[SpaceRule],
     outer: &Around,
@@ -92,7 +102,8 @@ fn text_seen(around: &Around, text: &Text) -> Sight
     }
 }
 
-fn is_stripped(around: &Around, text: &Text) -> bool
+/// Whether this text is stripped.
+pub(crate) fn is_stripped(around: &Around, text: &Text) -> bool
     ensures { result ≡ ((around_of around.now).strips && is_white text.now) }
 {
     around.strips && is_white(text)
@@ -199,7 +210,8 @@ fn begun(alloc: Global, seen: Option<Nodes>, siblings: &[Rc<Node>]) -> Result<No
     }
 }
 
-fn shared(alloc: Global, siblings: &[Rc<Node>]) -> Result<Nodes, Memory>
+/// Siblings, shared.
+pub(crate) fn shared(alloc: Global, siblings: &[Rc<Node>]) -> Result<Nodes, Memory>
     ensures { IfOk result (λ nodes. nodes ≡ forest_of siblings.now) }
 {
     let mut nodes = Nodes::new(alloc);

@@ -48,6 +48,7 @@ use Rattle.xt_driver.proofs.Along.{rest_from, rest_all, rest_none, done_to, done
 use Rattle.xt_driver.proofs.Regaining.{some_of, same_of, none_of, lost_refusal, regained_settles}
 use Rattle.xt_driver.proofs.Keeping.{done_kept}
 use Rattle.xt_driver.proofs.Tallying.{means_none, means_served, run_counted, served_ready, need_known, need_other}
+use Rattle.xt_driver.proofs.Places.{few_of}
 use Rattle.xt_driver.proofs.Trying.{Tried, tried_begun, tried_all, tried_next, tried_still, front_judged, answered, unserved, kept_none}
 use Rattle.xt_driver.proofs.Telling.{along_begun, along_whole, along_to, along_done, along_with, gone_as, counts_held, counts_other, counts_entered, counts_referred}
 use Rattle.xt_driver.proofs.Running.{Running, over_from, for_from, running_begun, running_entered, running_referred, running_done, running_failed, done_same, failed_same}
@@ -739,7 +740,7 @@ serve-loop-found-init g t c =
     let i = instance_of (call_of c.args.call.now) c.args.below (past_of c.args.globals.now) in
     record {
       keeps = keeps_all c.requires.remembers;
-      tried = λ h ready. tried_begun s i (hand_of c.args.reuse.now c.args.memo.now) ready;
+      tried = λ h ready. tried_begun s i (hand_of c.args.reuse.now c.args.memo.now) (few_of s.ask c.args.reuse.now c.requires.sure) ready;
       sure = c.requires.sure;
       truth = refl;
       name = refl;
@@ -822,7 +823,8 @@ serve-loop-found-preserved g t c =
           let t = inv.tried h ready in
           let ready_now = (front_judged s i begun now c.find.new.self from c.find.ensures.judges t).ready in
           let lost_so = unserved (λ v. OfRun s i mid (CountsFollowed v s i k mid later)) c.follow-served.result none followed h ready_now in
-          let next = tried_next s i begun now later c.find.new.self from found c.find.ensures.judges passed stands h t lost_so in
+          let next = tried_next s i begun now later c.find.new.self from found (few_of truth c.loop-found.reuse inv.sure) c.find.ensures.judges passed stands
+          h t lost_so in
           let still = tried_still s i begun later c.tried.new.reuse found.next next tells.last
           (kept_none c.follow-served.result later.reuse c.tried.new.reuse found none tells.kept) tells.steps in
           let F : ℕ → Type 0 = λ n. Tried s i begun (hand_of c.tried.new.reuse c.follow-served.new.memo) n in

@@ -21,7 +21,7 @@ returns-in-None-clause-spared c = λ parameters.
 pub returns-in-None-clause-told : goal.returns-in-None-clause-told
 returns-in-None-clause-told c = λ marks h.
     IfOk-weaker c.anything.result _ _ (λ next is.
-    anything_where marks _ (since_of next)
+    anything_where marks _ (since_of next) is
     (ap (λ (what : Option Compiled). edit_marks (known_of what) (edit_of c.args.edit.now) c.args.old.now c.args.new.now)
     (ap option_copied c.in-None.is))) c.anything.ensures
 
@@ -34,7 +34,7 @@ returns-in-Refused-clause-spared c = λ parameters.
 pub returns-in-Refused-clause-told : goal.returns-in-Refused-clause-told
 returns-in-Refused-clause-told c = λ marks h.
     IfOk-weaker c.anything-in-Refused.result _ _ (λ next is.
-    anything_where marks _ (since_of next)
+    anything_where marks _ (since_of next) is
     (ap (λ (what : Option Compiled). edit_marks (known_of what) (edit_of c.args.edit.now) c.args.old.now c.args.new.now)
     (ap option_copied c.in-Some.is ∙ ap Some c.in-Refused.is))) c.anything-in-Refused.ensures
 

@@ -21,7 +21,7 @@ returns-in-None-clause-spared c = λ parameters.
 pub returns-in-None-clause-told : goal.returns-in-None-clause-told
 returns-in-None-clause-told c = λ marks h.
     IfOk-weaker c.anything.result _ _ (λ next is.
-    anything_where marks _ (since_of next)
+    anything_where marks _ (since_of next) is
     (ap (λ (what : Option Compiled). move_marks (known_of what) c.args.path.now c.args.other.now c.args.old.now c.args.new.now)
     (ap option_copied c.in-None.is))) c.anything.ensures
 
@@ -34,7 +34,7 @@ returns-in-Refused-clause-spared c = λ parameters.
 pub returns-in-Refused-clause-told : goal.returns-in-Refused-clause-told
 returns-in-Refused-clause-told c = λ marks h.
     IfOk-weaker c.anything-in-Refused.result _ _ (λ next is.
-    anything_where marks _ (since_of next)
+    anything_where marks _ (since_of next) is
     (ap (λ (what : Option Compiled). move_marks (known_of what) c.args.path.now c.args.other.now c.args.old.now c.args.new.now)
     (ap option_copied c.in-Some.is ∙ ap Some c.in-Refused.is))) c.anything-in-Refused.ensures
 
@@ -47,7 +47,7 @@ returns-then-not-sees_all-clause-spared c = λ parameters.
 pub returns-then-not-sees_all-clause-told : goal.returns-then-not-sees_all-clause-told
 returns-then-not-sees_all-clause-told c = λ marks h.
     IfOk-weaker c.anything-then-not-sees_all.result _ _ (λ next is.
-    anything_where marks _ (since_of next)
+    anything_where marks _ (since_of next) is
     (ap (λ (what : Option Compiled). move_marks (known_of what) c.args.path.now c.args.other.now c.args.old.now c.args.new.now)
     (ap option_copied c.in-Some.is ∙ ap Some c.in-Stylesheet.is)
     ∙ move_where_some c.in-Stylesheet.space_rules c.args.path.now c.args.other.now c.args.old.now c.args.new.now

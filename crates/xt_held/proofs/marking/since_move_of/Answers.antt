@@ -22,7 +22,7 @@ returns-in-None-clause-spared c = λ rules method parameters all.
 pub returns-in-None-clause-told : goal.returns-in-None-clause-told
 returns-in-None-clause-told c = λ marks h.
     IfOk-weaker c.anything.result _ _ (λ next is.
-    no_move_told marks (move_change c.args.path.now c.args.other.now c.args.old.now c.args.new.now) (since_of next)
+    no_move_told marks (move_change c.args.path.now c.args.other.now c.args.old.now c.args.new.now) (since_of next) is
     (sym (ap (option_map move_change_in) c.in-None.is) ∙ c.in_ok-move_change_of.ensures)) c.anything.ensures
 
 pub returns-in-Ok-clause-spared : goal.returns-in-Ok-clause-spared

@@ -14,6 +14,7 @@ use Rattle.xt_held.specs.Cost.{CostsRun, setting_seen}
 use Rattle.xt_held.specs.declared.counts.Counts.{Counts}
 use Rattle.xt_held.proofs.Completing.{ended_keeps}
 use Rattle.xt_held.proofs.Costing.{came_cost}
+use Rattle.xt_held.proofs.Least.{came_least, none_least}
 use Rattle.xt_record.specs.Asked.{marked_of}
 use Rattle.xt_held.specs.OutcomeView.{no_counts}
 use Rattle.xt_held.proofs.outcome.transformed.Goals as goal
@@ -77,3 +78,11 @@ pub returns-in-Refused-clause-asked : goal.returns-in-Refused-clause-asked
 returns-in-Refused-clause-asked c =
     let Asked : Counts → Type 0 = λ counts. counts.asked ≤ marked_of (since_of c.args.since) c.args.last.now.records in
     came_cost Asked no_counts c.refused.result c.refused.ensures.counts (omega arith)
+
+pub returns-in-Ok-clause-least : goal.returns-in-Ok-clause-least
+returns-in-Ok-clause-least c =
+    came_least (since_of c.args.since) c.args.last.now.records c.in_ok-over-in-Stylesheet.over.counts c.ended.result c.ended.ensures.counts
+    c.in_ok-over-in-Stylesheet.ensures.least
+
+pub returns-in-Refused-clause-least : goal.returns-in-Refused-clause-least
+returns-in-Refused-clause-least c = none_least (since_of c.args.since) c.args.last.now.records c.refused.result c.refused.ensures.kept

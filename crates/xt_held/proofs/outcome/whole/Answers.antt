@@ -4,6 +4,7 @@ use Rattle.xt_world.specs.View.{truth_in}
 use Rattle.xt_held.proofs.Coming.{holds_so, whole_so}
 use Rattle.xt_touch.specs.View.{since_of}
 use Rattle.xt_held.specs.Cost.{Costs, setting_on}
+use Rattle.xt_held.specs.Marked.{AsksLeast}
 use Rattle.xt_held.specs.declared.counts.Counts.{Counts}
 use Rattle.xt_record.specs.Asked.{marked_of}
 use Rattle.xt_touch.specs.declared.since.Since.{Since}
@@ -44,6 +45,12 @@ returns-clause-asked c =
     let Asked : List WorldChange → Counts → Type 0 = λ changes counts. counts.asked ≤ marked_of changes c.args.last.now.records in
     over_counts (Asked (since_of c.args.since.now)) c.in-Ok.recorded c.with_own.result c.with_own.ensures.counts
     (subst (λ (since : Since). Asked (since_of since) c.in-Ok.recorded.counts) c.in_ok-prepared.ensures.since c.in-Ok.ensures.asked)
+
+pub returns-clause-least : goal.returns-clause-least
+returns-clause-least c =
+    let Least : List WorldChange → Counts → Type 0 = λ changes counts. AsksLeast changes c.args.last.now.records counts in
+    over_counts (Least (since_of c.args.since.now)) c.in-Ok.recorded c.with_own.result c.with_own.ensures.counts
+    (subst (λ (since : Since). Least (since_of since) c.in-Ok.recorded.counts) c.in_ok-prepared.ensures.since c.in-Ok.ensures.least)
 
 pub returns-clause-complete : goal.returns-clause-complete
 returns-clause-complete c =

@@ -1,10 +1,10 @@
 use Rattle.std.proofs.Common.{◌∙◌}
 use Rattle.xt_own.proofs.gathering.gather_from.Goals as goal
 
-pub loop-record-preserved : goal.loop-record-preserved
-loop-record-preserved c = record {
-  same = c.in_ok-gather_events.ensures.same ∙ c.loop-record.invariant.same;
+pub loop-turn-preserved : goal.loop-turn-preserved
+loop-turn-preserved c = record {
+  same = c.in_ok-gather_events.ensures.same ∙ c.loop-turn.invariant.same;
   decided = λ parameters document is carries are.
-      c.in_ok-gather_events.ensures.decided parameters document (c.loop-record.invariant.same ∙ is) carries
-      (c.loop-record.invariant.decided parameters document is carries are);
+      c.in_ok-gather_events.ensures.decided parameters document (c.loop-turn.invariant.same ∙ is) carries
+      (c.loop-turn.invariant.decided parameters document is carries are);
 }

@@ -49,4 +49,5 @@ returns-clause-keeps c =
 
 pub returns-clause-asks : goal.returns-clause-asks
 returns-clause-asks c = λ marks told.
-    came_asked marks (since_of c.args.since) c.args.self.now.last.kept.records c.outcome_of.result told c.outcome_of.ensures.asked c.outcome_of.ensures.since
+    came_asked marks (since_of c.args.since) c.args.self.now.last.kept.records c.outcome_of.result told c.outcome_of.ensures.asked
+    c.outcome_of.ensures.least c.outcome_of.ensures.since

@@ -56,13 +56,13 @@ pub returns-in-None-clause-told : goal.returns-in-None-clause-told
 returns-in-None-clause-told c = λ told is.
     let held = c.args.self.now in
     IfOk-weaker c.anything.result _ _ (λ next so.
-    none_told (known_in held) c.args.origin held.source c.in-None.is c.args.document.now told (since_of next)) c.anything.ensures
+    none_told (known_in held) c.args.origin held.source c.in-None.is c.args.document.now told (since_of next) so) c.anything.ensures
 
 pub returns-in-Given-clause-told : goal.returns-in-Given-clause-told
 returns-in-Given-clause-told c = λ told is.
     let held = c.args.self.now in
     IfOk-weaker c.anything-in-Given.result _ _ (λ next so.
-    given_told (known_in held) c.args.origin c.in-Given.is held.source c.args.document.now told (since_of next)) c.anything-in-Given.ensures
+    given_told (known_in held) c.args.origin c.in-Given.is held.source c.args.document.now told (since_of next) so) c.anything-in-Given.ensures
 
 pub returns-in-Edited-clause-told : goal.returns-in-Edited-clause-told
 returns-in-Edited-clause-told c = λ told is.

@@ -1,20 +1,39 @@
-use Rattle.std.proofs.Common.{◌-◌, None, Some, subst, arith}
+use Rattle.std.proofs.Common.{◌≡◌, ℕ, ◌+◌, ◌-◌, ◌++◌, Option, None, Some, List, refl, sym, ap, subst, arith}
 use Rattle.xt_record.specs.Chain.{keys_in, IsLatest}
+use Rattle.xt_record.specs.Listed.{Listed, keys_of}
+use Rattle.xt_record.specs.declared.entry.Entry.{Entry}
 use Rattle.xt_record.specs.declared.key.Key.{Key}
-use Rattle.xt_record.proofs.Chaining.{pass_found, pass_none}
+use Rattle.xt_record.proofs.Turns.{entries_behind, entries_front, latest_of}
 use Rattle.xt_record.proofs.pool.Pool.latest_before.Goals as goal
 
-pub returns-then-has_key-clause-latest : goal.returns-then-has_key-clause-latest
-returns-then-has_key-clause-latest c =
-    let self = c.args.self.now in
-    let end = c.loop-end.end in
-    let P : Key → Type 0 = λ q. ∥ IsLatest (keys_in self.records.items) q c.args.turn (Some (end - 1)) ∥₁ in
-    subst P c.key_of-key.ensures (pass_found self.records.items self.keys.items _ c.args.turn end (end - 1) self.keyed (omega arith)
-    (c.has_key.ensures.0 c.if-has_key.true) c.loop-end.invariant)
+pub returns-in-Some-clause-latest : goal.returns-in-Some-clause-latest
+returns-in-Some-clause-latest c =
+    let ps = c.self.inside.pieces in
+    let ls = c.self.inside.loose.items in
+    let rs = c.args.self.now.records.items in
+    let key = c.key_of-key.result in
+    let turn = c.args.turn in
+    let count = c.count-count.result in
+    let found : Option ℕ = Some (count + c.in-Some.at) in
+    let Of : Key → Type 0 = λ q. ∥ IsLatest (keys_in rs) q turn found ∥₁ in
+    let few : c.saturating_sub.result ≡ turn - count = omega (arith, c.saturating_sub.ensures) in
+    let here = subst (λ n. IsLatest (keys_of ls) key n (Some c.in-Some.at)) few
+    (subst (λ (es : List Entry). IsLatest (keys_of es) key c.saturating_sub.result (Some c.in-Some.at)) c.as_slice.ensures.value c.in-Some.ensures.latest) in
+    subst Of c.key_of-key.ensures (latest_of (ps ++ ls) rs key turn found (ap (λ (p : Listed). p.records.items) (sym c.self.view_is))
+    (entries_behind ps ls (ps ++ ls) key turn count refl c.count-count.ensures.count c.in-Some.at here))
 
 pub returns-clause-latest : goal.returns-clause-latest
 returns-clause-latest c =
-    let self = c.args.self.now in
-    let P : Key → Type 0 = λ q. ∥ IsLatest (keys_in self.records.items) q c.args.turn None ∥₁ in
-    subst P c.key_of-key.ensures
-    (pass_none self.records.items self.keys.items _ c.args.turn c.loop-end.end self.keyed (omega arith) c.loop-end.invariant)
+    let ps = c.self.inside.pieces in
+    let ls = c.self.inside.loose.items in
+    let rs = c.args.self.now.records.items in
+    let key = c.key_of-key.result in
+    let turn = c.args.turn in
+    let count = c.count-count.result in
+    let found = c.latest_before.result in
+    let Of : Key → Type 0 = λ q. ∥ IsLatest (keys_in rs) q turn found ∥₁ in
+    let few : c.saturating_sub.result ≡ turn - count = omega (arith, c.saturating_sub.ensures) in
+    let none = subst (λ n. IsLatest (keys_of ls) key n None) few
+    (subst (λ (es : List Entry). IsLatest (keys_of es) key c.saturating_sub.result None) c.as_slice.ensures.value c.in_default.ensures.latest) in
+    subst Of c.key_of-key.ensures (latest_of (ps ++ ls) rs key turn found (ap (λ (p : Listed). p.records.items) (sym c.self.view_is))
+    (entries_front ps ls (ps ++ ls) key turn count refl c.count-count.ensures.count found none c.latest_before.ensures))

@@ -16,7 +16,7 @@ returns-clause-trees c =
     let rs = self.records.items in
     let v = c.args.kept.value in
     let count = length rs in
-    let many : length self.trees.items ≡ count = self.paired in
+    let many : length self.trees.items ≡ count = omega (arith, c.count.ensures.records, c.count.ensures.trees) in
     trees_more (values_of rs) (values_of c.add.new.self.records.items) v self.trees.items c.add.new.self.trees.items _
     (ap values_of both.0 ∙ values_more rs c.args.kept) both.1
     (λ w is.
@@ -25,4 +25,4 @@ returns-clause-trees c =
     let tree = subst Of c.deref.ensures (subst At is (c.in_ok-whole.ensures old)) in
     let At_turn : ℕ → Type 0 = λ n. IsTreeAt (values_of rs ++ v ∷ []) n (suc (count - c.args.mark)) w.value in
     let At_size : ℕ → Type 0 = λ m. IsTreeAt (values_of rs ++ v ∷ []) (length self.trees.items) m w.value in
-    subst At_size (omega (arith, c.count.ensures, c.saturating_sub-size.ensures)) (subst At_turn (sym many) tree)) old)
+    subst At_size (omega (arith, c.count.ensures.records, c.saturating_sub-size.ensures)) (subst At_turn (sym many) tree)) old)

@@ -1,23 +1,20 @@
-use Rattle.std.proofs.Common.{◌≡◌, ◌+◌, ◌-◌, ◌++◌, suc, ◌∙◌, ap, arith}
-use Rattle.xt_record.specs.Grown.{part_of, values_of}
-use Rattle.xt_record.proofs.Grown.{taken_step}
+use Rattle.std.proofs.Common.{◌≡◌, ◌∙◌, arith}
+use Rattle.xt_record.specs.Grown.{values_of}
+use Rattle.xt_record.proofs.Grown.{taken_on}
 use Rattle.xt_record.proofs.pool.Pool.take_over.Goals as goal
 
 pub loop-at-preserved : goal.loop-at-preserved
 loop-at-preserved c =
     let inv = c.loop-at.invariant in
-    let others = c.args.others.now in
+    let step = c.in_ok-at.ensures in
+    let others = values_of c.args.others.now.records.items in
     let old = values_of c.args.self.now.records.items in
-    let mid = c.loop-at.self in
-    let now = c.take_one.new.self in
-    let first = c.first_of-first.result in
-    let at = c.loop-at.at in
-    let step = taken_step others.records.items others.trees.items first at old mid.records.items now.records.items mid.trees.items now.trees.items inv.from
-    (omega (arith, c.requires)) others.paired mid.paired inv.records c.in_ok-take_one.ensures.records c.in_ok-take_one.ensures.trees in
-    let next : suc at ≡ at + 1 = omega arith in
+    let mid = values_of c.loop-at.self.records.items in
+    let now = values_of c.take_some.new.self.records.items in
     record {
-      from = omega (arith, inv.from);
-      up_to = omega arith;
-      records = step.records ∙ ap (λ n. old ++ part_of first (n - first) (values_of others.records.items)) next;
-      trees = λ given before. step.trees given (inv.trees given before);
+      from = omega (arith, inv.from, step.next);
+      up_to = omega (arith, step.end);
+      records = taken_on others old mid now c.first_of-first.result c.loop-at.at c.in_ok-at.at inv.from (omega (arith, step.next)) inv.records
+          step.records;
+      trees = λ given before. step.trees old inv.records given (inv.trees given before);
     }

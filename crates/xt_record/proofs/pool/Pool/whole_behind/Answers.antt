@@ -22,7 +22,7 @@ loop-index-init c =
       count = omega arith;
       reached = λ trees.
           reached_none vs (map event_of (drop (length events) events)) _ (ap (λ (es : List Event). map event_of es) none)
-          (c.count.ensures ∙ sym (values_count c.args.self.now.records.items)) empty;
+          (c.count.ensures.records ∙ sym (values_count c.args.self.now.records.items)) empty;
       parts = ap (λ xs. length xs) empty ∙ sym (ap (λ (es : List Event). entered_in (map event_of es)) none);
       levels = omega arith;
     }

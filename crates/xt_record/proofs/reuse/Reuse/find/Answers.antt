@@ -8,6 +8,7 @@ returns-clause-sure g c =
       judged = s.judged;
       spared = s.spared;
       counted = s.counted;
+      quiet = s.quiet;
       next = s.next;
       grown = s.grown;
       trees = s.trees;

@@ -1,4 +1,4 @@
-use Rattle.std.proofs.Common.{◌<◌, ◌∙◌, ℕ, sym, None, Option, Some, Bor, arith, subst}
+use Rattle.std.proofs.Common.{◌<◌, ◌∙◌, ℕ, refl, sym, None, Option, Some, Bor, arith, subst}
 use Rattle.std.specs.Prelude.{IfNone, IfSome}
 use Rattle.std.specs.declared.rc.Rc.{Rc}
 use Rattle.std.specs.declared.alloc.Global.{Global}
@@ -11,9 +11,28 @@ use Rattle.xt_record.specs.Sure.{IsSure}
 use Rattle.xt_record.specs.View.{DoesNotServe, IsAt}
 use Rattle.xt_record.specs.declared.pool.Pool.{Pool}
 use Rattle.xt_record.specs.declared.record.Record.{Record}
-use Rattle.xt_record.proofs.Passing.{pass_all, pass_later, pass_turn}
+use Rattle.xt_record.proofs.Chaining.{within}
+use Rattle.xt_record.proofs.Judging.{as_many_judged}
+use Rattle.xt_record.proofs.Passing.{at_most, pass_all, pass_later, pass_turn}
 use Rattle.xt_record.proofs.Standing.{judges_more, judges_so}
 use Rattle.xt_record.proofs.reuse.Reuse.find_last.Goals as goal
+
+pub loop-turn-init : goal.loop-turn-init
+loop-turn-init g c =
+    let truth = (g.W.World.state c.args.world.now).truth in
+    let self = c.args.self.now in
+    let rs = self.last.now.records.items in
+    let many = as_many_judged truth self.verdicts.items rs c.requires.sure.judged in
+    let few = at_most self.verdicts in
+    record {
+      before = omega (arith, c.max.ensures, c.saturating_sub-end.ensures);
+      passed = λ turn le after r at may.
+          absurd (omega (arith, le, after, many, few, within rs turn r at, c.max.ensures, c.saturating_sub-end.ensures));
+      sure = c.requires.sure;
+      judges = record { last = refl; spared = refl; kept = refl; next = refl; ran = refl; asked = omega arith };
+      truth = refl;
+      name = refl;
+    }
 
 pub of_last-requires : goal.of_last-requires
 of_last-requires g c =

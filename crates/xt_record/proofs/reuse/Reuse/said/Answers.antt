@@ -7,6 +7,7 @@ returns-in-Some-clause-said c = if_ok c.said_at.result c.said_at.ensures.said (Î
   judged = sure.judged;
   spared = sure.spared;
   counted = sure.counted;
+  quiet = sure.quiet;
   next = sure.next;
   grown = sure.grown;
   trees = sure.trees;

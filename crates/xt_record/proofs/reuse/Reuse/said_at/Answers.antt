@@ -27,6 +27,7 @@ returns-clause-sure c = λ ask sure.
       judged = sure.judged;
       spared = sure.spared;
       counted = sure.counted;
+      quiet = sure.quiet;
       next = taken_hold ask vs ts turn levels call x.whole.value x.record.value self.next.records.items c.take_over.new.self.records.items said
           k.records sure.next;
       grown = k.trees sure.trees sure.grown;

@@ -18,6 +18,6 @@ returns-in-Some-clause-said c = λ ask sure.
     let k = c.in_ok-suiting.ensures in
     let Of : Option (Rc Record Global) → Type 0 = λ o. IfSome o (λ r. IsOf call (kept_in r.value)) in
     let At : Option (Rc Record Global) → Type 0 = λ o. IfSome o (λ r. r.value ≡ (get_or rs turn r).value) in
-    tree_said ask self.spared.now self.last.now turn c.args.levels call c.args.whole.now c.in_ok-copy.copy c.in-Some.record c.requires.within
+    tree_said ask self.spared.now self.last.now turn c.args.levels call c.args.whole.now c.in_ok-copy.copy c.in-Some.record k.paired c.requires.within
     c.requires.tree c.in_ok-copy.ensures.cases c.requires.room c.requires.spares (subst Of c.in-Some.is k.of_call) (subst At c.in-Some.is k.at)
     sure.trees sure.spared
