@@ -26,32 +26,35 @@ fn reached(keys: &Table, siblings: &[Rc<Node>], key: u128) -> usize
     let mut low = 0;
     let mut high = siblings.len();
     let mut near = guessed(siblings, key);
-    let mut guesses = GUESSES;
+    let mut stride: usize = 0;
+    let mut is_below = false;
+    let mut is_above = false;
     while low < high {
-        let middle = tried(low, high, near, guesses > 0);
-        guesses = guesses.saturating_sub(1);
+        let middle = tried(low, high, near, is_below && is_above);
+        let further = stride;
+        stride = stride.saturating_mul(2).saturating_add(1);
         if key_of(keys, siblings[middle].id) <= key {
             low = middle + 1;
-            near = low;
+            near = low.saturating_add(further);
+            is_below = true;
         } else {
             high = middle;
-            near = middle.saturating_sub(1);
+            near = middle.saturating_sub(1).saturating_sub(further);
+            is_above = true;
         }
     }
     low
 }
 
-// How often a place that was guessed is tried, or one beside it, before what is left is halved.
-const GUESSES: u8 = 3;
-
 // The index that is tried next of those from the first on and below the second: that which is guessed, or the nearest one
-// to it; and where nothing is guessed any more, the one in the middle.
-fn tried(low: usize, high: usize, near: usize, is_guessed: bool) -> usize
+// to it, until one was found too low and one too high; and then the one in the middle. The guesses go from the first one on
+// by strides that double, so that a guess that is wrong by little costs little.
+fn tried(low: usize, high: usize, near: usize, is_between: bool) -> usize
     requires { low < high }
     ensures low { low ≤ result }
     ensures high { result < high }
 {
-    if !is_guessed {
+    if is_between {
         low + (high - low) / 2
     } else if near < low {
         low
