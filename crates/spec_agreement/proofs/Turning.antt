@@ -95,7 +95,7 @@ turns_lead {ask = ask} {old = old} {gift = gift} {m = m} (turns.enters {new = ne
         → LedFrom old.left start m
     go (Goes g s) k later =
         let W : Waiting NodeRef → Type 0 = λ w. LedFrom new.left (received w new.going new.supplies (Some (Streamed content))) m in
-        let led : Led new.left (given content (opened (call_of call) depth new.going)) m = subst W k.2 later in
+        let led : Led new.left (given content (opened (call_of call.value) depth new.going)) m = subst W k.2 later in
         led_on k.0 (trail.enters content led.along) led.same
     go (Halts why g) k later = tt
 turns_lead {ask = ask} {old = old} {gift = gift} {m = m} (turns.needs {new = new} {name = name} {depth = depth} {place = place} value a t) =

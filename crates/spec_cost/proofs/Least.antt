@@ -6,10 +6,10 @@ use Rattle.spec_run.specs.Going.{Event, Asked, Saw, Entered, Held}
 use Rattle.spec_run.specs.Trail.{Kept}
 use Rattle.spec_run.specs.Meaning.{Setting, run_of}
 use Rattle.spec_reuse.specs.Among.{IsIn}
-use Rattle.spec_cost.specs.Marking.{Mark, are_marked, by_modules}
+use Rattle.spec_cost.specs.Marking.{Mark, are_marked, by_own_reads}
 use Rattle.spec_cost.specs.Paying.{IsCost, NoneMarked, NoneMarkedAmong}
 
-unmarked_in : (marks : List Mark) (question : Question NodeRef) (answer : Answer NodeRef) → by_modules question ≡ false → (es : List (Event NodeRef))
+unmarked_in : (marks : List Mark) (question : Question NodeRef) (answer : Answer NodeRef) → by_own_reads question ≡ false → (es : List (Event NodeRef))
     → NoneMarked marks es → IsIn (Asked question answer) es → are_marked marks question ≡ false
 unmarked_in marks question answer alone [] none among = absurd among
 unmarked_in marks question answer alone (e ∷ es) none (inl same) = here (subst (λ (x : Event NodeRef). NoneMarked marks (x ∷ es)) (sym same) none)
@@ -29,7 +29,7 @@ none_in marks kept (other ∷ records) none (inr among) = none_in marks kept rec
 
 pub marked_is_asked : (s : Setting NodeRef) (before after : List (Kept NodeRef)) (marks left : List Mark) (ran asked : ℕ) (kept : Kept NodeRef)
     (question : Question NodeRef) (answer : Answer NodeRef) → IsCost s before marks ran asked after left → (run_of s).refusal ≡ None → ran ≡ 0 → IsIn kept before
-    → IsIn (Asked question answer) kept.trace → by_modules question ≡ false → are_marked marks question ≡ true → 0 < asked
+    → IsIn (Asked question answer) kept.trace → by_own_reads question ≡ false → are_marked marks question ≡ true → 0 < asked
 marked_is_asked s before after marks left ran zero kept question answer cost ends free among asks alone marked =
     absurd (true≢false (sym marked ∙ unmarked_in marks question answer alone kept.trace (none_in marks kept before (cost.least ends free refl) among) asks))
 marked_is_asked s before after marks left ran (suc n) kept question answer cost ends free among asks alone marked = omega arith

@@ -1,5 +1,6 @@
 -- Which questions a change marks: by the written table those that may have another answer after it.
 --     Mark                     what is told of a change
+--     by_own_reads             the questions whose answers rest on what was asked for them
 --     are_marked               what some of them mark
 --     marked_among             how many questions of records that are
 --     remembered, and_marks    what is told of one change after another
@@ -49,6 +50,19 @@ by_modules (Choice node mode candidates) = true
 by_modules (Copy node) = false
 by_modules (Unit element) = true
 by_modules (External name) = false
+
+-- the answer is made of what is asked for it, and may be found to be the same by that
+abbrev pub by_own_reads : Question NodeRef → Bool
+by_own_reads (Step node axis test) = false
+by_own_reads (Text node) = false
+by_own_reads (Name node) = false
+by_own_reads (Place node) = false
+by_own_reads (Order nodes) = false
+by_own_reads (Key name value) = true
+by_own_reads (Choice node mode candidates) = true
+by_own_reads (Copy node) = false
+by_own_reads (Unit element) = false
+by_own_reads (External name) = false
 
 abbrev pub by_parameter : List ℕ → Question NodeRef → Bool
 by_parameter given (Step node axis test) = false

@@ -2,7 +2,7 @@
 -- how many of the questions of that are asked again, and what is kept of the new one.
 --     run_setting   the run of a stylesheet on a source whose nodes have numbers
 --     KeepsRun      what is kept of a run
---     NoneMarked    none of the questions that are asked of the source or of a parameter alone is marked
+--     NoneMarked    none of the questions that are asked of the source, of a parameter, or for a unit is marked
 --     IsCost        what a run costs
 --     CostsOn       what a change costs, where there may be nothing to run
 --     Pays          what a change makes of the past
@@ -29,7 +29,7 @@ use Rattle.spec_items.specs.Liftable.{with_items}
 use Rattle.spec_reuse.specs.Among.{IsIn}
 use Rattle.spec_reuse.specs.Instantiation.{Instantiation, own_of, instantiations}
 use Rattle.spec_reuse.specs.Ledger.{AreCounted, HasLike, IsFound}
-use Rattle.spec_cost.specs.Marking.{AddsStyle, Known, KnowsOf, Mark, and_marks, are_marked, by_modules, marked_among}
+use Rattle.spec_cost.specs.Marking.{AddsStyle, Known, KnowsOf, Mark, and_marks, are_marked, by_own_reads, marked_among}
 use Rattle.spec_cost.specs.Naming.{IsNamed}
 use Rattle.spec_cost.specs.Numbers.{NumberedDocuments}
 use Rattle.spec_cost.specs.Past.{Past}
@@ -77,11 +77,11 @@ abbrev pub MarksBy : Option Refused → (marks left : List Mark) → Type 0
 MarksBy None marks left = left ≡ []
 MarksBy (Some why) marks left = left ≡ marks
 
--- None of the questions among what was done is marked, of those that no change of modules marks: they are asked of the source or of a parameter alone.
--- Choices, keys and units also rest on the stylesheet, and their answers may be found to be the same by what was asked for them
+-- None of the questions among what was done is marked, of those that are asked of the source, of a parameter, or for a unit. Choices and keys are left
+-- out: their answers may be found to be the same by what was asked for them
 abbrev pub NoneMarked : List Mark → List (Event NodeRef) → Type 0
 NoneMarked marks [] = Unit {0}
-NoneMarked marks (Asked question answer ∷ es) = (by_modules question ≡ false → are_marked marks question ≡ false) × NoneMarked marks es
+NoneMarked marks (Asked question answer ∷ es) = (by_own_reads question ≡ false → are_marked marks question ≡ false) × NoneMarked marks es
 NoneMarked marks (Saw wanted depth place supplied ∷ es) = NoneMarked marks es
 NoneMarked marks (Entered call depth ∷ es) = NoneMarked marks es
 NoneMarked marks (Held first contents ∷ es) = NoneMarked marks es
@@ -93,8 +93,8 @@ NoneMarkedAmong marks (kept ∷ records) = NoneMarked marks kept.trace × NoneMa
 
 -- So many instantiations of the run are counted, or the most that can be told: none for which one of the records before would be taken, of one call
 -- that comes to its end one; and one of each unit and node that no record is of. No more questions are asked again than these changes mark in the
--- records, each once; and where there is a result and nothing is run, one at least, if they mark one that is asked of the source or of a parameter
--- alone. And this is kept
+-- records, each once; and where there is a result and nothing is run, one at least, if they mark one that is asked of the source, of a parameter, or
+-- for a unit. And this is kept
 pub record IsCost (s : Setting NodeRef) (before : List (Kept NodeRef)) (marks : List Mark) (ran asked : ℕ) (after : List (Kept NodeRef))
     (left : List Mark) : Type 0 where
   pub list : List (Instantiation NodeRef)

@@ -9,7 +9,7 @@ ghost use Rattle.spec_reuse.specs.Among.{IsIn};
 ghost use Rattle.spec_reuse.specs.Instantiation.{Instantiation, instantiations, kept_of, own_of};
 ghost use Rattle.spec_reuse.specs.Ledger.{AllEnd, HasLike, IsFound};
 ghost use Rattle.spec_meaning.specs.Question.{Question, Answer};
-ghost use Rattle.spec_cost.specs.Marking.{Mark, are_marked, by_modules};
+ghost use Rattle.spec_cost.specs.Marking.{Mark, are_marked, by_own_reads};
 ghost use Rattle.spec_cost.specs.Fresh.{AreNewIn, NoneAlike};
 ghost use Rattle.spec_cost.specs.Paying.{IsCost, KeepsRun, most_told};
 
@@ -43,10 +43,10 @@ pub fn as_many_are_run_as_are_new()
         → KeepsRun s before → IsCost t before marks ran asked after left → NoneAlike new → AreNewIn s t new → min (length new) most_told ≤ ran }
 {}
 
-/// Where a run ends with a result and nothing is run, a question is asked again if one is marked that is asked of the source or
-/// of a parameter alone.
+/// Where a run ends with a result and nothing is run, a question is asked again if one is marked that is asked of the source, of a
+/// parameter, or for a unit.
 pub fn what_is_marked_is_asked()
     ensures { (s : Setting NodeRef) (before after : List (Kept NodeRef)) (marks left : List Mark) (ran asked : ℕ) (kept : Kept NodeRef)
         (question : Question NodeRef) (answer : Answer NodeRef) → IsCost s before marks ran asked after left → (run_of s).refusal ≡ None → ran ≡ 0 → IsIn kept before
-        → IsIn (Asked question answer) kept.trace → by_modules question ≡ false → are_marked marks question ≡ true → 0 < asked }
+        → IsIn (Asked question answer) kept.trace → by_own_reads question ≡ false → are_marked marks question ≡ true → 0 < asked }
 {}

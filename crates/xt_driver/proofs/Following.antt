@@ -1,4 +1,6 @@
 -- Where a run stands elsewhere, turn by turn.
+use Rattle.std.specs.declared.rc.Rc.{Rc}
+use Rattle.std.specs.declared.alloc.Global.{Global as Allocator}
 use Rattle.std.proofs.Common.{◌≡◌, ℕ, zero, suc, ◌-◌, ◌≤◌, List, Option, Some, None, Ok, refl, sym, ap, subst, ◌∙◌, arith}
 use Rattle.std.specs.Prelude.{Bool}
 use Rattle.spec_document.specs.Name.{Expanded}
@@ -96,9 +98,9 @@ follows_after l q next s k d o left agrees e f n = by_ending o.content o.ending 
     by_ending t (Gave v) left n = follows_of (Goes (given t (opened k d q.going)) s) (ForCall k d) s e f (ap (received (ForCall k d) q.going s) n) (left tt, agrees)
     by_ending t (Halted why) left n = follows_of (Halts why (given t (opened k d q.going))) (ForCall k d) s e f (ap (received (ForCall k d) q.going s) n) tt
 
-pub elsewhere_entered : (l : Level) (m n : List (Entry NodeRef)) (spare fewer less : ℕ) (p q : Progress) (gift next : Option (Gift NodeRef)) (w : CodeCall) (d left : ℕ) (k : Call NodeRef) (o : Outcome NodeRef)
+pub elsewhere_entered : (l : Level) (m n : List (Entry NodeRef)) (spare fewer less : ℕ) (p q : Progress) (gift next : Option (Gift NodeRef)) (w : Rc CodeCall Allocator) (d left : ℕ) (k : Call NodeRef) (o : Outcome NodeRef)
     → Elsewhere l m spare p gift → Advances l.setting.ask gift p q (Ok (Want w d)) → More m n → fewer ≤ spare → fewer ≤ less
-    → left ≡ l.below - d → ((r : ℕ) (past : Past NodeRef) → nested_of (at_other l r past) d (call_of w) ≡ meaning l.setting r past d k)
+    → left ≡ l.below - d → ((r : ℕ) (past : Past NodeRef) → nested_of (at_other l r past) d (call_of w.value) ≡ meaning l.setting r past d k)
     → Lasts l.setting l.past (left - less) n k o → next ≡ Some (gift_for o.content o.ending) → Elsewhere l n fewer q next
 elsewhere_entered l m n spare fewer less p q gift next w d left k o h a f i j room same lasts is = record { so = there }
   where
@@ -115,9 +117,9 @@ elsewhere_entered l m n spare fewer less p q gift next w d left k o h a f i j ro
             let F : Start NodeRef → Type 0 = λ y. FollowsSo x p.left y in
             let so = subst F at before.so in
             let passes = passes_there below adv.0 tt high in
-            let means : GoesOn o.ending → nested_of x d (call_of w) ≡ o = λ on. same below past ∙ meaning_at l.setting below past d k ∙ lasts.so on (below - d) past (omega (arith, low, j, room)) suits in
-            follows_after x q next s (call_of w) d o
-            (λ on. ap (after x q (call_of w) d) (sym (means on)) ∙ sym (own_passes x.setting.ask (supply_of x) (nested_of x) x.below so.1 passes) ∙ so.0) so.1 adv.2 adv.1 is
+            let means : GoesOn o.ending → nested_of x d (call_of w.value) ≡ o = λ on. same below past ∙ meaning_at l.setting below past d k ∙ lasts.so on (below - d) past (omega (arith, low, j, room)) suits in
+            follows_after x q next s (call_of w.value) d o
+            (λ on. ap (after x q (call_of w.value) d) (sym (means on)) ∙ sym (own_passes x.setting.ask (supply_of x) (nested_of x) x.below so.1 passes) ∙ so.0) so.1 adv.2 adv.1 is
 
 -- ---- After a global that an expression needs
 

@@ -1,4 +1,5 @@
 -- What a level keeps from turn to turn: what is remembered, and where it stands elsewhere.
+use Rattle.std.specs.declared.rc.Rc.{Rc}
 use Rattle.std.proofs.Common.{◌≡◌, ℕ, suc, ◌-◌, ◌≤◌, List, ◌∷◌, Option, None, Result, Ok, Err, sym, ap, subst, ◌∙◌}
 use Rattle.std.specs.Prelude.{IfOk, OnOk, Box}
 use Rattle.std.specs.declared.alloc.Global.{Global as Allocator}
@@ -56,8 +57,8 @@ level s below past call = record { setting = s; below = below; past = past; call
 
 -- the turn of an instantiation that it enters
 pub onward_entered : (s : Ask → Setting NodeRef) {a b : Ask} (past : Past NodeRef) (below : ℕ) (call : Call NodeRef) (first m n : List (Entry NodeRef)) (spare fewer : ℕ) (p q : Progress) (gift : Option (Gift NodeRef))
-    (w : CodeCall) (d left : ℕ) (k : Call NodeRef) (came : Result (Box Came Allocator) NoMemory) (next : Option Entered) (before after : List Stream)
-    → a ≡ b → Onward (level (s b) below past call) first m spare p gift → Advances (s b).ask gift p q (Ok (Want w d)) → left ≡ below - d → k ≡ settled call (call_of w)
+    (w : Rc CodeCall Allocator) (d left : ℕ) (k : Call NodeRef) (came : Result (Box Came Allocator) NoMemory) (next : Option Entered) (before after : List Stream)
+    → a ≡ b → Onward (level (s b) below past call) first m spare p gift → Advances (s b).ask gift p q (Ok (Want w d)) → left ≡ below - d → k ≡ settled call (call_of w.value)
     → OnOk came (Keeps (s a) past m n) → IfOk came (λ o. Lasts (s a) past (left - o.value.spare) n k (outcome_of o.value)) → IsStreamed next came before after
     → fewer ≤ spare → fewer ≤ spare_in came → Onward (level (s b) below past call) first n fewer q (gift_of next)
 onward_entered s past below call first m n spare fewer p q gift w d left k (Err x) next before after e h a room settles keeps lasts came i j = absurd came

@@ -312,11 +312,11 @@ module _ (l : Level) (lo : Lost) (a b c : Hand) (q : Progress) (k : Call NodeRef
   entered_as t (Halted why) is = entered_to (Halts why (given t (opened k d q.going)))
       (trace_so ∙ ap (λ es. (q.going.trace ++ Entered k d ∷ []) ++ es) (grown.2 why is) ∙ append-nil (q.going.trace ++ Entered k d ∷ [])) tt
 
-pub running_entered : (l : Level) (lo : Lost) (a b c : Hand) (p q : Progress) (gift : Option (Gift NodeRef)) (before after : List Stream) (w : CodeCall)
+pub running_entered : (l : Level) (lo : Lost) (a b c : Hand) (p q : Progress) (gift : Option (Gift NodeRef)) (before after : List Stream) (w : Rc CodeCall Allocator)
     (d : ℕ) (came : Result (Box Came Allocator) Memory) (e : Option Entering)
-    → Stands l p gift before → Advances l.setting.ask gift p q (Ok (Want w d)) → IfOk came (λ o. outcome_of o.value ≡ nested_of l d (call_of w))
+    → Stands l p gift before → Advances l.setting.ask gift p q (Ok (Want w d)) → IfOk came (λ o. outcome_of o.value ≡ nested_of l d (call_of w.value))
     → IsStreamed e came before after
-    → OnOk came (CountsOver l.setting l.past.values (entered l.setting l.below l.past d (settled l.call (call_of w))) b c)
+    → OnOk came (CountsOver l.setting l.past.values (entered l.setting l.below l.past d (settled l.call (call_of w.value))) b c)
     → Running l lo p.left (received p.waits p.going p.supplies gift) a b
     → Running l lo q.left (received q.waits q.going q.supplies (gift_of e)) a c
 running_entered l lo a b c p q gift before after w d (Err m) e h adv means streamed over x = absurd streamed
@@ -327,7 +327,7 @@ running_entered l lo a b c p q gift before after w d (Ok o) e h adv means stream
         → Running l lo q.left (received q.waits q.going q.supplies (gift_of e)) a c
     go (Halts why g) so to y = absurd to
     go (Goes g s) so to y =
-        let k = call_of w in
+        let k = call_of w.value in
         let out = outcome_of o.value in
         let is : received q.waits q.going q.supplies (gift_of e) ≡ after_call k d q.going s (Some (gift_for out.content out.ending))
         = ap (λ v. received v q.going q.supplies (gift_of e)) to.2 ∙ ap (λ v. received (ForCall k d) q.going v (gift_of e)) to.1

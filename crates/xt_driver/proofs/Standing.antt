@@ -121,15 +121,15 @@ goes_on {l = l} {p = p} {q = q} {gift = gift} {next = next} {ss = ss} {s = s} {k
         let works = h.works in
         onto_of (Halts why (given t (opened k d q.going))) (ForCall k d) s h.room h.waits h.supplies (ap (received (ForCall k d) q.going s) n) (ap whole (sym h.left)) (omega (arith, works))
 
-pub stands_want : (l : Level) (p q : Progress) (gift : Option (Gift NodeRef)) (ss : List Stream) (w : CodeCall) (d : ℕ) (o : Outcome NodeRef) (next : Option (Gift NodeRef))
-    → Stands l p gift ss → Advances l.setting.ask gift p q (Ok (Want w d)) → nested_of l d (call_of w) ≡ o → next ≡ Some (gift_for o.content o.ending) → Onto l p q gift next (ss ++ o.content ∷ [])
+pub stands_want : (l : Level) (p q : Progress) (gift : Option (Gift NodeRef)) (ss : List Stream) (w : Rc CodeCall Allocator) (d : ℕ) (o : Outcome NodeRef) (next : Option (Gift NodeRef))
+    → Stands l p gift ss → Advances l.setting.ask gift p q (Ok (Want w d)) → nested_of l d (call_of w.value) ≡ o → next ≡ Some (gift_for o.content o.ending) → Onto l p q gift next (ss ++ o.content ∷ [])
 stands_want l p q gift ss w d o next h a m n = go (received p.waits p.going p.supplies gift) refl h.so a.so
   where
     go : (st : Start NodeRef) → received p.waits p.going p.supplies gift ≡ st → StandsSo l p.left ss st → AdvancesSo l.setting.ask p st q (Ok (Want w d)) → Onto l p q gift next (ss ++ o.content ∷ [])
     go (Halts why g) is so adv = absurd adv
     go (Goes g s) is so adv =
         let passes = in_room h.room adv.0 in
-        let k = call_of w in
+        let k = call_of w.value in
         let left = ap (after l q k d) (sym m) ∙ sym (own_passes l.setting.ask (supply_of l) (nested_of l) l.below so.1 passes) ∙ so.0 in
         let works = ap (start_work l p.left) is ∙ work_passes l.setting.ask (supply_of l) (nested_of l) l.below so.1 passes ∙ ap (work_after l q s k d) m in
         let e : Entering l p q gift ss s k d o = record {
@@ -258,8 +258,8 @@ gives_from s {b = b} past below d left n place e same f h =
     subst P (ap (λ x. referred (s x) (meaning (s x) left) past n 0 place) same ∙ referred_at (s b) below past n d left place f) h
 
 -- the turn of an instantiation that it enters
-pub stands_entered : (l : Level) (p q : Progress) (gift : Option (Gift NodeRef)) (before after : List Stream) (w : CodeCall) (d : ℕ) (came : Result (Box Came Allocator) NoMemory) (e : Option Entered)
-    → Stands l p gift before → Advances l.setting.ask gift p q (Ok (Want w d)) → IfOk came (λ x. outcome_of x.value ≡ nested_of l d (call_of w)) → IsStreamed e came before after → Onto l p q gift (gift_of e) after
+pub stands_entered : (l : Level) (p q : Progress) (gift : Option (Gift NodeRef)) (before after : List Stream) (w : Rc CodeCall Allocator) (d : ℕ) (came : Result (Box Came Allocator) NoMemory) (e : Option Entered)
+    → Stands l p gift before → Advances l.setting.ask gift p q (Ok (Want w d)) → IfOk came (λ x. outcome_of x.value ≡ nested_of l d (call_of w.value)) → IsStreamed e came before after → Onto l p q gift (gift_of e) after
 stands_entered l p q gift before after w d (Err m) e h a is so = absurd so
 stands_entered l p q gift before after w d (Ok x) e h a is so =
     let onto = stands_want l p q gift before w d (outcome_of x.value) (gift_of e) h a (sym is) so.gift in

@@ -1,5 +1,7 @@
 -- The steps of one level.
 use Rattle.std.specs.Prelude.{◌≡◌, ℕ, ◌-◌, Option, Ok, Err}
+use Rattle.std.specs.declared.rc.Rc.{Rc}
+use Rattle.std.specs.declared.alloc.Global.{Global}
 use Rattle.spec_meaning.specs.Question.{Question, Answer}
 use Rattle.spec_run.specs.Plan.{Call}
 use Rattle.spec_run.specs.Meaning.{settled}
@@ -15,10 +17,10 @@ use Rattle.xt_driver.specs.declared.level.Step.TheVariants as steps
 
 -- its run wants an instantiation, which it enters so, with so many levels left
 pub record Enters (ask : Question NodeRef → Answer NodeRef) (gift : Option (Gift NodeRef)) (old new : Progress) (outer : Call NodeRef) (below : ℕ) (inner : CodeCall) (left : ℕ) : Type 0 where
-  pub wanted : CodeCall
+  pub wanted : Rc CodeCall Global
   pub depth : ℕ
   pub advances : Advances ask gift old new (Ok (Want wanted depth))
-  pub call : call_of inner ≡ settled outer (call_of wanted)
+  pub call : call_of inner ≡ settled outer (call_of wanted.value)
   pub levels : left ≡ below - depth
 
 -- its run wants a global, with so many levels left

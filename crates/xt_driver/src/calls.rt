@@ -13,6 +13,7 @@ ghost use Rattle.xt_questions.specs.View.{chosen_of};
 ghost use Rattle.xt_engine.specs.View.{call_of, ruling_of, target_of};
 
 use std::alloc::Global;
+use std::rc::Rc;
 use xt_base::Place;
 use xt_engine::{Call, Ruling, Target};
 use xt_questions::{Bindings, Candidates, ChosenRule, CurrentRule, Question, World};
@@ -42,14 +43,36 @@ fn settle_ruling(alloc: Global, outer: &Ruling, inner: &mut Ruling) -> Result<()
     }
 }
 
-/// Gives a call that is entered from another one the position, the size and the current rule of that where it has
-/// said none. It is changed in its place, since calls are large and stay there while what they enter is run.
-pub fn settle(alloc: Global, outer: &Call, inner: &mut Call) -> Result<(), Memory>
+// Gives a call that is entered from another one the position, the size and the current rule of that where it has
+// said none.
+fn settle(alloc: Global, outer: &Call, inner: &mut Call) -> Result<(), Memory>
     ensures { OnOk result (call_of inner.new ≡ settled (call_of outer.now) (call_of inner.old)) }
 {
     inner.position = or_outer(inner.position, outer.position);
     inner.size = or_outer(inner.size, outer.size);
     settle_ruling(alloc, &outer.ruling, &mut inner.ruling)
+}
+
+/// A call that is entered from another one, which has from that one what it has not said itself. Most say all, and are shared
+/// as they are.
+pub fn settled(alloc: Global, outer: &Call, wanted: Rc<Call>) -> Result<Rc<Call>, Memory>
+    ensures { IfOk result (λ c. call_of c.value ≡ settled (call_of outer.now) (call_of wanted.value)) }
+{
+    if says_all(&wanted) {
+        return Ok(wanted);
+    }
+    let whole = completed(alloc, outer, &wanted);
+    drop(wanted);
+    whole
+}
+
+/// A copy of a call that is entered from another one, with what it has from that one.
+pub fn completed(alloc: Global, outer: &Call, inner: &Call) -> Result<Rc<Call>, Memory>
+    ensures { IfOk result (λ c. call_of c.value ≡ settled (call_of outer.now) (call_of inner.now)) }
+{
+    let mut call = inner.copy(alloc)?;
+    settle(alloc, outer, &mut call)?;
+    Ok(Rc::new(alloc, call)?)
 }
 
 /// Whether the call has a position, a size and a current rule of its own, so that it is the same whatever enters it.

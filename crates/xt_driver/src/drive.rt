@@ -355,7 +355,7 @@ fn run_call<E: Engine, W: World>(
     let mut standing = begin(alloc, engine, call, below)?;
     reuse.count_run();
     loop {
-        match advance(alloc, engine, world, &mut standing, call, below)? {
+        match advance(alloc, engine, world, reuse, &mut standing, call, below)? {
             Step::Enter(inner, left) => {
                 let came = means(alloc, engine, world, globals, memo, reuse, &inner, left);
                 take_stream(&mut standing, came, inner)?;

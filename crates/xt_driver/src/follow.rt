@@ -13,7 +13,7 @@ ghost use Rattle.xt_driver.specs.View.{ending_of, outcome_of};
 ghost use Rattle.xt_record.specs.View.{AreWhole};
 ghost use Rattle.xt_driver.specs.Along.{halts, inner_of, refuses, HoldsIf, IsEntered, IsHeld, IsNext, IsReferred, IsSeen, IsSeenAs, Takes, TakesReference};
 
-use crate::calls::{says_all, settle};
+use crate::calls::{completed, says_all};
 use crate::came::Outcome;
 use crate::level::Needed;
 use crate::lost::{Lost, LostReference};
@@ -51,7 +51,7 @@ pub enum Inner<'a> {
     /// One that says all itself, as it stands in the record: most do, and are large, so that they are not copied.
     Kept(&'a Call),
     /// One that has the rest from the call that enters it.
-    Settled(Box<Call>),
+    Settled(Rc<Call>),
 }
 
 impl<'a> Inner<'a> {
@@ -162,7 +162,10 @@ fn referred(
         drop(place);
         return Err(Memory);
     };
-    Ok(Next::Refer(Box::new(alloc, Needed { name, place })?, left))
+    let Ok(needed) = Box::new(alloc, Needed { name, place }) else {
+        return Err(Memory);
+    };
+    Ok(Next::Refer(needed, left))
 }
 
 // A position or size was, of which the call has this one.
@@ -226,8 +229,7 @@ fn entered<'a>(alloc: Global, inner: &'a Call, call: &Call, left: u64) -> Result
     if says_all(inner) {
         return Ok(Next::Enter(Inner::Kept(inner), left));
     }
-    let mut inner = Box::new(alloc, inner.copy(alloc)?)?;
-    settle(alloc, call, &mut inner)?;
+    let inner = completed(alloc, call, inner)?;
     Ok(Next::Enter(Inner::Settled(inner), left))
 }
 

@@ -62,10 +62,14 @@ fn keep_run(alloc: Global, reuse: &mut Reuse<'_>, call: &Call, ran: Box<Ran>) ->
     ensures spared { reuse.new.spared ≡ reuse.old.spared }
     ensures steps { reuse.new.steps ≡ reuse.old.steps }
 {
-    let call = call.copy(alloc)?;
+    let Ok(call) = call.copy(alloc) else {
+        return Err(Memory);
+    };
     let ran = Box::into_inner(ran);
     let kept = Record::new(call, ran);
-    let shared = Rc::new(alloc, kept)?;
+    let Ok(shared) = Rc::new(alloc, kept) else {
+        return Err(Memory);
+    };
     reuse.keep(alloc, shared)
 }
 

@@ -7,11 +7,12 @@ ghost use Rattle.xt_engine.specs.View.{call_of};
 ghost use Rattle.xt_engine.specs.Advances.{gift_of};
 ghost use Rattle.xt_engine.specs.Progress.{started};
 ghost use Rattle.xt_result.specs.Silent.{all_messages};
+ghost use Rattle.xt_record.specs.Sure.{IsSure};
 ghost use Rattle.xt_driver.specs.View.{outcome_of, IsStreamed, IsTaken};
 ghost use Rattle.xt_driver.specs.Referring.{spare_in, spare_of};
 ghost use Rattle.xt_driver.specs.Steps.{Steps};
 
-use crate::calls::settle;
+use crate::calls::settled;
 use crate::came::Outcome;
 use crate::memo::Referred;
 use crate::outcome::{both_silent, fewer, streamed};
@@ -21,15 +22,19 @@ use xt_base::Place;
 use xt_engine::{Call, Engine, Entered, Ran, RunFault, Turn};
 use xt_names::Expanded;
 use xt_questions::World;
+use xt_record::Reuse;
 use xt_text::Memory;
 use xt_tree::Items;
 
 /// Where a level stands.
 #[derive(Drop)]
 pub struct Level<R> {
-    pub run: R,
+    /// On the heap by itself: where a level ends, what is left of it is moved to the stack, in each place that ends it.
+    pub run: Box<R>,
     /// What the run is given next.
     pub given: Option<Entered>,
+    /// Up to where what stood in its place was gone through: a hint.
+    pub at: usize,
     /// The streams of all that it entered.
     pub parts: Vec<Rc<Items>>,
     /// With so many levels fewer below its own, what it entered and needed comes to the same.
@@ -50,7 +55,7 @@ pub struct Needed {
 #[derive(Drop)]
 pub enum Step {
     /// To a call that it enters, with so many levels left for it.
-    Enter(Box<Call>, u64),
+    Enter(Rc<Call>, u64),
     /// To a global that it needs, with so many levels left for it.
     Refer(Box<Needed>, u64),
     /// To its end.
@@ -66,21 +71,28 @@ pub fn begin<E: Engine>(
     call: &Call,
     below: u64,
 ) -> Result<Box<Level<E::Run>>, Memory>
-    ensures started { IfOk result (λ s. E.progress s.value.run ≡ started (call_of call.now) below) }
+    ensures started { IfOk result (λ s. E.progress s.value.run.value ≡ started (call_of call.now) below) }
     ensures given { IfOk result (λ s. s.value.given ≡ None) }
     ensures parts { IfOk result (λ s. s.value.parts.items ≡ []) }
 {
-    let run = engine.start(alloc, call, below)?;
-    Ok(Box::new(
-        alloc,
-        Level {
-            run,
-            given: None,
-            parts: Vec::new(alloc),
-            spare: below,
-            is_silent: true,
-        },
-    )?)
+    let Ok(run) = engine.start(alloc, call, below) else {
+        return Err(Memory);
+    };
+    let Ok(run) = Box::new(alloc, run) else {
+        return Err(Memory);
+    };
+    let level = Level {
+        run,
+        given: None,
+        at: 0,
+        parts: Vec::new(alloc),
+        spare: below,
+        is_silent: true,
+    };
+    let Ok(standing) = Box::new(alloc, level) else {
+        return Err(Memory);
+    };
+    Ok(standing)
 }
 
 /// Goes on with what is given, up to the next step.
@@ -88,30 +100,63 @@ pub fn advance<E: Engine, W: World>(
     alloc: Global,
     engine: &mut E,
     world: &mut W,
+    reuse: &Reuse<'_>,
     standing: &mut Level<E::Run>,
     call: &Call,
     below: u64,
 ) -> Result<Step, Memory>
-    ensures steps { IfOk result (λ s. Steps (W.state world.old).truth (gift_of standing.old.given) (E.progress standing.old.run) (E.progress standing.new.run) (call_of call.now) below s) }
+    requires sure { IsSure (W.state world.now).truth reuse.now }
+    ensures steps { IfOk result (λ s. Steps (W.state world.old).truth (gift_of standing.old.given) (E.progress standing.old.run.value) (E.progress standing.new.run.value) (call_of call.now) below s) }
     ensures parts { standing.new.parts ≡ standing.old.parts }
     ensures spare { standing.new.spare ≡ standing.old.spare }
     ensures truth { (W.state world.new).truth ≡ (W.state world.old).truth }
     ensures name { W.name world.new ≡ W.name world.old }
 {
-    let given = standing.given.take();
-    match engine.resume(alloc, &mut standing.run, given, world) {
+    // From two places, so that Rattle's own compiler leaves it out of the frame of a level, where it would take room while
+    // all is run that the level enters.
+    let turn = match standing.given.take() {
+        None => reuse.resume(
+            alloc,
+            engine,
+            &mut standing.run,
+            None,
+            &mut standing.at,
+            world,
+        ),
+        given => reuse.resume(
+            alloc,
+            engine,
+            &mut standing.run,
+            given,
+            &mut standing.at,
+            world,
+        ),
+    };
+    match turn {
         Ok(Turn::Want(wanted, depth)) => {
-            let mut inner = Box::new(alloc, wanted)?;
-            settle(alloc, call, &mut inner)?;
+            let inner = settled(alloc, call, wanted)?;
             let left = below.saturating_sub(depth);
             Ok(Step::Enter(inner, left))
         }
         Ok(Turn::WantGlobal(name, depth, place)) => {
             let left = below.saturating_sub(depth);
-            Ok(Step::Refer(Box::new(alloc, Needed { name, place })?, left))
+            let Ok(needed) = Box::new(alloc, Needed { name, place }) else {
+                return Err(Memory);
+            };
+            Ok(Step::Refer(needed, left))
         }
-        Ok(Turn::Done(ran)) => Ok(Step::Done(Box::new(alloc, ran)?)),
-        Err(fault) => Ok(Step::Failed(Box::new(alloc, fault)?)),
+        Ok(Turn::Done(ran)) => {
+            let Ok(ran) = Box::new(alloc, ran) else {
+                return Err(Memory);
+            };
+            Ok(Step::Done(ran))
+        }
+        Err(fault) => {
+            let Ok(fault) = Box::new(alloc, fault) else {
+                return Err(Memory);
+            };
+            Ok(Step::Failed(fault))
+        }
     }
 }
 
@@ -140,18 +185,22 @@ fn stays_silent(are_silent: bool, came: &Result<Box<Outcome>, Memory>) -> bool
 pub fn take_stream<R: Drop>(
     standing: &mut Level<R>,
     came: Result<Box<Outcome>, Memory>,
-    call: Box<Call>,
+    call: Rc<Call>,
 ) -> Result<(), Memory>
     ensures streamed { OnOk result (IsStreamed standing.new.given came (streams_of standing.old.parts.items) (streams_of standing.new.parts.items)) }
     ensures run { standing.new.run ≡ standing.old.run }
     ensures spare { standing.new.spare ≤ standing.old.spare }
     ensures inner { standing.new.spare ≤ spare_in came }
 {
-    let _ = call;
+    // First, and so in one place: where it is let go of, it is moved to the stack.
+    drop(call);
     standing.spare = fewer(standing.spare, spare_in(&came));
     let is_silent = stays_silent(standing.is_silent, &came);
     standing.is_silent = false;
-    standing.given = Some(streamed(came, &mut standing.parts)?);
+    let Ok(entered) = streamed(came, &mut standing.parts) else {
+        return Err(Memory);
+    };
+    standing.given = Some(entered);
     standing.is_silent = is_silent;
     Ok(())
 }
@@ -168,7 +217,7 @@ pub fn take_global<R: Drop>(
     ensures spare { standing.new.spare ≤ standing.old.spare }
     ensures inner { OnOk result (standing.new.spare ≤ spare_of came) }
 {
-    let _ = needed;
+    drop(needed);
     let Referred { entered, spare } = Box::into_inner(came?);
     standing.spare = fewer(standing.spare, spare);
     standing.given = Some(entered);

@@ -77,8 +77,8 @@ pub record Misses {N : Type 0} (ask : Question N → Answer N) (hand : ℕ → W
 
 abbrev pub GoesSo : (Question NodeRef → Answer NodeRef) → Progress → Going NodeRef → Supplies NodeRef → Progress → Result Turn RunFault → Type 0
 GoesSo ask old g s new (Ok (turn.Want call depth)) =
-    Passes ask (at_hand s) old.room old.left g (Enter (call_of call) depth new.left) new.going
-    × (new.supplies ≡ s) × (new.waits ≡ ForCall (call_of call) depth) × (new.room ≡ old.room)
+    Passes ask (at_hand s) old.room old.left g (Enter (call_of call.value) depth new.left) new.going
+    × (new.supplies ≡ s) × (new.waits ≡ ForCall (call_of call.value) depth) × (new.room ≡ old.room)
 GoesSo ask old g s new (Ok (turn.WantGlobal name depth place)) =
     Passes ask (at_hand s) old.room old.left g new.left new.going
     × Misses ask (at_hand s) old.room new.left new.going name depth (place_of place)

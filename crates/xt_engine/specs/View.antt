@@ -47,8 +47,8 @@ call_of c = record {
 
 abbrev pub event_of : Event → going.Event NodeRef
 event_of (events.Asked question answer) = going.Asked (question_of question) (answer_of answer)
-event_of (events.Saw wanted depth place given) = going.Saw (wanted_of wanted) depth (place_of place) (Known (given_of given))
-event_of (events.Entered call depth) = going.Entered (call_of call) depth
+event_of (events.Saw wanted depth place given) = going.Saw (wanted_of wanted) depth (place_of place.value) (Known (given_of given))
+event_of (events.Entered call depth) = going.Entered (call_of call.value) depth
 event_of (events.Held first contents) = going.Held first (streams_of contents.items)
 
 abbrev pub wrapping_of : Wrapping → plain.Wrapping

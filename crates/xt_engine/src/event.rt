@@ -12,9 +12,9 @@ pub enum Event {
     Asked(Question, Answer),
     /// What was needed of the run, how deep below the level of the instantiation the content stands that
     /// needed it, the element that needed it, and what was given.
-    Saw(Wanted, u64, Place, Given),
+    Saw(Wanted, u64, Rc<Place>, Given),
     /// What was entered, from a content so deep.
-    Entered(Call, u64),
+    Entered(Rc<Call>, u64),
     /// The streams of the instantiations that it entered from this one on, where a variable or a parameter
     /// holds them.
     Held(u64, Vec<Rc<Items>>),

@@ -24,7 +24,7 @@ pub enum Entered {
 #[derive(Drop)]
 pub enum Turn {
     /// To an instantiation that it enters, from a content so deep below its level.
-    Want(Call, u64),
+    Want(Rc<Call>, u64),
     /// To a global that an expression at this element needs, in a content so deep.
     WantGlobal(Expanded, u64, Place),
     /// To its end.

@@ -35,7 +35,7 @@ left_in r = left_over r.frames.items End
 
 abbrev pub waiting_of : Waiting → progress.Waiting NodeRef
 waiting_of waits.Nothing = progress.ForNothing
-waiting_of (waits.ForCall call depth) = progress.ForCall (call_of call) depth
+waiting_of (waits.ForCall call depth) = progress.ForCall (call_of call.value) depth
 waiting_of (waits.ForGlobal name depth place) = progress.ForGlobal name depth (place_of place)
 
 abbrev pub progress_of : Run → Progress

@@ -32,7 +32,7 @@ use xt_tree::{Fragment, Item, Value};
 pub enum Waiting {
     Nothing,
     /// An instantiation, from a content so deep.
-    ForCall(Call, u64),
+    ForCall(Rc<Call>, u64),
     /// A global that the element at this place needs, in a content so deep.
     ForGlobal(Expanded, u64, Place),
 }

@@ -12,6 +12,7 @@ ghost use Rattle.xt_frames.specs.Noted.{event_at, read_in, Settled};
 
 use crate::Came;
 use std::alloc::Global;
+use std::rc::Rc;
 use xt_base::Place;
 use xt_engine::{Event, Refused};
 use xt_progress::Going;
@@ -84,7 +85,7 @@ fn event_at(alloc: Global, place: &Place, read: Read) -> Result<Event, Memory>
     match read {
         Read::Asked(question, answer) => Ok(Event::Asked(question, answer)),
         Read::Saw(wanted, depth, given) => {
-            let Ok(place) = copy_place(alloc, place) else {
+            let Ok(place) = shared_place(alloc, place) else {
                 drop(wanted);
                 drop(given);
                 return Err(Memory);
@@ -92,4 +93,12 @@ fn event_at(alloc: Global, place: &Place, read: Read) -> Result<Event, Memory>
             Ok(Event::Saw(wanted, depth, place, given))
         }
     }
+}
+
+// The same place, in memory that is shared: it is large, and what was done is held in a list.
+fn shared_place(alloc: Global, place: &Place) -> Result<Rc<Place>, Memory>
+    ensures { IfOk result (λ p. place_of p.value ≡ place_of place.now) }
+{
+    let copied = copy_place(alloc, place)?;
+    Ok(Rc::new(alloc, copied)?)
 }

@@ -15,6 +15,7 @@ use Rattle.xt_syntax.specs.SheetView.{space_rules_of}
 use Rattle.xt_compile.specs.View.{refusal_in}
 use Rattle.spec_touch.specs.Marks.{WorldChange, Anything}
 use Rattle.xt_text.specs.declared.memory.Memory.{Memory}
+use Rattle.xt_record.specs.declared.pool.Pool.{Pool}
 use Rattle.xt_touch.specs.View.{since_of}
 use Rattle.xt_touch.specs.declared.since.Since.{Since}
 use Rattle.xt_held.specs.Marked.{AreToldBy, Tells, document_marks, known_in, known_of, marks_as, source_marks}
@@ -91,28 +92,29 @@ known_after change held modules are =
 
 -- ---- What is told of a source
 
-pub none_told : (known : Known) (origin : Origin) (before : Option (Document ℕ)) → before ≡ None → (document : Document ℕ) (told : List Mark)
-    (changes : List WorldChange) → changes ≡ Anything ∷ [] → AreToldBy (and_marks told (source_marks known origin before document)) changes
-none_told known origin before none document told changes is =
-    subst (λ (b : Option (Document ℕ)). AreToldBy (and_marks told (source_marks known origin b document)) changes) (sym none) (by origin)
+pub none_told : (records : Pool) (known : Known) (origin : Origin) (before : Option (Document ℕ)) → before ≡ None → (document : Document ℕ) (told : List Mark)
+    (changes : List WorldChange) → changes ≡ Anything ∷ [] → AreToldBy records (and_marks told (source_marks known origin before document)) changes
+none_told records known origin before none document told changes is =
+    subst (λ (b : Option (Document ℕ)). AreToldBy records (and_marks told (source_marks known origin b document)) changes) (sym none) (by origin)
   where
-    by : (origin : Origin) → AreToldBy (and_marks told (source_marks known origin None document)) changes
-    by Given = anything_told told changes is
-    by (Edited edit) = anything_told told changes is
-    by (Moved path other) = anything_told told changes is
+    by : (origin : Origin) → AreToldBy records (and_marks told (source_marks known origin None document)) changes
+    by Given = anything_told records told changes is
+    by (Edited edit) = anything_told records told changes is
+    by (Moved path other) = anything_told records told changes is
 
-pub given_told : (known : Known) (origin : Origin) → origin ≡ Given → (before : Option (Document ℕ)) (document : Document ℕ) (told : List Mark)
-    (changes : List WorldChange) → changes ≡ Anything ∷ [] → AreToldBy (and_marks told (source_marks known origin before document)) changes
-given_told known origin given before document told changes is =
-    subst (λ (o : Origin). AreToldBy (and_marks told (source_marks known o before document)) changes) (sym given) (anything_told told changes is)
+pub given_told : (records : Pool) (known : Known) (origin : Origin) → origin ≡ Given → (before : Option (Document ℕ)) (document : Document ℕ) (told : List Mark)
+    (changes : List WorldChange) → changes ≡ Anything ∷ [] → AreToldBy records (and_marks told (source_marks known origin before document)) changes
+given_told records known origin given before document told changes is =
+    subst (λ (o : Origin). AreToldBy records (and_marks told (source_marks known o before document)) changes) (sym given)
+    (anything_told records told changes is)
 
 -- with what is known of, how it was made, and what it was
-pub source_told : {known other : Known} {origin of : Origin} {before : Option (Document ℕ)} {old : Document ℕ} → other ≡ known → origin ≡ of
+pub source_told : (records : Pool) {known other : Known} {origin of : Origin} {before : Option (Document ℕ)} {old : Document ℕ} → other ≡ known → origin ≡ of
     → before ≡ Some old → (document : Document ℕ) (told : List Mark) (r : Result Since Memory)
-    → IfOk r (λ since. AreToldBy (and_marks told (source_marks other of (Some old) document)) (since_of since))
-    → IfOk r (λ since. AreToldBy (and_marks told (source_marks known origin before document)) (since_of since))
-source_told known origin before document told r is =
-    subst (λ (marks : List Mark). IfOk r (λ since. AreToldBy (and_marks told marks) (since_of since)))
+    → IfOk r (λ since. AreToldBy records (and_marks told (source_marks other of (Some old) document)) (since_of since))
+    → IfOk r (λ since. AreToldBy records (and_marks told (source_marks known origin before document)) (since_of since))
+source_told records known origin before document told r is =
+    subst (λ (marks : List Mark). IfOk r (λ since. AreToldBy records (and_marks told marks) (since_of since)))
     (λ i. source_marks (known i) (sym origin i) (sym before i) document) is
 
 -- ---- What is told of a document

@@ -14,6 +14,7 @@ pub mod Dropping
 pub mod Dropped
 pub mod Sparing
 pub mod Marked
+pub mod LeftOut
 pub mod Left
 pub mod Making
 pub mod Batches

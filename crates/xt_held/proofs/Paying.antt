@@ -31,6 +31,7 @@ use Rattle.xt_edit.specs.View.{Edits}
 use Rattle.xt_edit.specs.declared.edit.Edited.{Edited}
 use Rattle.xt_edit.specs.declared.fault.EditFault.{EditFault}
 use Rattle.spec_touch.specs.Marks.{WorldChange}
+use Rattle.xt_record.specs.declared.pool.Pool.{Pool}
 use Rattle.xt_touch.specs.View.{since_of}
 use Rattle.xt_touch.specs.declared.since.Since.{Since}
 use Rattle.xt_world.specs.Numbered.{ref_to}
@@ -38,7 +39,7 @@ use Rattle.xt_world.specs.declared.stylesheet.Stylesheet as world
 use Rattle.xt_driver.specs.Counted.{kept_at}
 use Rattle.xt_held.specs.Complete.{KeepsFor, KeepsWhere}
 use Rattle.xt_held.specs.Cost.{Costs, CostsRun, kept_among, setting_on, setting_seen}
-use Rattle.xt_held.specs.Marked.{AreToldBy, IsLeastOf, Tells, known_in, known_of, left_of}
+use Rattle.xt_held.specs.Marked.{AreToldBy, IsLeastOf, Tells, known_in, known_of, left_of, records_after}
 use Rattle.xt_held.specs.RunView.{last_known}
 use Rattle.xt_held.specs.OutcomeView.{no_counts}
 use Rattle.xt_held.specs.Called.{AreCalled, IsCalled, IsCalledIn, numbered_modules}
@@ -87,7 +88,8 @@ first_past called held source modules compiled batch records since known ran ask
   is_edited = sym (ap is_edited_by batch);
   called = subst (λ (o : Option Compiled). IsCalledIn called (present_of held).modules o) (sym compiled) tt;
   records = sym (ap (map kept_at) records);
-  marks = subst (λ (b : Option Batch). AreToldBy [] (since_of (present_by b (edited_basis held)).last.since)) (sym batch) none_told;
+  marks = subst (λ (b : Option Batch). AreToldBy (present_by b (edited_basis held)).last.kept.records []
+      (since_of (present_by b (edited_basis held)).last.since)) (sym batch) none_told;
   edited_marks = none_told;
   known = sym (ap known_of (λ i. last_known (compiled i) (known i)));
   ran = sym ran;
@@ -97,8 +99,8 @@ first_past called held source modules compiled batch records since known ran ask
     no_documents_yet : held.source ≡ None → held.modules.entries ≡ [] → numbers_of held ≡ no_numbers
     no_documents_yet s m = λ i. record { source = s i; modules = numbered_modules (m i) }
 
-    none_told : AreToldBy [] (since_of held.last.since)
-    none_told = subst (λ (changes : List WorldChange). AreToldBy [] changes) (sym since) nothing_told
+    none_told : AreToldBy held.last.kept.records [] (since_of held.last.since)
+    none_told = subst (λ (changes : List WorldChange). AreToldBy held.last.kept.records [] changes) (sym since) (nothing_told held.last.kept.records)
 
 -- ---- The modules stay
 
@@ -253,6 +255,11 @@ edited_in (changes.Dropped name compiled) (Some batch) h = changed batch.is_edit
     changed true = refl
     changed false = refl
 
+-- the records that will be kept
+records_left : (new : Option Kept) (kept : Kept) → records_after new kept.records ≡ (unwrap_or new kept).records
+records_left None kept = refl
+records_left (Some left) kept = refl
+
 -- the numbered documents that will be held
 numbers_are : {ready : Ready} {old new : Held} → IsAdopted ready old new → numbers_of new ≡ next_numbers ready.change old
 numbers_are h = λ i. record { source = h.source i; modules = h.modules i }
@@ -270,8 +277,8 @@ module _ (change : Change) (next : NodeId) (old new : Held) (marks : List Mark) 
         called = same_called before.called (present_of old).modules (present_of new).modules old.compiled new.compiled
             (ap (λ (basis : Basis). basis.documents.modules) basis) (h.compiled ∙ pending.compiled) is.called;
         records = is.records ∙ sym (ap (λ (last : LastRun). kept_among last.kept.records) h.last);
-        marks = subst (λ (basis : Basis). AreToldBy before.marks (since_of basis.last.since)) (sym basis) is.marks;
-        edited_marks = subst (λ (last : LastRun). AreToldBy (and_marks before.edited_marks marks) (since_of last.since)) (sym h.last)
+        marks = subst (λ (basis : Basis). AreToldBy basis.last.kept.records before.marks (since_of basis.last.since)) (sym basis) is.marks;
+        edited_marks = subst (λ (last : LastRun). AreToldBy last.kept.records (and_marks before.edited_marks marks) (since_of last.since)) (sym h.last)
             (tells.tells before.edited_marks is.edited_marks);
         known = is.known ∙ sym (ap known_of (λ i. last_known ((h.compiled ∙ pending.compiled) i)
             ((ap (λ (last : LastRun). last.before) h.last ∙ pending.before) i)));
@@ -295,6 +302,9 @@ module _ (change : Change) (next : NodeId) (old new : Held) (marks : List Mark) 
       = λ e. told.called (ap (λ (b : Bool). b || is_of_module change) (sym is.is_edited) ∙ e) in
       let chosen = choose (before.is_edited || is_of_module change) before.called documents.modules (next_numbers change old).modules compiled changed stay in
       let asks = tells.tells before.edited_marks is.edited_marks in
+      let told_left : AreToldBy left.records (left_of came.kept asks.all) (since_of came.since)
+      = subst (λ (records : Pool). AreToldBy records (left_of came.kept asks.all) (since_of came.since)) (records_left came.kept old.last.kept)
+      asks.asked.left in
       let known = known_of (last_known compiled (next_before change old)) in
       let after : Past = record {
         present = next_numbers change old;
@@ -344,8 +354,8 @@ module _ (change : Change) (next : NodeId) (old new : Held) (marks : List Mark) 
           called = same_called chosen.called documents.modules (present_of new).modules compiled new.compiled
               (ap (λ (basis : Basis). basis.documents.modules) basis) h.compiled chosen.is;
           records = sym (ap (λ (last : LastRun). kept_among last.kept.records) h.last);
-          marks = subst (λ (basis : Basis). AreToldBy (left_of came.kept asks.all) (since_of basis.last.since)) (sym basis) asks.asked.left;
-          edited_marks = subst (λ (last : LastRun). AreToldBy (left_of came.kept asks.all) (since_of last.since)) (sym h.last) asks.asked.left;
+          marks = subst (λ (basis : Basis). AreToldBy basis.last.kept.records (left_of came.kept asks.all) (since_of basis.last.since)) (sym basis) told_left;
+          edited_marks = subst (λ (last : LastRun). AreToldBy last.kept.records (left_of came.kept asks.all) (since_of last.since)) (sym h.last) told_left;
           known = sym (ap known_of (λ i. last_known (h.compiled i) (ap (λ (last : LastRun). last.before) h.last i)));
           ran = sym (ap (λ (counts : Counts). counts.ran) h.counts);
           asked = sym (ap (λ (counts : Counts). counts.asked) h.counts);
@@ -381,8 +391,8 @@ opened_past held batch none h past is = record {
       (ap (λ (ds : Documents). ds.modules)
       (copied_documents held batch none h ∙ sym (ap (λ (basis : Basis). basis.documents) (was_present held batch none h)))) refl is.called;
   records = is.records;
-  marks = subst (λ (changes : List WorldChange). AreToldBy past.marks changes) (sym h.since)
-      (subst (λ (basis : Basis). AreToldBy past.marks (since_of basis.last.since)) (was_present held batch none h) is.marks);
+  marks = subst (λ (changes : List WorldChange). AreToldBy held.last.kept.records past.marks changes) (sym h.since)
+      (subst (λ (basis : Basis). AreToldBy basis.last.kept.records past.marks (since_of basis.last.since)) (was_present held batch none h) is.marks);
   edited_marks = is.edited_marks;
   known = is.known;
   ran = is.ran;

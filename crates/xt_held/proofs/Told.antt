@@ -29,8 +29,8 @@ use Rattle.spec_cost.specs.Marking as tell
 use Rattle.spec_cost.specs.Marking.{AddsStyle, Known, Mark, StyleIs, and_marks, are_marked, edited_so, edit_marks, is_marked, moved_so, move_marks}
 use Rattle.spec_touch.specs.Leads.{Leads, seen_change}
 use Rattle.spec_touch.specs.Marks as world
-use Rattle.spec_touch.specs.Marks.{WorldChange, any_marks, marks}
-use Rattle.spec_touch.specs.Moved.{move_touched}
+use Rattle.spec_touch.specs.Marks.{WorldChange, any_marks, is_unit_among, marks}
+use Rattle.spec_touch.specs.Moved.{move_touched, stays_in_move}
 use Rattle.spec_touch.specs.Plain.{spared, spared_by_move}
 use Rattle.spec_touch.specs.Touched.{is_touched}
 use Rattle.xt_touch.specs.View as since
@@ -40,7 +40,10 @@ use Rattle.xt_syntax.specs.SheetView.{space_rules_of}
 use Rattle.xt_syntax.specs.declared.space_rules.SpaceRules.{SpaceRules}
 use Rattle.xt_compile.specs.declared.fault.StaticRefusal.{StaticRefusal}
 use Rattle.xt_world.specs.declared.stylesheet.Stylesheet.{Stylesheet as Held}
-use Rattle.xt_held.specs.Marked.{AreHeeded, AreToldBy, MarkAll}
+use Rattle.xt_record.specs.Asked.{NoUnitIsAsked, UnitIsAsked}
+use Rattle.xt_record.specs.declared.pool.Pool.{Pool}
+use Rattle.xt_held.specs.Alike.{LeaveOneOut}
+use Rattle.xt_held.specs.Marked.{AreHeeded, AreToldBy, MarkAll, MarkAUnit}
 use Rattle.xt_held.specs.RunView.{IsFaultless, SeesAll}
 use Rattle.xt_held.specs.StylesheetView.{AreCompiled, AreCompiledBy}
 use Rattle.xt_held.specs.declared.stylesheet.Compiled.{Compiled}
@@ -56,6 +59,12 @@ TellsOf mark change = (q : Question NodeRef) → marks change q ≡ true → is_
 -- and each that is asked of the source or of a parameter alone, and that what is told of it marks, is marked by it
 abbrev pub HeedsOf : Mark → WorldChange → Type 0
 HeedsOf mark change = (q : Question NodeRef) → tell.by_modules q ≡ false → is_marked mark q ≡ true → marks change q ≡ true
+
+-- and where what is told of it marks any unit, it marks one that these records ask for, if they ask for any
+abbrev pub HeedsUnits : Pool → Mark → WorldChange → Type 0
+HeedsUnits records mark change =
+    (element : NodeRef) → is_marked mark (UnitOf element) ≡ true
+    → NoUnitIsAsked records.records.items ⊎ ((asked : NodeRef) × UnitIsAsked asked records.records.items × (marks change (UnitOf asked) ≡ true))
 
 true_unless : (b : Bool) → (b ≡ false → ⊥) → b ≡ true
 true_unless true h = refl
@@ -101,9 +110,9 @@ told_room ms mark e = ap (λ (b : Bool). cond b (ms ++ mark ∷ []) (tell.Anythi
 -- ---- One change more
 
 -- there is room for one more change where what is told leaves a question unmarked
-has_room : (ms : List Mark) (changes : List WorldChange) (mark : Mark) (q : Question NodeRef) → AreToldBy ms changes → Leaves ms mark q
+has_room : (records : Pool) (ms : List Mark) (changes : List WorldChange) (mark : Mark) (q : Question NodeRef) → AreToldBy records ms changes → Leaves ms mark q
     → nat_lt (length changes) since.most_remembered ≡ true
-has_room ms changes mark q h left =
+has_room records ms changes mark q h left =
     let most : length changes ≤ length ms = h.most q left.before in
     let less = ltb-true (length ms) 256 left.room in
     lt-ltb (length changes) 256 (omega (arith, most, less))
@@ -138,9 +147,10 @@ last_marks changes change q e =
     list_any-append (λ c. marks c q) changes (change ∷ [])
     ∙ true_or_so (any_marks changes q) (marks change q || false) (or_true (marks change q) false e)
 
-module _ (ms : List Mark) (mark : Mark) (changes : List WorldChange) (change : WorldChange) (heeds : HeedsOf mark change) where
+module _ (records : Pool) (ms : List Mark) (mark : Mark) (changes : List WorldChange) (change : WorldChange) (heeds : HeedsOf mark change)
+    (units : HeedsUnits records mark change) where
   abbrev Heeded : Type 0
-  Heeded = MarkAll (since.remembered changes change) ⊎ AreHeeded (tell.remembered ms mark) (since.remembered changes change)
+  Heeded = MarkAll (since.remembered changes change) ⊎ AreHeeded records (tell.remembered ms mark) (since.remembered changes change)
 
   full : nat_lt (length changes) since.most_remembered ≡ false → Heeded
   full e = inl (all_is (since.remembered changes change) (full_is changes change e))
@@ -164,16 +174,17 @@ module _ (ms : List Mark) (mark : Mark) (changes : List WorldChange) (change : W
       by (inl e) = inl e
       by (inr e) = inr (alone (is_marked mark q) e)
 
-  in_step : AreHeeded ms changes → nat_lt (length changes) since.most_remembered ≡ true → nat_lt (length ms) tell.most_remembered ≡ true
+  in_step : AreHeeded records ms changes → nat_lt (length changes) since.most_remembered ≡ true → nat_lt (length ms) tell.most_remembered ≡ true
   in_step h e = sym (ap (λ (n : ℕ). nat_lt n 256) h.count) ∙ e
 
-  more_heeded : AreHeeded ms changes → Heeded
+  more_heeded : AreHeeded records ms changes → Heeded
   more_heeded h = by (nat_lt (length changes) since.most_remembered) refl
     where
-      heeded : AreHeeded (ms ++ mark ∷ []) (changes ++ change ∷ [])
+      heeded : AreHeeded records (ms ++ mark ∷ []) (changes ++ change ∷ [])
       heeded = record {
         count = both (length-append changes (change ∷ [])) (length-append ms (mark ∷ [])) h.count;
         marked = λ q alone is. so q alone (either_told q is);
+        units = λ element is. a_unit element (either_told (UnitOf element) is);
       }
         where
           both : {a b m n : ℕ} → a ≡ m + 1 → b ≡ n + 1 → m ≡ n → a ≡ b
@@ -184,30 +195,45 @@ module _ (ms : List Mark) (mark : Mark) (changes : List WorldChange) (change : W
           so q alone (inl e) = still_marks changes change q (h.marked q alone e)
           so q alone (inr e) = last_marks changes change q (heeds q alone e)
 
+          still : MarkAUnit records changes → MarkAUnit records (changes ++ change ∷ [])
+          still (inl none) = inl none
+          still (inr one) = inr (one.0, one.1, still_marks changes change (UnitOf one.0) one.2)
+
+          a_unit : (element : NodeRef) → ((are_marked ms (UnitOf element) ≡ true) ⊎ (is_marked mark (UnitOf element) ≡ true))
+              → MarkAUnit records (changes ++ change ∷ [])
+          a_unit element (inl e) = still (h.units element e)
+          a_unit element (inr e) = by_last (units element e)
+            where
+              by_last : (NoUnitIsAsked records.records.items
+                  ⊎ ((asked : NodeRef) × UnitIsAsked asked records.records.items × (marks change (UnitOf asked) ≡ true)))
+                  → MarkAUnit records (changes ++ change ∷ [])
+              by_last (inl none) = inl none
+              by_last (inr one) = inr (one.0, one.1, last_marks changes change (UnitOf one.0) one.2)
+
       by : (b : Bool) → nat_lt (length changes) since.most_remembered ≡ b → Heeded
       by true e =
-          inr (subst (λ (cs : List WorldChange). AreHeeded (tell.remembered ms mark) cs) (sym (room_is changes change e))
-          (subst (λ (ks : List Mark). AreHeeded ks (changes ++ change ∷ [])) (sym (told_room ms mark (in_step h e))) heeded))
+          inr (subst (λ (cs : List WorldChange). AreHeeded records (tell.remembered ms mark) cs) (sym (room_is changes change e))
+          (subst (λ (ks : List Mark). AreHeeded records ks (changes ++ change ∷ [])) (sym (told_room ms mark (in_step h e))) heeded))
       by false e = full e
 
-  heeded_and : (MarkAll changes ⊎ AreHeeded ms changes) → Heeded
+  heeded_and : (MarkAll changes ⊎ AreHeeded records ms changes) → Heeded
   heeded_and (inl h) = more_all h
   heeded_and (inr h) = more_heeded h
 
-pub told_and : (ms : List Mark) (mark : Mark) (changes : List WorldChange) (change : WorldChange) → TellsOf mark change → HeedsOf mark change
-    → AreToldBy ms changes → AreToldBy (tell.remembered ms mark) (since.remembered changes change)
-told_and ms mark changes change tells heeds h = record {
+pub told_and : (records : Pool) (ms : List Mark) (mark : Mark) (changes : List WorldChange) (change : WorldChange) → TellsOf mark change → HeedsOf mark change
+    → HeedsUnits records mark change → AreToldBy records ms changes → AreToldBy records (tell.remembered ms mark) (since.remembered changes change)
+told_and records ms mark changes change tells heeds units h = record {
   marked = λ q any. true_unless (are_marked (tell.remembered ms mark) q) (λ u.
       let left = leaves ms mark q u in
-      let room = room_is changes change (has_room ms changes mark q h left) in
+      let room = room_is changes change (has_room records ms changes mark q h left) in
       apart q left (either_marks q change changes (subst (λ (cs : List WorldChange). any_marks cs q ≡ true) room any)));
   most = λ q u.
       let left = leaves ms mark q u in
-      let room = room_is changes change (has_room ms changes mark q h left) in
+      let room = room_is changes change (has_room records ms changes mark q h left) in
       subst (λ (cs : List WorldChange). length cs ≤ length (tell.remembered ms mark)) (sym room)
       (subst (λ (ks : List Mark). length (changes ++ change ∷ []) ≤ length ks) (sym (told_room ms mark left.room))
       (longer (length-append changes (change ∷ [])) (length-append ms (mark ∷ [])) (h.most q left.before)));
-  heeded = heeded_and ms mark changes change heeds h.heeded;
+  heeded = heeded_and records ms mark changes change heeds units h.heeded;
 }
   where
     apart : (q : Question NodeRef) → Leaves ms mark q → ((any_marks changes q ≡ true) ⊎ (marks change q ≡ true)) → ⊥
@@ -221,20 +247,22 @@ told_and ms mark changes change tells heeds h = record {
 all_marked : (ms : List Mark) (q : Question NodeRef) → are_marked (tell.remembered ms tell.Anything) q ≡ false → ⊥
 all_marked ms q u = true_false (leaves ms tell.Anything q u).alone
 
-pub anything_told : (ms : List Mark) (changes : List WorldChange) → changes ≡ world.Anything ∷ [] → AreToldBy (tell.remembered ms tell.Anything) changes
-anything_told ms changes is = record {
+pub anything_told : (records : Pool) (ms : List Mark) (changes : List WorldChange) → changes ≡ world.Anything ∷ []
+    → AreToldBy records (tell.remembered ms tell.Anything) changes
+anything_told records ms changes is = record {
   marked = λ q any. true_unless (are_marked (tell.remembered ms tell.Anything) q) (all_marked ms q);
   most = λ q u. absurd (all_marked ms q u);
   heeded = inl (all_is changes is);
 }
 
-pub anything_where : (ms : List Mark) (mark : Mark) (changes : List WorldChange) → changes ≡ world.Anything ∷ [] → mark ≡ tell.Anything
-    → AreToldBy (tell.remembered ms mark) changes
-anything_where ms mark changes is e = subst (λ (m : Mark). AreToldBy (tell.remembered ms m) changes) (sym e) (anything_told ms changes is)
+pub anything_where : (records : Pool) (ms : List Mark) (mark : Mark) (changes : List WorldChange) → changes ≡ world.Anything ∷ [] → mark ≡ tell.Anything
+    → AreToldBy records (tell.remembered ms mark) changes
+anything_where records ms mark changes is e =
+    subst (λ (m : Mark). AreToldBy records (tell.remembered ms m) changes) (sym e) (anything_told records ms changes is)
 
 -- where nothing changes
-pub same_told : (ms : List Mark) (changes next : List WorldChange) → next ≡ changes → AreToldBy ms changes → AreToldBy ms next
-same_told ms changes next e h = subst (λ (cs : List WorldChange). AreToldBy ms cs) (sym e) h
+pub same_told : (records : Pool) (ms : List Mark) (changes next : List WorldChange) → next ≡ changes → AreToldBy records ms changes → AreToldBy records ms next
+same_told records ms changes next e h = subst (λ (cs : List WorldChange). AreToldBy records ms cs) (sym e) h
 
 -- ---- An edit of the source, and a move in it
 
@@ -270,6 +298,28 @@ moves_spare_choices (in_order change) asking q alone = spares_choices change ask
 moves_spare_choices (between left entered) asking q alone =
     ap (λ (b : Bool). b && spared asking entered q) (spares_choices left asking q alone)
 
+-- it marks no unit
+no_edit_of_units : (change : Change) (element : NodeRef) → is_touched change (UnitOf element) ≡ false
+no_edit_of_units change element = by change.of_attributes
+  where
+    by : (b : Bool) → cond b false false ≡ false
+    by true = refl
+    by false = refl
+
+edit_units : (records : Pool) (change : Change) (asking : List (Option Expanded))
+    → HeedsUnits records (tell.SourceEdited change) (world.SourceEdited change asking)
+edit_units records change asking element h = absurd (true_false (sym h ∙ no_edit_of_units change element))
+
+no_move_of_units : (change : MoveChange) (element : NodeRef) → move_touched change (UnitOf element) ≡ false
+no_move_of_units (in_order change) element = no_edit_of_units change element
+no_move_of_units (between left entered) element =
+    ap (λ (b : Bool). (b || is_touched entered (UnitOf element)) && not (stays_in_move left entered (UnitOf element))) (no_edit_of_units left element)
+    ∙ ap (λ (b : Bool). b && not (stays_in_move left entered (UnitOf element))) (no_edit_of_units entered element)
+
+move_units : (records : Pool) (change : MoveChange) (asking : List (Option Expanded))
+    → HeedsUnits records (tell.SourceMoved change) (world.SourceMoved change asking)
+move_units records change asking element h = absurd (true_false (sym h ∙ no_move_of_units change element))
+
 move_heeds : (change : MoveChange) (asking : List (Option Expanded)) → HeedsOf (tell.SourceMoved change) (world.SourceMoved change asking)
 move_heeds change asking q alone h = unspared (move_touched change q) (spared_by_move asking change q) (moves_spare_choices change asking q alone) h
 
@@ -277,32 +327,34 @@ move_tells : (change : MoveChange) (asking : List (Option Expanded)) → TellsOf
 move_tells change asking q h = (and_parts (move_touched change q) (not (spared_by_move asking change q)) h).0
 
 -- the change of an edit is told as it is seen
-pub edit_told : Leading → KeepingSpace → (ms : List Mark) (rules : List SpaceRule) (edit : spec.Edit) (old new : Document ℕ) → IsFaultless old
+pub edit_told : Leading → KeepingSpace → (records : Pool) (ms : List Mark) (rules : List SpaceRule) (edit : spec.Edit) (old new : Document ℕ) → IsFaultless old
     → IsNumbered old → IsEdit edit old new → (first change : Change) → change_of edit old new ≡ Some first
     → (Leads (seen_change first (seen rules old) (seen rules new)) (seen rules old) (seen rules new)
     → change ≡ seen_change first (seen rules old) (seen rules new))
     → (asking : List (Option Expanded)) (changes next : List WorldChange) → next ≡ since.remembered changes (world.SourceEdited change asking)
-    → AreToldBy ms changes → AreToldBy (tell.remembered ms (edit_marks (Some rules) edit old new)) next
-edit_told leading keeping ms rules edit old new faultless numbers q first change is seen_so asking changes next e h =
+    → AreToldBy records ms changes → AreToldBy records (tell.remembered ms (edit_marks (Some rules) edit old new)) next
+edit_told leading keeping records ms rules edit old new faultless numbers q first change is seen_so asking changes next e h =
     let same = seen_so (leads_so leading keeping rules edit old new q (sound_of old numbers faultless) first is) in
     let mark : edit_marks (Some rules) edit old new ≡ tell.SourceEdited change
     = ap (edited_so rules old new) is ∙ ap (λ (c : Change). tell.SourceEdited c) (sym same) in
-    subst (λ (cs : List WorldChange). AreToldBy (tell.remembered ms (edit_marks (Some rules) edit old new)) cs) (sym e)
-    (subst (λ (m : Mark). AreToldBy (tell.remembered ms m) (since.remembered changes (world.SourceEdited change asking))) (sym mark)
-    (told_and ms (tell.SourceEdited change) changes (world.SourceEdited change asking) (edit_tells change asking) (edit_heeds change asking) h))
+    subst (λ (cs : List WorldChange). AreToldBy records (tell.remembered ms (edit_marks (Some rules) edit old new)) cs) (sym e)
+    (subst (λ (m : Mark). AreToldBy records (tell.remembered ms m) (since.remembered changes (world.SourceEdited change asking))) (sym mark)
+    (told_and records ms (tell.SourceEdited change) changes (world.SourceEdited change asking) (edit_tells change asking) (edit_heeds change asking)
+    (edit_units records change asking) h))
 
-pub move_told : (ms : List Mark) (is : Option MoveChange) (change : MoveChange) → Some change ≡ is
+pub move_told : (records : Pool) (ms : List Mark) (is : Option MoveChange) (change : MoveChange) → Some change ≡ is
     → (asking : List (Option Expanded)) (changes next : List WorldChange) → next ≡ since.remembered changes (world.SourceMoved change asking)
-    → AreToldBy ms changes → AreToldBy (tell.remembered ms (moved_so is)) next
-move_told ms is change e asking changes next f h =
-    subst (λ (cs : List WorldChange). AreToldBy (tell.remembered ms (moved_so is)) cs) (sym f)
-    (subst (λ (o : Option MoveChange). AreToldBy (tell.remembered ms (moved_so o)) (since.remembered changes (world.SourceMoved change asking))) e
-    (told_and ms (tell.SourceMoved change) changes (world.SourceMoved change asking) (move_tells change asking) (move_heeds change asking) h))
+    → AreToldBy records ms changes → AreToldBy records (tell.remembered ms (moved_so is)) next
+move_told records ms is change e asking changes next f h =
+    subst (λ (cs : List WorldChange). AreToldBy records (tell.remembered ms (moved_so is)) cs) (sym f)
+    (subst (λ (o : Option MoveChange). AreToldBy records (tell.remembered ms (moved_so o)) (since.remembered changes (world.SourceMoved change asking))) e
+    (told_and records ms (tell.SourceMoved change) changes (world.SourceMoved change asking) (move_tells change asking) (move_heeds change asking)
+    (move_units records change asking) h))
 
-pub no_move_told : (ms : List Mark) (is : Option MoveChange) (changes : List WorldChange) → changes ≡ world.Anything ∷ [] → None ≡ is
-    → AreToldBy (tell.remembered ms (moved_so is)) changes
-no_move_told ms is changes all e =
-    subst (λ (o : Option MoveChange). AreToldBy (tell.remembered ms (moved_so o)) changes) e (anything_told ms changes all)
+pub no_move_told : (records : Pool) (ms : List Mark) (is : Option MoveChange) (changes : List WorldChange) → changes ≡ world.Anything ∷ [] → None ≡ is
+    → AreToldBy records (tell.remembered ms (moved_so is)) changes
+no_move_told records ms is changes all e =
+    subst (λ (o : Option MoveChange). AreToldBy records (tell.remembered ms (moved_so o)) changes) e (anything_told records ms changes all)
 
 -- where all is seen it is the move that is told of; else anything
 pub move_where_all : (rules : SpaceRules) (path other : List ℕ) (old new : Document ℕ) → SeesAll rules
@@ -334,11 +386,23 @@ style_tells units asking (External name) h = absurd (cc)
 style_heeds : (units : List NodeRef) (asking : Option (List (Option Expanded))) → HeedsOf tell.Restyled (world.ModulesChanged units asking)
 style_heeds units asking q alone h = absurd (true_false (sym h ∙ alone))
 
-pub style_told : (ms : List Mark) (units : List NodeRef) (asking : Option (List (Option Expanded))) (changes next : List WorldChange)
-    → next ≡ since.remembered changes (world.ModulesChanged units asking) → AreToldBy ms changes → AreToldBy (tell.remembered ms tell.Restyled) next
-style_told ms units asking changes next e h =
-    same_told (tell.remembered ms tell.Restyled) (since.remembered changes (world.ModulesChanged units asking)) next e
-    (told_and ms tell.Restyled changes (world.ModulesChanged units asking) (style_tells units asking) (style_heeds units asking) h)
+-- but for the one that is left out
+not_among : (b : Bool) → b ≡ false → not b ≡ true
+not_among true e = absurd (cc)
+not_among false e = refl
+
+style_units : (records : Pool) (units : List NodeRef) (asking : Option (List (Option Expanded))) → LeaveOneOut records units
+    → HeedsUnits records tell.Restyled (world.ModulesChanged units asking)
+style_units records units asking (inl none) element h = inl none
+style_units records units asking (inr one) element h = inr (one.0, one.1, not_among (is_unit_among units one.0) one.2)
+
+pub style_told : (records : Pool) (ms : List Mark) (units : List NodeRef) (asking : Option (List (Option Expanded))) (changes next : List WorldChange)
+    → LeaveOneOut records units → next ≡ since.remembered changes (world.ModulesChanged units asking) → AreToldBy records ms changes
+    → AreToldBy records (tell.remembered ms tell.Restyled) next
+style_told records ms units asking changes next out e h =
+    same_told records (tell.remembered ms tell.Restyled) (since.remembered changes (world.ModulesChanged units asking)) next e
+    (told_and records ms tell.Restyled changes (world.ModulesChanged units asking) (style_tells units asking) (style_heeds units asking)
+    (style_units records units asking out) h)
 
 -- nothing was known
 pub style_unknown : (known : Known) (sheet : plain.Sheet) → known ≡ None → StyleIs known (Ok sheet) (tell.Anything ∷ [])
@@ -429,8 +493,12 @@ value_heeds name (Copy node) alone h = absurd (cc)
 value_heeds name (UnitOf element) alone h = absurd (cc)
 value_heeds name (External other) alone h = h
 
-pub value_told : (ms : List Mark) (name : List ℕ) (changes next : List WorldChange) → next ≡ since.remembered changes (world.ParameterGiven name)
-    → AreToldBy ms changes → AreToldBy (tell.remembered ms (tell.Given name)) next
-value_told ms name changes next e h =
-    same_told (tell.remembered ms (tell.Given name)) (since.remembered changes (world.ParameterGiven name)) next e
-    (told_and ms (tell.Given name) changes (world.ParameterGiven name) (value_tells name) (value_heeds name) h)
+value_units : (records : Pool) (name : List ℕ) → HeedsUnits records (tell.Given name) (world.ParameterGiven name)
+value_units records name element h = absurd (cc)
+
+pub value_told : (records : Pool) (ms : List Mark) (name : List ℕ) (changes next : List WorldChange)
+    → next ≡ since.remembered changes (world.ParameterGiven name)
+    → AreToldBy records ms changes → AreToldBy records (tell.remembered ms (tell.Given name)) next
+value_told records ms name changes next e h =
+    same_told records (tell.remembered ms (tell.Given name)) (since.remembered changes (world.ParameterGiven name)) next e
+    (told_and records ms (tell.Given name) changes (world.ParameterGiven name) (value_tells name) (value_heeds name) (value_units records name) h)

@@ -1,12 +1,13 @@
 -- What changes mark, by what is told of them, and what a run asks again by that.
---     AreToldBy     changes mark no more than what is told of them, and what is told of the source and of parameters alone
+--     AreToldBy     changes mark no more than what is told of them, and what is told of the source and of parameters alone, and a unit that records ask for
+--                   where a unit is told
 --     source_marks  what is told of a source that is given, edited, or in which a node was moved
 --     AsksLeast     what it says of changes that nothing was run and nothing asked again
 --     IsAskedBy     what a run asked again, and what is told of after it
 --     Tells         what is told of a change that is ready
 use Rattle.std.specs.Prelude.{ℕ, ◌≡◌, ◌⊎◌, ◌≤◌, Bool, true, false, List, [], ◌∷◌, length, map, ◌||◌, Option, None, Some, IfSome}
 use Rattle.spec_document.specs.Forest.{Document}
-use Rattle.spec_meaning.specs.Question.{Question}
+use Rattle.spec_meaning.specs.Question.{Question, Unit as UnitOf}
 use Rattle.spec_node.specs.declared.node_ref.NodeRef.{NodeRef}
 use Rattle.spec_cost.specs.Marking.{Known, Mark, Anything, and_marks, are_marked, by_modules, edit_marks, marked_among, marks_between, move_marks}
 use Rattle.spec_cost.specs.Numbers.{NumberedDocuments}
@@ -16,7 +17,7 @@ use Rattle.spec_touch.specs.Marks.{WorldChange, any_marks}
 use Rattle.xt_edit.specs.View.{edit_of}
 use Rattle.xt_syntax.specs.SheetView.{space_rules_of}
 use Rattle.xt_touch.specs.View.{since_of}
-use Rattle.xt_record.specs.Asked.{NoneMarkedAmong}
+use Rattle.xt_record.specs.Asked.{NoUnitIsAsked, NoneMarkedAmong, UnitIsAsked}
 use Rattle.xt_record.specs.declared.pool.Pool.{Pool}
 use Rattle.xt_driver.specs.Counted.{kept_at}
 use Rattle.xt_held.specs.RunView.{last_known}
@@ -41,17 +42,25 @@ use Rattle.xt_held.specs.declared.stylesheet.Compiled.TheVariants.{Stylesheet, R
 abbrev pub MarkAll : List WorldChange → Type 0
 MarkAll changes = (question : Question NodeRef) → any_marks changes question ≡ true
 
--- as many are remembered as are told of, and each question that is asked of the source or of a parameter alone is marked by them if it is by these
-pub record AreHeeded (marks : List Mark) (changes : List WorldChange) : Type 0 where
+-- these changes mark a unit that the records ask for, if they ask for any
+abbrev pub MarkAUnit : Pool → List WorldChange → Type 0
+MarkAUnit records changes =
+    NoUnitIsAsked records.records.items
+    ⊎ ((element : NodeRef) × UnitIsAsked element records.records.items × (any_marks changes (UnitOf element) ≡ true))
+
+-- as many are remembered as are told of, and each question that is asked of the source or of a parameter alone is marked by them if it is by these; and
+-- where these mark any unit, they mark one that the records ask for
+pub record AreHeeded (records : Pool) (marks : List Mark) (changes : List WorldChange) : Type 0 where
   pub count : length changes ≡ length marks
   pub marked : (question : Question NodeRef) → by_modules question ≡ false → are_marked marks question ≡ true → any_marks changes question ≡ true
+  pub units : (element : NodeRef) → are_marked marks (UnitOf element) ≡ true → MarkAUnit records changes
 
 -- each question that one of these changes marks is marked by what is told of them; and where that leaves a question unmarked, no more are remembered than are
--- told of. And they mark what is told of the source and of parameters, or anything
-pub record AreToldBy (marks : List Mark) (changes : List WorldChange) : Type 0 where
+-- told of. And they mark what is told of the source and of parameters, and one of the units that these records ask for, or anything
+pub record AreToldBy (records : Pool) (marks : List Mark) (changes : List WorldChange) : Type 0 where
   pub marked : (question : Question NodeRef) → any_marks changes question ≡ true → are_marked marks question ≡ true
   pub most : (question : Question NodeRef) → are_marked marks question ≡ false → length changes ≤ length marks
-  pub heeded : MarkAll changes ⊎ AreHeeded marks changes
+  pub heeded : MarkAll changes ⊎ AreHeeded records marks changes
 
 -- the rules for white space of modules that are this, where they are a stylesheet
 abbrev pub known_of : Option Compiled → Known
@@ -89,7 +98,12 @@ abbrev pub left_of : Option Kept → List Mark → List Mark
 left_of None marks = marks
 left_of (Some kept) marks = []
 
--- where nothing was run and nothing asked again, these changes mark no question of these records that is asked of the source or of a parameter alone
+-- the records of a run that ended with a result take the place of those
+abbrev pub records_after : Option Kept → Pool → Pool
+records_after None records = records
+records_after (Some kept) records = kept.records
+
+-- where nothing was run and nothing asked again, these changes mark no question of these records but choices and keys
 abbrev pub AsksLeast : List WorldChange → Pool → Counts → Type 0
 AsksLeast changes records counts = counts.ran ≡ 0 → counts.asked ≡ 0 → NoneMarkedAmong changes records.records.items
 
@@ -102,7 +116,7 @@ IsLeastOf marks records counts = counts.ran ≡ 0 → counts.asked ≡ 0 → pay
 pub record IsAskedBy (marks : List Mark) (records : Pool) (came : Came) : Type 0 where
   pub again : came.counts.asked ≤ marked_among marks (map kept_at records.records.items)
   pub least : IfSome came.kept (λ kept. IsLeastOf marks records came.counts)
-  pub left : AreToldBy (left_of came.kept marks) (since_of came.since)
+  pub left : AreToldBy (records_after came.kept records) (left_of came.kept marks) (since_of came.since)
 
 -- ---- What a change tells
 
@@ -114,8 +128,8 @@ pub record IsAskedFor (told : List Mark) (came : Came) (ready : Ready) (held : H
 
 abbrev pub TellsBy : Coming → (told : List Mark) → Ready → Held → Type 0
 TellsBy (Told came) told ready held = IsAskedFor told came ready held
-TellsBy (Pending since) told ready held = AreToldBy told (since_of since)
+TellsBy (Pending since) told ready held = AreToldBy held.last.kept.records told (since_of since)
 
 -- these marks are told of it
 pub record Tells (marks : List Mark) (held : Held) (ready : Ready) : Type 0 where
-  pub tells : (told : List Mark) → AreToldBy told (since_of held.last.since) → TellsBy ready.coming (and_marks told marks) ready held
+  pub tells : (told : List Mark) → AreToldBy held.last.kept.records told (since_of held.last.since) → TellsBy ready.coming (and_marks told marks) ready held

@@ -35,8 +35,8 @@ pub record IsPast (past : Past) (held : Held) : Type 0 where
   pub is_edited : past.is_edited ≡ is_edited_by held.batch
   pub called : IsCalledIn past.called (present_of held).modules held.compiled
   pub records : past.records ≡ map kept_at (last_in held).kept.records.records.items
-  pub marks : AreToldBy past.marks (since_of (present_basis held).last.since)
-  pub edited_marks : AreToldBy past.edited_marks (since_of (last_in held).since)
+  pub marks : AreToldBy (present_basis held).last.kept.records past.marks (since_of (present_basis held).last.since)
+  pub edited_marks : AreToldBy (last_in held).kept.records past.edited_marks (since_of (last_in held).since)
   pub known : past.known ≡ known_in held
   pub ran : past.ran ≡ (counts_in held).ran
   pub asked : past.asked ≡ (counts_in held).asked

@@ -525,7 +525,7 @@ impl Held {
         ensures last { IfOk result (λ came. LastHolds (outcome_of came.outcome) self.now.compiled (parameters_of self.now.parameters) (Some document.now)
             (left_by came self.now.last.before self.now.last)) }
         ensures cost { IfOk result (λ came. CostsRun self.now.compiled (parameters_of self.now.parameters) (Some document.now) self.now.last.kept.records came.counts) }
-        ensures asks { (told : List Mark) → AreToldBy told (since_of self.now.last.since)
+        ensures asks { (told : List Mark) → AreToldBy self.now.last.kept.records told (since_of self.now.last.since)
             → IfOk result (IsAskedBy (and_marks told (source_marks (known_in self.now) origin.entry self.now.source document.now)) self.now.last.kept.records) }
         ensures keeps { IfOk result (λ came. KeepsWhere self.now.compiled (parameters_of self.now.parameters) (Some document.now) came.kept) }
     {
@@ -547,7 +547,7 @@ impl Held {
         ensures last { IfOk result (λ came. LastHolds (outcome_of came.outcome) self.now.compiled (parameters_of self.now.parameters) (option_copied source.entry)
             (left_by came self.now.last.before self.now.last)) }
         ensures cost { IfOk result (λ came. CostsRun self.now.compiled (parameters_of self.now.parameters) (option_copied source.entry) self.now.last.kept.records came.counts) }
-        ensures asks { (marks : List Mark) → AreToldBy marks (since_of since) → IfOk result (IsAskedBy marks self.now.last.kept.records) }
+        ensures asks { (marks : List Mark) → AreToldBy self.now.last.kept.records marks (since_of since) → IfOk result (IsAskedBy marks self.now.last.kept.records) }
         ensures keeps { IfOk result (λ came. KeepsWhere self.now.compiled (parameters_of self.now.parameters) (option_copied source.entry) came.kept) }
     {
         let compiled = self.compiled.as_ref();
@@ -567,8 +567,8 @@ impl Held {
         requires made { IsMadeBy origin self.now.source document.now }
         ensures spared { let known = last_known self.now.compiled self.now.last.before in let given = parameters_of self.now.parameters in
             IfOk result (λ since. StaysSpared known known given given self.now.source (Some document.now) (since_of self.now.last.since) (since_of since)) }
-        ensures told { (told : List Mark) → AreToldBy told (since_of self.now.last.since)
-            → IfOk result (λ since. AreToldBy (and_marks told (source_marks (known_in self.now) origin.entry self.now.source document.now)) (since_of since)) }
+        ensures told { (told : List Mark) → AreToldBy self.now.last.kept.records told (since_of self.now.last.since)
+            → IfOk result (λ since. AreToldBy self.now.last.kept.records (and_marks told (source_marks (known_in self.now) origin.entry self.now.source document.now)) (since_of since)) }
     {
         let known = last_known(&self.compiled, &self.last.before);
         let since = &self.last.since;
@@ -697,12 +697,18 @@ impl Held {
         ensures last { IfOk result (λ came. LastHolds (outcome_of came.outcome) (option_copied compiled.entry) (parameters_of self.now.parameters) self.now.source
             (left_by came (before_by (option_copied compiled.entry) self.now.compiled self.now.last.before) self.now.last)) }
         ensures cost { IfOk result (λ came. CostsRun (option_copied compiled.entry) (parameters_of self.now.parameters) self.now.source self.now.last.kept.records came.counts) }
-        ensures asks { (told : List Mark) → AreToldBy told (since_of self.now.last.since) → (modules : Modules) → AreCompiled modules (option_copied compiled.entry)
+        ensures asks { (told : List Mark) → AreToldBy self.now.last.kept.records told (since_of self.now.last.since) → (modules : Modules) → AreCompiled modules (option_copied compiled.entry)
             → IfOk result (λ came. (style : List Mark) × AddsStyle modules (modules main_name) (known_in self.now) style × IsAskedBy (and_marks told style) self.now.last.kept.records came) }
         ensures keeps { IfOk result (λ came. KeepsWhere (option_copied compiled.entry) (parameters_of self.now.parameters) self.now.source came.kept) }
     {
         let known = last_known(&self.compiled, &self.last.before);
-        let since = since_modules(alloc, known, &self.last.since, compiled)?;
+        let since = since_modules(
+            alloc,
+            known,
+            &self.last.since,
+            &self.last.kept.records,
+            compiled,
+        )?;
         let source = self.source.as_ref();
         let parameters = &self.parameters;
         let kept = &self.last.kept;

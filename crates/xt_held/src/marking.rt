@@ -1,5 +1,5 @@
 // What changed since the last run that ended with a result, after one change more.
-ghost use Rattle.std.specs.Prelude.{◌≡◌, ◌++◌, ◌∷◌, [], ℕ, List, Option, IfOk, Ok, OnOk, Some, true};
+ghost use Rattle.std.specs.Prelude.{◌≡◌, ◌++◌, ◌∷◌, [], ℕ, List, Option, IfOk, IfSome, Ok, OnOk, Some, false, true};
 ghost use Rattle.std.specs.Bool.{Decides};
 ghost use Rattle.std.specs.Option.{option_copied};
 ghost use Rattle.spec_document.specs.Forest.{Document};
@@ -16,13 +16,15 @@ ghost use Rattle.spec_touch.specs.Leads as leads;
 ghost use Rattle.spec_touch.specs.Leads.{Leads};
 ghost use Rattle.xt_edit.specs.Telling.{change_in};
 ghost use Rattle.xt_edit.specs.View.{edit_of};
+ghost use Rattle.xt_record.specs.declared.pool.Pool.{Pool as Records};
 ghost use Rattle.xt_syntax.specs.SheetView.{space_rules_of};
 ghost use Rattle.xt_syntax.specs.declared.space_rules.SpaceRules.{SpaceRules as Rules};
 ghost use Rattle.xt_touch.specs.View.{since_of};
 ghost use Rattle.xt_world.specs.ParameterView.{with_value};
+ghost use Rattle.spec_node.specs.Naming.{same_ref};
 ghost use Rattle.spec_node.specs.declared.node_ref.NodeRef.{NodeRef};
 ghost use Rattle.spec_touch.specs.Marks.{is_unit_among};
-ghost use Rattle.xt_held.specs.Alike.{ChooseAlike, HaveUnitsAlike};
+ghost use Rattle.xt_held.specs.Alike.{ChooseAlike, HaveUnitsAlike, LeaveOneOut};
 ghost use Rattle.xt_held.specs.Marked.{AreToldBy, known_of};
 ghost use Rattle.xt_held.specs.RunView.{IsFaultless, SeeAlike, SeesAll, StaysSpared, last_known};
 ghost use Rattle.xt_held.specs.StylesheetView.{AreCompiled};
@@ -36,8 +38,9 @@ use spec_touch::{
 };
 use std::alloc::Global;
 use xt_edit::{Change, Edit};
+use xt_record::Pool;
 use xt_strip::Sighted;
-use xt_syntax::{Rule, SpaceRules};
+use xt_syntax::SpaceRules;
 use xt_text::{Memory, Path, Text};
 use xt_touch::{Elements, Modes, Since, WorldChange, seen_change};
 use xt_tree::NodeRef;
@@ -56,8 +59,8 @@ pub(crate) fn since_edit(
     requires faultless { IsFaultless old.now }
     ensures spared { (parameters : Parameters) → IfOk result (λ next. let what = option_copied known.entry in
         StaysSpared what what parameters parameters (Some old.now) (Some new.now) (since_of since.now) (since_of next)) }
-    ensures told { (marks : List Mark) → AreToldBy marks (since_of since.now) → IfOk result (λ next.
-        AreToldBy (remembered marks (edit_marks (known_of (option_copied known.entry)) (edit_of edit.now) old.now new.now)) (since_of next)) }
+    ensures told { (records : Records) (marks : List Mark) → AreToldBy records marks (since_of since.now) → IfOk result (λ next.
+        AreToldBy records (remembered marks (edit_marks (known_of (option_copied known.entry)) (edit_of edit.now) old.now new.now)) (since_of next)) }
 {
     match known {
         None => Since::anything(alloc),
@@ -85,8 +88,8 @@ fn since_edit_of(
     ensures spared { (method : Option (Method Expanded)) (parameters : Parameters) → IfOk result (λ next.
         let what = Some (compiled.Stylesheet stylesheet.now space_rules.now method) in
         StaysSpared what what parameters parameters (Some old.now) (Some new.now) (since_of since.now) (since_of next)) }
-    ensures told { (marks : List Mark) → AreToldBy marks (since_of since.now) → IfOk result (λ next.
-        AreToldBy (remembered marks (edit_marks (Some (space_rules_of space_rules.now).rules) (edit_of edit.now) old.now new.now)) (since_of next)) }
+    ensures told { (records : Records) (marks : List Mark) → AreToldBy records marks (since_of since.now) → IfOk result (λ next.
+        AreToldBy records (remembered marks (edit_marks (Some (space_rules_of space_rules.now).rules) (edit_of edit.now) old.now new.now)) (since_of next)) }
 {
     unmarked_questions_keep_their_answers_in_worlds();
     edits_lead_as_they_are_seen();
@@ -144,8 +147,8 @@ pub(crate) fn since_move(
     requires faultless { IsFaultless old.now }
     ensures spared { (parameters : Parameters) → IfOk result (λ next. let what = option_copied known.entry in
         StaysSpared what what parameters parameters (Some old.now) (Some new.now) (since_of since.now) (since_of next)) }
-    ensures told { (marks : List Mark) → AreToldBy marks (since_of since.now) → IfOk result (λ next.
-        AreToldBy (remembered marks (move_marks (known_of (option_copied known.entry)) path.now other.now old.now new.now)) (since_of next)) }
+    ensures told { (records : Records) (marks : List Mark) → AreToldBy records marks (since_of since.now) → IfOk result (λ next.
+        AreToldBy records (remembered marks (move_marks (known_of (option_copied known.entry)) path.now other.now old.now new.now)) (since_of next)) }
 {
     match known {
         None => Since::anything(alloc),
@@ -183,8 +186,8 @@ fn since_move_of(
     ensures spared { (rules : Rules) (method : Option (Method Expanded)) (parameters : Parameters) → SeesAll rules → IfOk result (λ next.
         let what = Some (compiled.Stylesheet stylesheet.now rules method) in
         StaysSpared what what parameters parameters (Some old.now) (Some new.now) (since_of since.now) (since_of next)) }
-    ensures told { (marks : List Mark) → AreToldBy marks (since_of since.now) → IfOk result (λ next.
-        AreToldBy (remembered marks (moved_so (move_change path.now other.now old.now new.now))) (since_of next)) }
+    ensures told { (records : Records) (marks : List Mark) → AreToldBy records marks (since_of since.now) → IfOk result (λ next.
+        AreToldBy records (remembered marks (moved_so (move_change path.now other.now old.now new.now))) (since_of next)) }
 {
     unmarked_questions_keep_their_answers_in_worlds();
     old.distinct_numbers();
@@ -200,25 +203,26 @@ fn since_move_of(
     }
 }
 
-/// After a change of modules, which are this from then on.
+/// After a change of modules, which are this from then on. These are the records of the last run that ended with a result.
 pub(crate) fn since_modules(
     alloc: Global,
     known: Option<&Compiled>,
     since: &Since,
+    records: &Pool,
     new: Option<&Compiled>,
 ) -> Result<Since, Memory>
     ensures spared { (parameters : Parameters) (source : Option (Document ℕ)) → IfOk result (λ next. let what = option_copied known.entry in
         StaysSpared what (last_known (option_copied new.entry) what) parameters parameters source source (since_of since.now) (since_of next)) }
-    ensures told { (marks : List Mark) → AreToldBy marks (since_of since.now) → (modules : Modules) → AreCompiled modules (option_copied new.entry)
+    ensures told { (marks : List Mark) → AreToldBy records.now marks (since_of since.now) → (modules : Modules) → AreCompiled modules (option_copied new.entry)
         → IfOk result (λ next. (style : List Mark) × AddsStyle modules (modules main_name) (known_of (option_copied known.entry)) style
-        × AreToldBy (and_marks marks style) (since_of next)) }
+        × AreToldBy records.now (and_marks marks style) (since_of next)) }
 {
     match new {
         None => since.copy(alloc),
         Some(new) => match new {
             Compiled::Refused(_) => since.copy(alloc),
             Compiled::Stylesheet(stylesheet, space_rules, _) => {
-                since_stylesheet(alloc, known, since, stylesheet, space_rules)
+                since_stylesheet(alloc, known, since, records, stylesheet, space_rules)
             }
         },
     }
@@ -230,15 +234,16 @@ fn since_stylesheet(
     alloc: Global,
     known: Option<&Compiled>,
     since: &Since,
+    records: &Pool,
     stylesheet: &Stylesheet,
     space_rules: &SpaceRules,
 ) -> Result<Since, Memory>
     ensures spared { (method : Option (Method Expanded)) (parameters : Parameters) (source : Option (Document ℕ)) → IfOk result (λ next.
         StaysSpared (option_copied known.entry) (Some (compiled.Stylesheet stylesheet.now space_rules.now method)) parameters parameters source source
         (since_of since.now) (since_of next)) }
-    ensures told { (marks : List Mark) → AreToldBy marks (since_of since.now) → (sheet : Sheet) → space_rules_of space_rules.now ≡ sheet.space_rules
+    ensures told { (marks : List Mark) → AreToldBy records.now marks (since_of since.now) → (sheet : Sheet) → space_rules_of space_rules.now ≡ sheet.space_rules
         → IfOk result (λ next. (style : List Mark) × StyleIs (known_of (option_copied known.entry)) (Ok sheet) style
-        × AreToldBy (and_marks marks style) (since_of next)) }
+        × AreToldBy records.now (and_marks marks style) (since_of next)) }
 {
     match known {
         None => Since::anything(alloc),
@@ -248,7 +253,7 @@ fn since_stylesheet(
                 if !space_rules.same(rules) {
                     return Since::anything(alloc);
                 }
-                since_other(alloc, since, old, stylesheet)
+                since_other(alloc, since, records, old, stylesheet)
             }
         },
     }
@@ -258,6 +263,7 @@ fn since_stylesheet(
 fn since_other(
     alloc: Global,
     since: &Since,
+    records: &Pool,
     old: &Stylesheet,
     new: &Stylesheet,
 ) -> Result<Since, Memory>
@@ -265,11 +271,11 @@ fn since_other(
         → space_rules_of others ≡ space_rules_of rules → IfOk result (λ next.
         StaysSpared (Some (compiled.Stylesheet old.now rules method)) (Some (compiled.Stylesheet new.now others another)) parameters parameters
         source source (since_of since.now) (since_of next)) }
-    ensures told { (marks : List Mark) → AreToldBy marks (since_of since.now)
-        → IfOk result (λ next. AreToldBy (remembered marks Restyled) (since_of next)) }
+    ensures told { (marks : List Mark) → AreToldBy records.now marks (since_of since.now)
+        → IfOk result (λ next. AreToldBy records.now (remembered marks Restyled) (since_of next)) }
 {
     unmarked_questions_keep_their_answers_in_worlds();
-    let units = units_alike(alloc, old, new)?;
+    let units = units_alike(alloc, records, old, new)?;
     let Ok(asking) = modes_alike(alloc, old, new) else {
         drop(units);
         return Err(Memory);
@@ -277,39 +283,45 @@ fn since_other(
     since.and(alloc, WorldChange::ModulesChanged { units, asking })
 }
 
-// The elements whose units need not be asked for: those whose units are the same in both, but for those of the rules that may be
-// chosen for the root. A run that is served whole begins with one of these, so after a change of modules it asks one question at
-// least, as the numbers of `stats` are to tell. Where no rule may, it is none.
-fn units_alike(alloc: Global, old: &Stylesheet, new: &Stylesheet) -> Result<Elements, Memory>
-    ensures { IfOk result (λ units. HaveUnitsAlike old.now new.now units) }
+// The elements whose units need not be asked for: those whose units are the same in both, but for one for which a record asks,
+// the one of the root where that asks for one. So after a change of modules that runs nothing one question is asked at least, as
+// the numbers of `stats` are to tell.
+fn units_alike(
+    alloc: Global,
+    records: &Pool,
+    old: &Stylesheet,
+    new: &Stylesheet,
+) -> Result<Elements, Memory>
+    ensures alike { IfOk result (λ units. HaveUnitsAlike old.now new.now units) }
+    ensures left_out { IfOk result (λ units. LeaveOneOut records.now units) }
 {
     let elements = same_units(alloc, old, new)?;
-    let spared = below_the_root(alloc, new, elements.as_slice())?;
+    let spared = all_but(alloc, elements.as_slice(), records.last_unit())?;
     Elements::of(alloc, spared.as_slice())
 }
 
-// Those of these elements that are of no rule for the root, where there is such a rule.
-fn below_the_root(
+// These elements, but for the one that is left out.
+fn all_but(
     alloc: Global,
-    stylesheet: &Stylesheet,
     elements: &[NodeRef],
+    left_out: Option<NodeRef>,
 ) -> Result<Vec<NodeRef>, Memory>
-    ensures { IfOk result (λ list. (element : NodeRef) → is_unit_among list.items element ≡ true → is_unit_among elements.now element ≡ true) }
+    ensures among { IfOk result (λ list. (element : NodeRef) → is_unit_among list.items element ≡ true → is_unit_among elements.now element ≡ true) }
+    ensures left_out { IfOk result (λ list. IfSome left_out (λ one. is_unit_among list.items one ≡ false)) }
 {
     let mut list = Vec::new(alloc);
-    if !has_root_rule(stylesheet) {
-        return Ok(list);
-    }
     for element in elements {
-        push_unless(&mut list, *element, is_for_root(stylesheet, *element))?;
+        push_unless(&mut list, *element, is_that(left_out, *element))?;
     }
     Ok(list)
 }
 
 // Adds the element, unless it is left out.
 fn push_unless(list: &mut Vec<NodeRef>, element: NodeRef, is_left_out: bool) -> Result<(), Memory>
-    ensures { OnOk result ((others : List NodeRef) → ((sought : NodeRef) → is_unit_among list.old.items sought ≡ true → is_unit_among others sought ≡ true)
+    ensures among { OnOk result ((others : List NodeRef) → ((sought : NodeRef) → is_unit_among list.old.items sought ≡ true → is_unit_among others sought ≡ true)
         → (sought : NodeRef) → is_unit_among list.new.items sought ≡ true → is_unit_among (others ++ element ∷ []) sought ≡ true) }
+    ensures left_out { OnOk result ((one : NodeRef) → is_left_out ≡ same_ref one element → is_unit_among list.old.items one ≡ false
+        → is_unit_among list.new.items one ≡ false) }
 {
     if is_left_out {
         return Ok(());
@@ -318,44 +330,13 @@ fn push_unless(list: &mut Vec<NodeRef>, element: NodeRef, is_left_out: bool) -> 
     Ok(())
 }
 
-// Whether a rule of this element's template may be chosen for the root.
-fn is_for_root(stylesheet: &Stylesheet, element: NodeRef) -> bool {
-    for rule in &stylesheet.rules.rules {
-        if is_root_rule(rule) && is_of(stylesheet, rule, element) {
-            return true;
-        }
-    }
-    false
-}
-
-// Whether there is a rule for the root.
-fn has_root_rule(stylesheet: &Stylesheet) -> bool {
-    for rule in &stylesheet.rules.rules {
-        if is_root_rule(rule) {
-            return true;
-        }
-    }
-    false
-}
-
-// Whether it is of no mode, and its pattern has an alternative without steps, as `/` has, or key() alone.
-fn is_root_rule(rule: &Rule) -> bool {
-    if rule.mode.is_some() {
-        return false;
-    }
-    for alternative in &rule.pattern.alternatives {
-        if alternative.steps.is_empty() {
-            return true;
-        }
-    }
-    false
-}
-
-// Whether its template is of this element.
-fn is_of(stylesheet: &Stylesheet, rule: &Rule, element: NodeRef) -> bool {
-    match stylesheet.elements.get(rule.unit as usize) {
-        Some(other) => *other == element,
+// Whether the element is that one, if it is any.
+fn is_that(that: Option<NodeRef>, element: NodeRef) -> bool
+    ensures { IfSome that (λ one. result ≡ same_ref one element) }
+{
+    match that {
         None => false,
+        Some(one) => one == element,
     }
 }
 
@@ -374,8 +355,8 @@ fn modes_alike(alloc: Global, old: &Stylesheet, new: &Stylesheet) -> Result<Opti
 pub(crate) fn since_parameter(alloc: Global, since: &Since, name: &Text) -> Result<Since, Memory>
     ensures spared { (known : Option What) (parameters : Parameters) (value : List ℕ) (source : Option (Document ℕ)) → IfOk result (λ next.
         StaysSpared known known parameters (with_value name.now value parameters) source source (since_of since.now) (since_of next)) }
-    ensures told { (marks : List Mark) → AreToldBy marks (since_of since.now)
-        → IfOk result (λ next. AreToldBy (remembered marks (Given name.now)) (since_of next)) }
+    ensures told { (records : Records) (marks : List Mark) → AreToldBy records marks (since_of since.now)
+        → IfOk result (λ next. AreToldBy records (remembered marks (Given name.now)) (since_of next)) }
 {
     unmarked_questions_keep_their_answers_in_worlds();
     let name = name.copy(alloc)?;

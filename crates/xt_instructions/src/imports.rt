@@ -20,6 +20,7 @@ ghost use Rattle.xt_frames.specs.Left.{left_in, hand, Does, IsStill};
 use crate::simple::advanced;
 use spec_expression::DynCode;
 use std::alloc::Global;
+use std::rc::Rc;
 use xt_base::Place;
 use xt_engine::{Call, Event, Refused, Ruling, Target};
 use xt_frames::{Body, Frame, Next, Run, Standing, want};
@@ -143,7 +144,8 @@ fn current_rule(
     if !here.ruled {
         return Ok(None);
     }
-    let place = copy_place(alloc, &site.place)?;
+    let copied = copy_place(alloc, &site.place)?;
+    let place = Rc::new(alloc, copied)?;
     let seen = copy_rule_if(alloc, &run.supplies.rule)?;
     run.going.note(Event::Saw(Wanted::Rule, here.depth, place, Given::Ruled(seen)))?;
     copy_rule_if(alloc, &run.supplies.rule)

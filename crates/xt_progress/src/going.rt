@@ -161,8 +161,8 @@ impl Going {
     }
 
     /// Leaves a hole for what is entered from a content so deep, and notes that.
-    pub fn leave_hole(&mut self, call: Call, depth: u64) -> Result<(), Memory>
-        ensures { OnOk result (going_of self.new ≡ opened (call_of call) depth (going_of self.old)) }
+    pub fn leave_hole(&mut self, call: Rc<Call>, depth: u64) -> Result<(), Memory>
+        ensures { OnOk result (going_of self.new ≡ opened (call_of call.value) depth (going_of self.old)) }
     {
         let Ok(()) = self.top.push(Item::Hole) else {
             drop(call);

@@ -47,13 +47,13 @@ module _ (ask : Question NodeRef → Answer NodeRef) where
 
 -- what is spared among all, at each place
 module _ (ask : Question NodeRef → Answer NodeRef) (spared : Spared) where
-  first_spared : (e : Event NodeRef) (es : List (Event NodeRef)) → AsksSpared ask spared (e ∷ es) → AsksSpared ask spared (e ∷ [])
+  pub first_spared : (e : Event NodeRef) (es : List (Event NodeRef)) → AsksSpared ask spared (e ∷ es) → AsksSpared ask spared (e ∷ [])
   first_spared (Asked q a) es h = (h.0, tt)
   first_spared (Saw w d l x) es h = tt
   first_spared (Entered c d) es h = tt
   first_spared (Held j xs) es h = tt
 
-  others_spared : (e : Event NodeRef) (es : List (Event NodeRef)) → AsksSpared ask spared (e ∷ es) → AsksSpared ask spared es
+  pub others_spared : (e : Event NodeRef) (es : List (Event NodeRef)) → AsksSpared ask spared (e ∷ es) → AsksSpared ask spared es
   others_spared (Asked q a) es h = h.1
   others_spared (Saw w d l x) es h = h
   others_spared (Entered c d) es h = h

@@ -3,6 +3,7 @@ pub mod Sets
 pub mod Ok
 pub mod Parameters
 pub mod Answered
+pub mod Recalled
 pub mod Judging
 pub mod Counting
 pub mod Sparing
@@ -19,3 +20,4 @@ pub mod Reaching
 pub mod Holes
 pub mod Saying
 pub mod Quiet
+pub mod LastUnit

@@ -1,4 +1,4 @@
--- Where none is marked of the questions that are asked of the source or of a parameter alone.
+-- Where none of the questions is marked but choices and keys.
 use Rattle.std.proofs.Common.{◌≡◌, ℕ, zero, suc, ◌+◌, ◌-◌, ◌<◌, Bool, true, false, List, [], ◌∷◌, ◌++◌, map, take, drop, length, get_or, set, replicate, slice_get, Some, refl, sym, ap, subst, ◌∙◌, append_assoc, length-append, arith}
 use Rattle.std.specs.Prelude.{IfSome}
 use Rattle.std.specs.declared.rc.Rc.{Rc}

@@ -2,16 +2,19 @@
 --     marked_in   those that changes mark among what was done
 --     marked_of   those of all that a run kept
 --     marked_left those of the records that were not judged yet
---     NoneMarked  where none is marked of those that are asked of the source or of a parameter alone
+--     NoneMarked  where none is marked but choices and keys
+--     UnitIsAsked, NoUnitIsAsked  which units they are for
 --     Asks        what asking some of them counts
 --     Judges      what a run that judges records leaves as it was
 --     StaysSo     what it leaves as it was where it does not even that
-use Rattle.std.specs.Prelude.{◌≡◌, ℕ, ◌+◌, ◌≤◌, Bool, true, false, List, [], ◌∷◌, None}
+use Rattle.std.specs.Prelude.{◌≡◌, ◌⊎◌, ℕ, ◌+◌, ◌≤◌, Bool, true, false, List, [], ◌∷◌}
 use Rattle.std.specs.declared.rc.Rc.{Rc}
 use Rattle.std.specs.declared.alloc.Global.{Global}
+use Rattle.spec_meaning.specs.Question.{Unit as UnitOf}
 use Rattle.spec_run.specs.Going.{Event, Asked, Saw, Entered, Held}
 use Rattle.spec_node.specs.declared.node_ref.NodeRef.{NodeRef}
-use Rattle.spec_touch.specs.Marks.{WorldChange, any_marks, by_modules}
+use Rattle.spec_touch.specs.Marks.{WorldChange, any_marks}
+use Rattle.xt_spared.specs.View.{by_own_reads}
 use Rattle.xt_record.specs.View.{kept_in}
 use Rattle.xt_record.specs.declared.pool.Pool.{Pool}
 use Rattle.xt_record.specs.declared.record.Record.{Record}
@@ -49,12 +52,12 @@ marked_left changes (Unasked ∷ vs) (r ∷ rs) = marked_in changes (kept_in r.v
 marked_left changes (Holds ∷ vs) (r ∷ rs) = marked_left changes vs rs
 marked_left changes (Fails ∷ vs) (r ∷ rs) = marked_left changes vs rs
 
--- ---- Questions that no change of modules marks
+-- ---- Questions but for choices and keys
 
 -- none of them among what was done is marked
 abbrev pub NoneMarked : List WorldChange → List (Event NodeRef) → Type 0
 NoneMarked changes [] = Unit {0}
-NoneMarked changes (Asked question answer ∷ es) = (by_modules [] None question ≡ false → any_marks changes question ≡ false) × NoneMarked changes es
+NoneMarked changes (Asked question answer ∷ es) = (by_own_reads question ≡ false → any_marks changes question ≡ false) × NoneMarked changes es
 NoneMarked changes (Saw wanted depth place supplied ∷ es) = NoneMarked changes es
 NoneMarked changes (Entered call depth ∷ es) = NoneMarked changes es
 NoneMarked changes (Held first contents ∷ es) = NoneMarked changes es
@@ -71,6 +74,25 @@ NoneMarkedJudged changes (v ∷ vs) [] = Unit {0}
 NoneMarkedJudged changes (Unasked ∷ vs) (r ∷ rs) = NoneMarkedJudged changes vs rs
 NoneMarkedJudged changes (Holds ∷ vs) (r ∷ rs) = NoneMarked changes (kept_in r.value).trace × NoneMarkedJudged changes vs rs
 NoneMarkedJudged changes (Fails ∷ vs) (r ∷ rs) = NoneMarked changes (kept_in r.value).trace × NoneMarkedJudged changes vs rs
+
+-- ---- Questions for a unit
+
+-- one for that of this element is among what was done
+abbrev pub AsksUnit : NodeRef → List (Event NodeRef) → Type 0
+AsksUnit element [] = ⊥
+AsksUnit element (Asked question answer ∷ es) = (question ≡ UnitOf element) ⊎ AsksUnit element es
+AsksUnit element (Saw wanted depth place supplied ∷ es) = AsksUnit element es
+AsksUnit element (Entered call depth ∷ es) = AsksUnit element es
+AsksUnit element (Held first contents ∷ es) = AsksUnit element es
+
+-- or among what one of these records did
+abbrev pub UnitIsAsked : NodeRef → List (Rc Record Global) → Type 0
+UnitIsAsked element [] = ⊥
+UnitIsAsked element (r ∷ rs) = AsksUnit element (kept_in r.value).trace ⊎ UnitIsAsked element rs
+
+-- for that of no element
+abbrev pub NoUnitIsAsked : List (Rc Record Global) → Type 0
+NoUnitIsAsked rs = (element : NodeRef) → UnitIsAsked element rs → ⊥
 
 -- ---- What was asked in between
 

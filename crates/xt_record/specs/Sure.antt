@@ -65,8 +65,7 @@ AllSpared ask spared (r ∷ rs) = AsksSpared ask spared (kept_in r.value).trace 
 
 -- the questions of what this run kept have these answers, those of the last run are as they were found to be, and each question of the last run
 -- that is spared has its answer. No more questions were asked than these changes mark of the records of the last run that were judged; and where none
--- was, they mark none of those records' that are asked of the source or of a parameter alone. The trees are so, and those of the last run were put in
--- order as they stand, if they were
+-- was, they mark none of those records' but choices and keys. The trees are so, and those of the last run were put in order as they stand, if they were
 pub record IsSure (ask : Question NodeRef → Answer NodeRef) (reuse : Reuse) : Type 0 where
   pub kept : AllHold ask reuse.kept.records.items
   pub judged : AllJudged ask reuse.verdicts.items reuse.last.now.records.items

@@ -85,6 +85,11 @@ impl Frames {
         Ok(())
     }
 
+    /// The turn of the record that stood in place of the innermost call, if one did.
+    pub(crate) fn in_place(&self) -> Option<usize> {
+        self.list.last()?.before
+    }
+
     /// The innermost call is done with. From where on what it entered is kept.
     pub(crate) fn close(&mut self, count: usize) -> usize {
         match self.list.pop() {

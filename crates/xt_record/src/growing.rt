@@ -26,7 +26,7 @@ const MOST_LEVELS: u64 = 1 << 32;
 
 // Of a call that did more than this nothing is said. It mostly entered the items of a long list, and an edit of any of
 // them would have all said anew that is then hardly ever used.
-const MOST_EVENTS: usize = 4096;
+const MOST_EVENTS: usize = 2048;
 
 impl Pool {
     /// Adds a record behind those of all that its call entered, which stand from this place on.

@@ -28,11 +28,13 @@ mod pieces;
 mod places;
 mod pool;
 mod reach;
+mod recalling;
 mod record;
 mod reuse;
 mod same;
 mod taking;
 mod tree;
+mod units;
 
 pub use calls::same_call;
 pub use filling::{is_silent_with, with_parts};

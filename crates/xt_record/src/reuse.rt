@@ -73,7 +73,7 @@ pub struct Said {
 pub struct Reuse<'a> {
     pub(crate) last: &'a Pool,
     // Which questions need not be asked again, by what changed since. The others may have other answers now.
-    spared: &'a Spared<'a>,
+    pub(crate) spared: &'a Spared<'a>,
     // One for each record of the last run.
     verdicts: Vec<Verdict>,
     // Those of the last run by their calls, once many were looked for.
@@ -84,7 +84,7 @@ pub struct Reuse<'a> {
     kept: Index,
     // All that the next run is given, and which calls are under way.
     next: Pool,
-    frames: Frames,
+    pub(crate) frames: Frames,
     steps: Steps,
 }
 
@@ -485,9 +485,9 @@ impl<'a> Reuse<'a> {
     }
 
     /// Where nothing was run and no question asked again, goes over the records of the last run, from the end on, up to the
-    /// first of which a question is asked. So one is asked where any is marked that is asked of the source or of a parameter
-    /// alone: who sees that nothing was run sees whether the change was looked at. Trees of which no question need be asked are
-    /// passed over, so it mostly ends at once.
+    /// first of which a question is asked. So one is asked where any is marked but choices and keys: who sees that nothing was
+    /// run sees whether the change was looked at. Trees of which no question need be asked are passed over, so it mostly ends
+    /// at once.
     ///
     /// # Errors
     /// Want of memory.

@@ -36,7 +36,7 @@ use Rattle.xt_frames.specs.View.{left_over}
 use Rattle.xt_frames.specs.Left.{left_in, waiting_of, progress_of, hand, Comes, ComesSo, IsLeft, Steps, StepsFrom}
 use Rattle.xt_frames.proofs.Passed.{passes_then}
 use Rattle.xt_frames.proofs.Lefts.{comes_after, moved, misses_moved, stops_after, stops_moved, passes_at, if_ok}
-use Rattle.xt_runner.specs.Onward.{Onward}
+use Rattle.xt_runner.specs.Onward.{IsWant, Onward}
 use Rattle.xt_runner.specs.Counted.{counted}
 
 -- where a run is, some steps on
@@ -61,11 +61,23 @@ from_first r = Goes (going_of r.going) (supplies_of r.supplies)
 abbrev pub waiting_for : Waiting → Run → Run
 waiting_for w r = record { room = r.room; supplies = r.supplies; waiting = w; frames = r.frames; going = r.going; did = r.did }
 
-pub onward_want : {ask : Question NodeRef → Answer NodeRef} {first now new : Run} {k : ℕ} (call : Call) (d : ℕ) (w : Waiting) (turn : Turn) → Come ask first now → Steps ask (left_in now) k now new (Want call d) → turn ≡ turns.Want call d → waiting_of w ≡ progress.ForCall (call_of call) d
+pub onward_want : {ask : Question NodeRef → Answer NodeRef} {first now new : Run} {k : ℕ} (call : Call) (d : ℕ) (w : Waiting) (turn : Turn) → Come ask first now → Steps ask (left_in now) k now new (Want call d) → IsWant turn call d
+    → waiting_of w ≡ progress.ForCall (call_of call) d
     → Onward ask (progress_of first) (from_first first) (progress_of (waiting_for w new)) (Ok turn)
-onward_want {ask = ask} {first = first} {now = now} {new = new} call d w turn c s is_turn e =
-    let P : Turn → Type 0 = λ t. Onward ask (progress_of first) (from_first first) (progress_of (waiting_for w new)) (Ok t) in
-    subst P (sym is_turn) (record { so = (passes_then c.passes (moved first now c.room c.supplies s.so), ap supplies_of (s.supplies ∙ c.supplies), e, s.room ∙ c.room) })
+onward_want {ask = ask} {first = first} {now = now} {new = new} call d w (turns.Want wanted depth) c s is e =
+    let P : Call → ℕ → Type 0 = λ x n. Passes ask (hand first) first.room (left_in first) (going_of first.going) (plan.Enter (call_of x) n (left_in new)) (going_of new.going) in
+    let W : Call → ℕ → Type 0 = λ x n. waiting_of w ≡ progress.ForCall (call_of x) n in
+    let passes = passes_then c.passes (moved first now c.room c.supplies s.so) in
+    record {
+      so = (
+        subst (λ x. P x depth) (sym is.0) (subst (λ n. P call n) (sym is.1) passes),
+        ap supplies_of (s.supplies ∙ c.supplies),
+        subst (λ x. W x depth) (sym is.0) (subst (λ n. W call n) (sym is.1) e),
+        s.room ∙ c.room,
+      );
+    }
+onward_want call d w (turns.WantGlobal name depth place) c s is e = absurd is
+onward_want call d w (turns.Done ran) c s is e = absurd is
 
 pub onward_needs : {ask : Question NodeRef → Answer NodeRef} {first now new : Run} {k : ℕ} (name : Expanded) (d : ℕ) (place : Place) (w : Waiting) (turn : Turn) → Come ask first now → Steps ask (left_in now) k now new (Needs name d place) → turn ≡ turns.WantGlobal name d place → waiting_of w ≡ progress.ForGlobal name d (place_of place)
     → Onward ask (progress_of first) (from_first first) (progress_of (waiting_for w new)) (Ok turn)

@@ -13,7 +13,7 @@ ghost use Rattle.xt_engine.specs.Progress.{Goes, started, after_call, after_glob
 ghost use Rattle.xt_engine.specs.Advances.{HaltsSo, ending_of, gift_of, ran_of, made};
 ghost use Rattle.xt_progress.specs.View.{going_of};
 ghost use Rattle.xt_frames.specs.Left.{progress_of, waiting_of};
-ghost use Rattle.xt_runner.specs.Onward.{Onward};
+ghost use Rattle.xt_runner.specs.Onward.{IsWant, Onward};
 
 use crate::step::step;
 use spec_expression::DynCode;
@@ -117,17 +117,15 @@ pub(crate) fn go<W: World>(alloc: Global, run: &mut Run, world: &mut W) -> Resul
     }
 }
 
-/// Wants this call, from a content so deep, and waits for it.
+/// Wants this call, from a content so deep, and waits for it. Calls are large, so from here on it is shared.
 fn want(alloc: Global, waiting: &mut Waiting, call: Call, depth: u64) -> Result<Turn, Memory>
-    ensures wants { IfOk result (λ turn. turn ≡ turns.Want call depth) }
+    ensures wants { IfOk result (λ turn. IsWant turn call depth) }
     ensures waits { OnOk result (waiting_of waiting.new ≡ progress.ForCall (call_of call) depth) }
 {
-    let Ok(kept) = call.copy(alloc) else {
-        drop(call);
-        return Err(Memory);
-    };
+    let wanted = Rc::new(alloc, call)?;
+    let kept = wanted.clone()?;
     drop(mem::replace(waiting, Waiting::ForCall(kept, depth)));
-    Ok(Turn::Want(call, depth))
+    Ok(Turn::Want(wanted, depth))
 }
 
 /// Wants a global that is needed at this place, in a content so deep, and waits for it.
@@ -159,12 +157,12 @@ fn wait_for(alloc: Global, name: &Expanded, depth: u64, place: &Place) -> Result
 pub(crate) fn go_on_call<W: World>(
     alloc: Global,
     run: &mut Run,
-    call: Call,
+    call: Rc<Call>,
     depth: u64,
     given: Option<Entered>,
     world: &mut W,
 ) -> Result<Turn, RunFault>
-    ensures onward { Onward (W.state world.old).truth (progress_of run.old) (after_call (call_of call) depth (going_of run.old.going) (supplies_of run.old.supplies) (gift_of given)) (progress_of run.new) result }
+    ensures onward { Onward (W.state world.old).truth (progress_of run.old) (after_call (call_of call.value) depth (going_of run.old.going) (supplies_of run.old.supplies) (gift_of given)) (progress_of run.new) result }
     ensures truth { (W.state world.new).truth ≡ (W.state world.old).truth }
     ensures name { W.name world.new ≡ W.name world.old }
 {
@@ -177,7 +175,11 @@ pub(crate) fn go_on_call<W: World>(
             enter(&mut run.going, call, depth, stream)?;
             Err(halt(alloc, run, why))
         }
-        Some(Entered::UnderWay) => Err(halt(alloc, run, circular(call.by))),
+        Some(Entered::UnderWay) => {
+            let place = copy_place(alloc, &call.by)?;
+            drop(call);
+            Err(halt(alloc, run, circular(place)))
+        }
         Some(Entered::Value(value)) => {
             drop(value);
             drop(call);
@@ -191,8 +193,8 @@ pub(crate) fn go_on_call<W: World>(
 }
 
 /// Notes that a call was entered from a content so deep, and leaves a hole for its stream.
-fn enter(going: &mut Going, call: Call, depth: u64, stream: Rc<Items>) -> Result<(), Memory>
-    ensures { OnOk result (going_of going.new ≡ given (stream_of stream.value) (opened (call_of call) depth (going_of going.old))) }
+fn enter(going: &mut Going, call: Rc<Call>, depth: u64, stream: Rc<Items>) -> Result<(), Memory>
+    ensures { OnOk result (going_of going.new ≡ given (stream_of stream.value) (opened (call_of call.value) depth (going_of going.old))) }
 {
     going.leave_hole(call, depth)?;
     going.give(stream)

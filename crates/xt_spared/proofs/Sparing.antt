@@ -7,9 +7,9 @@ use Rattle.std.specs.declared.alloc.Global.{Global}
 use Rattle.spec_document.specs.Name.{Expanded}
 use Rattle.spec_meaning.specs.Question.{Question, Step, Text, Name, Place, Order, Key, Choice, Copy, Unit as UnitOf, External}
 use Rattle.spec_node.specs.declared.node_ref.NodeRef.{NodeRef}
-use Rattle.spec_touch.specs.Marks.{WorldChange, any_marks, by_modules}
+use Rattle.spec_touch.specs.Marks.{WorldChange, any_marks}
 use Rattle.xt_questions.specs.View.{question_of}
-use Rattle.xt_spared.specs.View.{IsAmong, IsSpared, by_itself, by_reads, Own, all_stay, own_of, stays}
+use Rattle.xt_spared.specs.View.{IsAmong, IsSpared, by_itself, by_own_reads, by_reads, Own, all_stay, own_of, stays}
 use Rattle.xt_spared.specs.declared.choices.OwnChoice.{OwnChoice}
 use Rattle.xt_spared.proofs.Among.{among_first, among_second}
 
@@ -33,13 +33,13 @@ pub spared_second : (changes : List WorldChange) (names : List Expanded) (owns o
     → IsSpared changes names others question → IsSpared changes names (owns ++ others) question
 spared_second changes names owns others question h = spared_of changes names others (owns ++ others) question (among_second owns others) h
 
--- what stays and is asked of the source or of a parameter alone is not marked
+-- what stays and is no key and no choice is not marked
 unmarked : (b : Bool) → (not b || false) ≡ true → b ≡ false
 unmarked true e = absurd (cc)
 unmarked false e = refl
 
 pub stays_alone : (changes : List WorldChange) (names : List Expanded) (question : Question NodeRef) → stays changes names question ≡ true
-    → by_modules [] None question ≡ false → any_marks changes question ≡ false
+    → by_own_reads question ≡ false → any_marks changes question ≡ false
 stays_alone changes names (Step node axis test) h alone = unmarked (any_marks changes (Step node axis test)) h
 stays_alone changes names (Text node) h alone = unmarked (any_marks changes (Text node)) h
 stays_alone changes names (Name node) h alone = unmarked (any_marks changes (Name node)) h
@@ -48,5 +48,5 @@ stays_alone changes names (Order nodes) h alone = unmarked (any_marks changes (O
 stays_alone changes names (Key name value) h alone = absurd (cc)
 stays_alone changes names (Choice node mode candidates) h alone = absurd (cc)
 stays_alone changes names (Copy node) h alone = unmarked (any_marks changes (Copy node)) h
-stays_alone changes names (UnitOf element) h alone = absurd (cc)
+stays_alone changes names (UnitOf element) h alone = unmarked (any_marks changes (UnitOf element)) h
 stays_alone changes names (External name) h alone = unmarked (any_marks changes (External name)) h

@@ -1,9 +1,10 @@
 -- What the types of this crate stand for, and which questions need not be asked again.
---     IsSpared    no change since marks it, or it is of a key that stays, or it is a choice and this is so of each question that was asked for it
---     IsSparedBy  the same, by a value of the program
---     Agrees      two worlds answer alike what no change marks
---     KeysStay    they answer alike what is asked of these keys
---     Spares      they answer alike what is spared
+--     IsSpared      no change since marks it, or it is of a key that stays, or it is a choice and this is so of each question that was asked for it
+--     IsSparedBy    the same, by a value of the program
+--     by_own_reads  the questions whose answers rest on what was asked for them
+--     Agrees        two worlds answer alike what no change marks
+--     KeysStay      they answer alike what is asked of these keys
+--     Spares        they answer alike what is spared
 use Rattle.std.specs.Prelude.{◌≡◌, ◌⊎◌, Bool, true, false, not, ◌||◌, List, [], ◌∷◌, ◌++◌, map, Option, None, Some}
 use Rattle.std.specs.List.{list_all, list_any}
 use Rattle.std.specs.Borrow.{Bor}
@@ -60,6 +61,19 @@ is_key_among names (Choice node mode candidates) = false
 is_key_among names (Copy node) = false
 is_key_among names (Unit element) = false
 is_key_among names (External name) = false
+
+-- the answer is made of what is asked for it, and may be found to be the same by that
+abbrev pub by_own_reads : Question NodeRef → Bool
+by_own_reads (Step node axis test) = false
+by_own_reads (Text node) = false
+by_own_reads (Name node) = false
+by_own_reads (Place node) = false
+by_own_reads (Order nodes) = false
+by_own_reads (Key name value) = true
+by_own_reads (Choice node mode candidates) = true
+by_own_reads (Copy node) = false
+by_own_reads (Unit element) = false
+by_own_reads (External name) = false
 
 -- none of these changes marks it, or it is of a key that stays
 abbrev pub stays : List WorldChange → List Expanded → Question NodeRef → Bool

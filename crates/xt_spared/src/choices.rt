@@ -123,8 +123,8 @@ fn part_number(part: Part) -> u64 {
     }
 }
 
-// Where it says so, both are the same choice.
-fn is_same_choice(one: &Question, other: &Question) -> bool
+/// Where it says so, both are the same choice.
+pub fn is_same_choice(one: &Question, other: &Question) -> bool
     ensures { result ≡ true → question_of one.now ≡ question_of other.now }
 {
     match (one, other) {

@@ -14,5 +14,5 @@
 mod choices;
 mod spared;
 
-pub use choices::{OwnChoice, OwnChoices};
+pub use choices::{OwnChoice, OwnChoices, is_same_choice};
 pub use spared::Spared;

@@ -1,14 +1,14 @@
 // What need not be asked again.
-ghost use Rattle.std.specs.Prelude.{◌≡◌, [], true, false, IfSome, None};
+ghost use Rattle.std.specs.Prelude.{◌≡◌, true, false, IfSome};
 ghost use Rattle.std.specs.List.{list_any};
 ghost use Rattle.spec_document.specs.Name.{same_name};
 ghost use Rattle.spec_meaning.specs.Question as asked;
 ghost use Rattle.spec_node.specs.declared.node_ref.NodeRef.{NodeRef as Node};
-ghost use Rattle.spec_touch.specs.Marks.{any_marks, by_modules};
+ghost use Rattle.spec_touch.specs.Marks.{any_marks};
 ghost use Rattle.xt_questions.specs.View.{question_of};
 ghost use Rattle.xt_touch.specs.Named.{Covers};
 ghost use Rattle.xt_touch.specs.View.{since_of};
-ghost use Rattle.xt_spared.specs.View.{IsAmong, IsSparedBy, all_stay, is_key_among, own_of, owns_in, owns_of, questions_of, stays};
+ghost use Rattle.xt_spared.specs.View.{IsAmong, IsSparedBy, all_stay, by_own_reads, is_key_among, own_of, owns_in, owns_of, questions_of, stays};
 
 use crate::{OwnChoice, OwnChoices};
 use std::rc::Rc;
@@ -53,7 +53,7 @@ impl<'a> Spared<'a> {
     pub fn spares(&self, question: &Question) -> bool
         ensures spared { result ≡ true → IsSparedBy self.now (question_of question.now) }
         ensures marked { result ≡ false → any_marks (since_of self.now.since.now) (question_of question.now) ≡ true }
-        ensures alone { result ≡ true → by_modules [] None (question_of question.now) ≡ false → any_marks (since_of self.now.since.now) (question_of question.now) ≡ false }
+        ensures alone { result ≡ true → by_own_reads (question_of question.now) ≡ false → any_marks (since_of self.now.since.now) (question_of question.now) ≡ false }
     {
         if self.stays(question) {
             return true;
@@ -122,7 +122,7 @@ impl<'a> Spared<'a> {
 
 // Whether it asks for the choice of a rule. What does not was not found by what was asked for it.
 fn is_choice(question: &Question) -> bool
-    ensures { result ≡ true → by_modules [] None (question_of question.now) ≡ true }
+    ensures { result ≡ true → by_own_reads (question_of question.now) ≡ true }
 {
     match question {
         Question::Choice(_, _, _) => true,

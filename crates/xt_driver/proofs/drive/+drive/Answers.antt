@@ -72,11 +72,11 @@ run_call-loop-standing-smaller-in-Continue-branch-4 g t c =
     let new = c.advance.new.standing in
     let gift = gift_of old.given in
     let ss = streams_of new.parts.items in
-    let stands : Stands l (prog old.run) gift ss = rw (c.advance.ensures.parts, c.deref_mut.ensures.value) inv.stands in
-    let steps = stepped gift (prog old.run) (prog new.run) l.call below inv.truth c.in-Enter.is c.in_ok-inner.ensures.steps in
+    let stands : Stands l (prog old.run.value) gift ss = rw (c.advance.ensures.parts, c.deref_mut.ensures.value) inv.stands in
+    let steps = stepped gift (prog old.run.value) (prog new.run.value) l.call below inv.truth c.in-Enter.is c.in_ok-inner.ensures.steps in
     let inner = c.in-Enter.inner.value in
     let left = c.in-Enter.left in
-    let e : Enters truth gift (prog old.run) (prog new.run) l.call below inner left = steps in
+    let e : Enters truth gift (prog old.run.value) (prog new.run.value) l.call below inner left = steps in
     let resumed = c.advance.ensures.truth ∙ inv.truth in
     let entered = ap call_of c.deref.ensures ∙ e.call in
     let same = meant_from (λ a. setting_of a globals) past below e.depth left (call_of c.deref.result.now) _ resumed e.levels entered in
@@ -84,7 +84,7 @@ run_call-loop-standing-smaller-in-Continue-branch-4 g t c =
     let next = c.take_stream.new.standing in
     let at = c.deref_mut-in-Enter.ensures.value in
     let streamed : IsStreamed next.given c.means-came.result ss (streams_of next.parts.items) = rw (sym at) c.in_ok-take_stream-in-Enter.ensures.streamed in
-    let onto = stands_entered l (prog old.run) (prog new.run) gift ss (streams_of next.parts.items) e.wanted e.depth c.means-came.result next.given stands e.advances came streamed in
+    let onto = stands_entered l (prog old.run.value) (prog new.run.value) gift ss (streams_of next.parts.items) e.wanted e.depth c.means-came.result next.given stands e.advances came streamed in
     rw (c.take_stream.ensures.run, at, sym c.deref_mut.ensures.value) onto.less
 
 pub run_call-loop-standing-preserved-in-Continue-branch-4 : goal.run_call-loop-standing-preserved-in-Continue-branch-4
@@ -100,11 +100,11 @@ run_call-loop-standing-preserved-in-Continue-branch-4 g t c =
     let new = c.advance.new.standing in
     let gift = gift_of old.given in
     let ss = streams_of new.parts.items in
-    let stands : Stands l (prog old.run) gift ss = rw (c.advance.ensures.parts, c.deref_mut.ensures.value) inv.stands in
-    let steps = stepped gift (prog old.run) (prog new.run) l.call below inv.truth c.in-Enter.is c.in_ok-inner.ensures.steps in
+    let stands : Stands l (prog old.run.value) gift ss = rw (c.advance.ensures.parts, c.deref_mut.ensures.value) inv.stands in
+    let steps = stepped gift (prog old.run.value) (prog new.run.value) l.call below inv.truth c.in-Enter.is c.in_ok-inner.ensures.steps in
     let inner = c.in-Enter.inner.value in
     let left = c.in-Enter.left in
-    let e : Enters truth gift (prog old.run) (prog new.run) l.call below inner left = steps in
+    let e : Enters truth gift (prog old.run.value) (prog new.run.value) l.call below inner left = steps in
     let resumed = c.advance.ensures.truth ∙ inv.truth in
     let entered = ap call_of c.deref.ensures ∙ e.call in
     let same = meant_from (λ a. setting_of a globals) past below e.depth left (call_of c.deref.result.now) _ resumed e.levels entered in
@@ -112,28 +112,28 @@ run_call-loop-standing-preserved-in-Continue-branch-4 g t c =
     let next = c.take_stream.new.standing in
     let at = c.deref_mut-in-Enter.ensures.value in
     let streamed : IsStreamed next.given c.means-came.result ss (streams_of next.parts.items) = rw (sym at) c.in_ok-take_stream-in-Enter.ensures.streamed in
-    let onto = stands_entered l (prog old.run) (prog new.run) gift ss (streams_of next.parts.items) e.wanted e.depth c.means-came.result next.given stands e.advances came streamed in
-    let on : Stands l (prog next.run) (gift_of next.given) (streams_of next.parts.items) = rw (c.take_stream.ensures.run, at) onto.stands in
+    let onto = stands_entered l (prog old.run.value) (prog new.run.value) gift ss (streams_of next.parts.items) e.wanted e.depth c.means-came.result next.given stands e.advances came streamed in
+    let on : Stands l (prog next.run.value) (gift_of next.given) (streams_of next.parts.items) = rw (c.take_stream.ensures.run, at) onto.stands in
     let first = entries_of c.args.memo.now in
     let held = entries_of c.loop-standing.memo in
     let more = entries_of c.means-came.new.memo in
-    let before : Onward l first held new.spare (prog old.run) gift = rw (c.advance.ensures.spare, c.deref_mut.ensures.value) inv.onward in
+    let before : Onward l first held new.spare (prog old.run.value) gift = rw (c.advance.ensures.spare, c.deref_mut.ensures.value) inv.onward in
     let fewer : next.spare ≤ new.spare = rw (sym at) c.take_stream.ensures.spare in
-    let onward = onward_entered (λ a. setting_of a globals) past below l.call first held more new.spare next.spare (prog old.run) (prog new.run) gift e.wanted e.depth left (call_of c.deref.result.now) c.means-came.result next.given ss
+    let onward = onward_entered (λ a. setting_of a globals) past below l.call first held more new.spare next.spare (prog old.run.value) (prog new.run.value) gift e.wanted e.depth left (call_of c.deref.result.now) c.means-came.result next.given ss
     (streams_of next.parts.items) resumed before e.advances e.levels entered c.means-came.ensures.keeps c.means-came.ensures.lasts streamed fewer c.take_stream.ensures.inner in
-    let onward_next : Onward l first more next.spare (prog next.run) (gift_of next.given) = rw (c.take_stream.ensures.run, at) onward in
+    let onward_next : Onward l first more next.spare (prog next.run.value) (gift_of next.given) = rw (c.take_stream.ensures.run, at) onward in
     record {
       stands = on;
       onward = onward_next;
       running = λ h ready.
-          let X : Running l c.args.lost.now (prog old.run).left (received (prog old.run).waits (prog old.run).going (prog old.run).supplies gift)
+          let X : Running l c.args.lost.now (prog old.run.value).left (received (prog old.run.value).waits (prog old.run.value).going (prog old.run.value).supplies gift)
           (hand_of c.args.reuse.now c.args.memo.now) (hand_of c.loop-standing.reuse c.loop-standing.memo) = rw c.deref_mut.ensures.value (inv.running h ready) in
           let over = over_from (λ a. setting_of a globals) past below e.depth left (call_of c.deref.result.now) _ c.means-came.result
           (hand_of c.loop-standing.reuse c.loop-standing.memo) (hand_of c.means-came.new.reuse c.means-came.new.memo) resumed e.levels entered c.means-came.ensures.counts in
           let on_so = running_entered l c.args.lost.now (hand_of c.args.reuse.now c.args.memo.now) (hand_of c.loop-standing.reuse c.loop-standing.memo)
-          (hand_of c.means-came.new.reuse c.means-came.new.memo) (prog old.run) (prog new.run) gift ss (streams_of next.parts.items) e.wanted e.depth
+          (hand_of c.means-came.new.reuse c.means-came.new.memo) (prog old.run.value) (prog new.run.value) gift ss (streams_of next.parts.items) e.wanted e.depth
           c.means-came.result next.given stands e.advances came streamed over X in
-          let Y : Running l c.args.lost.now (prog next.run).left (received (prog next.run).waits (prog next.run).going (prog next.run).supplies (gift_of next.given))
+          let Y : Running l c.args.lost.now (prog next.run.value).left (received (prog next.run.value).waits (prog next.run.value).going (prog next.run.value).supplies (gift_of next.given))
           (hand_of c.args.reuse.now c.args.memo.now) (hand_of c.means-came.new.reuse c.means-came.new.memo) = rw (c.take_stream.ensures.run, at) on_so in
           Y;
       sure = sure_there resumed (of_streamed next.given ss (streams_of next.parts.items) c.means-came.result streamed c.means-came.ensures.sure);
@@ -156,17 +156,17 @@ run_call-loop-standing-smaller g t c =
     let new = c.advance.new.standing in
     let gift = gift_of old.given in
     let ss = streams_of new.parts.items in
-    let stands : Stands l (prog old.run) gift ss = rw (c.advance.ensures.parts, c.deref_mut.ensures.value) inv.stands in
-    let steps = stepped gift (prog old.run) (prog new.run) l.call below inv.truth c.in-Refer.is c.in_ok-inner.ensures.steps in
+    let stands : Stands l (prog old.run.value) gift ss = rw (c.advance.ensures.parts, c.deref_mut.ensures.value) inv.stands in
+    let steps = stepped gift (prog old.run.value) (prog new.run.value) l.call below inv.truth c.in-Refer.is c.in_ok-inner.ensures.steps in
     let needed = c.in-Refer.needed.value in
     let left = c.in-Refer.left in
-    let e : Needs truth gift (prog old.run) (prog new.run) below needed left = steps in
+    let e : Needs truth gift (prog old.run.value) (prog new.run.value) below needed left = steps in
     let resumed = c.advance.ensures.truth ∙ inv.truth in
     let settles = if_ok c.need-came.result c.need-came.ensures.settles (λ x h. let H : Settles (setting_of (g.W.World.state c.advance.new.world).truth globals) past (entries_of c.need-came.new.memo) needed.name left (place_of needed.place) x.value = rw (sym c.deref-in-Refer.ensures) h in H) in
     let gives = if_ok c.need-came.result settles (λ x h. gives_from (λ a. setting_of a globals) past below e.depth left needed.name (place_of needed.place) x.value.entered resumed e.levels h.gives) in
     let next = c.take_global.new.standing in
     let at = c.deref_mut-in-Refer.ensures.value in
-    let onto = stands_referred l (prog old.run) (prog new.run) gift ss needed e.depth c.need-came.result next.given stands e.advances gives c.in_ok-take_global-in-Refer.ensures.taken in
+    let onto = stands_referred l (prog old.run.value) (prog new.run.value) gift ss needed e.depth c.need-came.result next.given stands e.advances gives c.in_ok-take_global-in-Refer.ensures.taken in
     rw (c.take_global.ensures.run, at, sym c.deref_mut.ensures.value) onto.less
 
 pub run_call-loop-standing-preserved : goal.run_call-loop-standing-preserved
@@ -182,38 +182,38 @@ run_call-loop-standing-preserved g t c =
     let new = c.advance.new.standing in
     let gift = gift_of old.given in
     let ss = streams_of new.parts.items in
-    let stands : Stands l (prog old.run) gift ss = rw (c.advance.ensures.parts, c.deref_mut.ensures.value) inv.stands in
-    let steps = stepped gift (prog old.run) (prog new.run) l.call below inv.truth c.in-Refer.is c.in_ok-inner.ensures.steps in
+    let stands : Stands l (prog old.run.value) gift ss = rw (c.advance.ensures.parts, c.deref_mut.ensures.value) inv.stands in
+    let steps = stepped gift (prog old.run.value) (prog new.run.value) l.call below inv.truth c.in-Refer.is c.in_ok-inner.ensures.steps in
     let needed = c.in-Refer.needed.value in
     let left = c.in-Refer.left in
-    let e : Needs truth gift (prog old.run) (prog new.run) below needed left = steps in
+    let e : Needs truth gift (prog old.run.value) (prog new.run.value) below needed left = steps in
     let resumed = c.advance.ensures.truth ∙ inv.truth in
     let settles = if_ok c.need-came.result c.need-came.ensures.settles (λ x h. let H : Settles (setting_of (g.W.World.state c.advance.new.world).truth globals) past (entries_of c.need-came.new.memo) needed.name left (place_of needed.place) x.value = rw (sym c.deref-in-Refer.ensures) h in H) in
     let gives = if_ok c.need-came.result settles (λ x h. gives_from (λ a. setting_of a globals) past below e.depth left needed.name (place_of needed.place) x.value.entered resumed e.levels h.gives) in
     let next = c.take_global.new.standing in
     let at = c.deref_mut-in-Refer.ensures.value in
-    let onto = stands_referred l (prog old.run) (prog new.run) gift ss needed e.depth c.need-came.result next.given stands e.advances gives c.in_ok-take_global-in-Refer.ensures.taken in
-    let on : Stands l (prog next.run) (gift_of next.given) (streams_of next.parts.items) = rw (c.take_global.ensures.run, c.take_global.ensures.parts, at) onto.stands in
+    let onto = stands_referred l (prog old.run.value) (prog new.run.value) gift ss needed e.depth c.need-came.result next.given stands e.advances gives c.in_ok-take_global-in-Refer.ensures.taken in
+    let on : Stands l (prog next.run.value) (gift_of next.given) (streams_of next.parts.items) = rw (c.take_global.ensures.run, c.take_global.ensures.parts, at) onto.stands in
     let first = entries_of c.args.memo.now in
     let held = entries_of c.loop-standing.memo in
     let more = entries_of c.need-came.new.memo in
-    let before : Onward l first held new.spare (prog old.run) gift = rw (c.advance.ensures.spare, c.deref_mut.ensures.value) inv.onward in
+    let before : Onward l first held new.spare (prog old.run.value) gift = rw (c.advance.ensures.spare, c.deref_mut.ensures.value) inv.onward in
     let fewer : next.spare ≤ new.spare = rw (sym at) c.take_global.ensures.spare in
-    let onward = onward_referred (λ a. setting_of a globals) past below l.call first held more new.spare next.spare (prog old.run) (prog new.run) gift needed e.depth left c.need-came.result next.given resumed before e.advances e.levels
+    let onward = onward_referred (λ a. setting_of a globals) past below l.call first held more new.spare next.spare (prog old.run.value) (prog new.run.value) gift needed e.depth left c.need-came.result next.given resumed before e.advances e.levels
     c.need-came.ensures.keeps settles c.in_ok-take_global-in-Refer.ensures.taken fewer (on_any c.need-came.result c.in_ok-take_global-in-Refer.ensures.inner) in
-    let onward_next : Onward l first more next.spare (prog next.run) (gift_of next.given) = rw (c.take_global.ensures.run, at) onward in
+    let onward_next : Onward l first more next.spare (prog next.run.value) (gift_of next.given) = rw (c.take_global.ensures.run, at) onward in
     record {
       stands = on;
       onward = onward_next;
       running = λ h ready.
-          let X : Running l c.args.lost.now (prog old.run).left (received (prog old.run).waits (prog old.run).going (prog old.run).supplies gift)
+          let X : Running l c.args.lost.now (prog old.run.value).left (received (prog old.run.value).waits (prog old.run.value).going (prog old.run.value).supplies gift)
           (hand_of c.args.reuse.now c.args.memo.now) (hand_of c.loop-standing.reuse c.loop-standing.memo) = rw c.deref_mut.ensures.value (inv.running h ready) in
           let over = for_from (λ a. setting_of a globals) past c.args.lost.now left c.deref-in-Refer.result.now needed c.need-came.result
           (hand_of c.loop-standing.reuse c.loop-standing.memo) (hand_of c.need-came.new.reuse c.need-came.new.memo) resumed c.deref-in-Refer.ensures c.need-came.ensures.counts in
           let on_so = running_referred l c.args.lost.now (hand_of c.args.reuse.now c.args.memo.now) (hand_of c.loop-standing.reuse c.loop-standing.memo)
-          (hand_of c.need-came.new.reuse c.need-came.new.memo) (prog old.run) (prog new.run) gift ss needed e.depth left c.need-came.result next.given
+          (hand_of c.need-came.new.reuse c.need-came.new.memo) (prog old.run.value) (prog new.run.value) gift ss needed e.depth left c.need-came.result next.given
           stands e.advances e.levels c.requires.lost gives c.in_ok-take_global-in-Refer.ensures.taken over X in
-          let Y : Running l c.args.lost.now (prog next.run).left (received (prog next.run).waits (prog next.run).going (prog next.run).supplies (gift_of next.given))
+          let Y : Running l c.args.lost.now (prog next.run.value).left (received (prog next.run.value).waits (prog next.run.value).going (prog next.run.value).supplies (gift_of next.given))
           (hand_of c.args.reuse.now c.args.memo.now) (hand_of c.need-came.new.reuse c.need-came.new.memo) = rw (c.take_global.ensures.run, at) on_so in
           Y;
       sure = sure_there resumed (of_taken next.given c.need-came.result c.in_ok-take_global-in-Refer.ensures.taken c.need-came.ensures.sure);
@@ -222,6 +222,9 @@ run_call-loop-standing-preserved g t c =
       last = c.need-came.ensures.last ∙ inv.last;
       spared = c.need-came.ensures.spared ∙ inv.spared;
     }
+
+pub run_call-advance-requires : goal.run_call-advance-requires
+run_call-advance-requires g t c = record { sure = sure_there (sym c.loop-standing.invariant.truth) c.loop-standing.invariant.sure }
 
 pub run_call-done-requires : goal.run_call-done-requires
 run_call-done-requires g t c =
@@ -236,10 +239,10 @@ run_call-done-requires g t c =
     let new = c.advance.new.standing in
     let gift = gift_of old.given in
     let ss = streams_of new.parts.items in
-    let stands : Stands l (prog old.run) gift ss = rw (c.advance.ensures.parts, c.deref_mut.ensures.value) inv.stands in
+    let stands : Stands l (prog old.run.value) gift ss = rw (c.advance.ensures.parts, c.deref_mut.ensures.value) inv.stands in
     let ran = c.in-Done.ran.value in
-    let adv : Advances truth gift (prog old.run) (prog new.run) (Ok (Done ran)) = stepped gift (prog old.run) (prog new.run) l.call below inv.truth c.in-Done.is c.in_ok-inner.ensures.steps in
-    let is = stands_done l (prog old.run) (prog new.run) gift ss ran stands adv in
+    let adv : Advances truth gift (prog old.run.value) (prog new.run.value) (Ok (Done ran)) = stepped gift (prog old.run.value) (prog new.run.value) l.call below inv.truth c.in-Done.is c.in_ok-inner.ensures.steps in
+    let is = stands_done l (prog old.run.value) (prog new.run.value) gift ss ran stands adv in
     let parts : c.as_slice.result.now ≡ new.parts.items = rw (sym c.deref-in-Done-2.ensures) c.as_slice.ensures.value in
     record {
       fit = ap (λ (r : Ran). holes (ran_of r).content) c.deref-in-Done.ensures ∙ is.even ∙ length-map new.parts.items _ ∙ ap length (sym parts);
@@ -259,10 +262,10 @@ run_call-returns-in-Done-clause-made g t c =
     let new = c.advance.new.standing in
     let gift = gift_of old.given in
     let ss = streams_of new.parts.items in
-    let stands : Stands l (prog old.run) gift ss = rw (c.advance.ensures.parts, c.deref_mut.ensures.value) inv.stands in
+    let stands : Stands l (prog old.run.value) gift ss = rw (c.advance.ensures.parts, c.deref_mut.ensures.value) inv.stands in
     let ran = c.in-Done.ran.value in
-    let adv : Advances truth gift (prog old.run) (prog new.run) (Ok (Done ran)) = stepped gift (prog old.run) (prog new.run) l.call below inv.truth c.in-Done.is c.in_ok-inner.ensures.steps in
-    (done_kept l (prog old.run) (prog new.run) gift ss ran stands adv).lasting
+    let adv : Advances truth gift (prog old.run.value) (prog new.run.value) (Ok (Done ran)) = stepped gift (prog old.run.value) (prog new.run.value) l.call below inv.truth c.in-Done.is c.in_ok-inner.ensures.steps in
+    (done_kept l (prog old.run.value) (prog new.run.value) gift ss ran stands adv).lasting
 
 pub run_call-returns-in-Done-clause-meaning : goal.run_call-returns-in-Done-clause-meaning
 run_call-returns-in-Done-clause-meaning g t c =
@@ -277,10 +280,10 @@ run_call-returns-in-Done-clause-meaning g t c =
     let new = c.advance.new.standing in
     let gift = gift_of old.given in
     let ss = streams_of new.parts.items in
-    let stands : Stands l (prog old.run) gift ss = rw (c.advance.ensures.parts, c.deref_mut.ensures.value) inv.stands in
+    let stands : Stands l (prog old.run.value) gift ss = rw (c.advance.ensures.parts, c.deref_mut.ensures.value) inv.stands in
     let ran = c.in-Done.ran.value in
-    let adv : Advances truth gift (prog old.run) (prog new.run) (Ok (Done ran)) = stepped gift (prog old.run) (prog new.run) l.call below inv.truth c.in-Done.is c.in_ok-inner.ensures.steps in
-    let is = stands_done l (prog old.run) (prog new.run) gift ss ran stands adv in
+    let adv : Advances truth gift (prog old.run.value) (prog new.run.value) (Ok (Done ran)) = stepped gift (prog old.run.value) (prog new.run.value) l.call below inv.truth c.in-Done.is c.in_ok-inner.ensures.steps in
+    let is = stands_done l (prog old.run.value) (prog new.run.value) gift ss ran stands adv in
     let parts : c.as_slice.result.now ≡ new.parts.items = rw (sym c.deref-in-Done-2.ensures) c.as_slice.ensures.value in
     let x = c.in_ok-outcome-in-Done.outcome.value in
     let made = c.in_ok-outcome-in-Done.ensures.outcome
@@ -301,19 +304,19 @@ run_call-returns-in-Done-clause-lasts g t c =
     let new = c.advance.new.standing in
     let gift = gift_of old.given in
     let ss = streams_of new.parts.items in
-    let stands : Stands l (prog old.run) gift ss = rw (c.advance.ensures.parts, c.deref_mut.ensures.value) inv.stands in
+    let stands : Stands l (prog old.run.value) gift ss = rw (c.advance.ensures.parts, c.deref_mut.ensures.value) inv.stands in
     let ran = c.in-Done.ran.value in
-    let adv : Advances truth gift (prog old.run) (prog new.run) (Ok (Done ran)) = stepped gift (prog old.run) (prog new.run) l.call below inv.truth c.in-Done.is c.in_ok-inner.ensures.steps in
-    let is = stands_done l (prog old.run) (prog new.run) gift ss ran stands adv in
+    let adv : Advances truth gift (prog old.run.value) (prog new.run.value) (Ok (Done ran)) = stepped gift (prog old.run.value) (prog new.run.value) l.call below inv.truth c.in-Done.is c.in_ok-inner.ensures.steps in
+    let is = stands_done l (prog old.run.value) (prog new.run.value) gift ss ran stands adv in
     let parts : c.as_slice.result.now ≡ new.parts.items = rw (sym c.deref-in-Done-2.ensures) c.as_slice.ensures.value in
     let x = c.in_ok-outcome-in-Done.outcome.value in
     let made = c.in_ok-outcome-in-Done.ensures.outcome
     ∙ ap (λ (r : Ran). record { content = filled (ran_of r).content (streams_of c.as_slice.result.now); ending = (ran_of r).ending }) c.deref-in-Done.ensures
     ∙ ap (λ xs. record { content = filled (ran_of ran).content (streams_of xs); ending = (ran_of ran).ending }) parts in
-    let before : Onward l (entries_of c.args.memo.now) (entries_of c.loop-standing.memo) new.spare (prog old.run) gift = rw (c.advance.ensures.spare, c.deref_mut.ensures.value) inv.onward in
+    let before : Onward l (entries_of c.args.memo.now) (entries_of c.loop-standing.memo) new.spare (prog old.run.value) gift = rw (c.advance.ensures.spare, c.deref_mut.ensures.value) inv.onward in
     let low : x.spare ≤ new.spare = rw (sym c.deref-in-Done-3.ensures) c.in_ok-outcome-in-Done.ensures.spare in
     let high : x.spare ≤ below - ran.height = rw (sym c.deref-in-Done.ensures) c.in_ok-outcome-in-Done.ensures.height in
-    lasts_done l (entries_of c.loop-standing.memo) new.spare x.spare (prog old.run) (prog new.run) gift ss ran (outcome_of x) stands before.elsewhere adv low high made
+    lasts_done l (entries_of c.loop-standing.memo) new.spare x.spare (prog old.run.value) (prog new.run.value) gift ss ran (outcome_of x) stands before.elsewhere adv low high made
 
 pub run_call-returns-in-Done-clause-asks : goal.run_call-returns-in-Done-clause-asks
 run_call-returns-in-Done-clause-asks g t c =
@@ -328,10 +331,10 @@ run_call-returns-in-Done-clause-asks g t c =
     let new = c.advance.new.standing in
     let gift = gift_of old.given in
     let ss = streams_of new.parts.items in
-    let stands : Stands l (prog old.run) gift ss = rw (c.advance.ensures.parts, c.deref_mut.ensures.value) inv.stands in
+    let stands : Stands l (prog old.run.value) gift ss = rw (c.advance.ensures.parts, c.deref_mut.ensures.value) inv.stands in
     let ran = c.in-Done.ran.value in
-    let adv : Advances truth gift (prog old.run) (prog new.run) (Ok (Done ran)) = stepped gift (prog old.run) (prog new.run) l.call below inv.truth c.in-Done.is c.in_ok-inner.ensures.steps in
-    (done_kept l (prog old.run) (prog new.run) gift ss ran stands adv).asks
+    let adv : Advances truth gift (prog old.run.value) (prog new.run.value) (Ok (Done ran)) = stepped gift (prog old.run.value) (prog new.run.value) l.call below inv.truth c.in-Done.is c.in_ok-inner.ensures.steps in
+    (done_kept l (prog old.run.value) (prog new.run.value) gift ss ran stands adv).asks
 
 pub run_call-returns-in-Failed-clause-meaning : goal.run_call-returns-in-Failed-clause-meaning
 run_call-returns-in-Failed-clause-meaning g t c =
@@ -346,10 +349,10 @@ run_call-returns-in-Failed-clause-meaning g t c =
     let new = c.advance.new.standing in
     let gift = gift_of old.given in
     let ss = streams_of new.parts.items in
-    let stands : Stands l (prog old.run) gift ss = rw (c.advance.ensures.parts, c.deref_mut.ensures.value) inv.stands in
+    let stands : Stands l (prog old.run.value) gift ss = rw (c.advance.ensures.parts, c.deref_mut.ensures.value) inv.stands in
     let fault = c.in-Failed.fault.value in
-    let adv : Advances truth gift (prog old.run) (prog new.run) (Err fault) = stepped gift (prog old.run) (prog new.run) l.call below inv.truth c.in-Failed.is c.in_ok-inner.ensures.steps in
-    stands_fault l (prog old.run) (prog new.run) gift ss fault c.in_ok-outcome-in-Failed.outcome.value stands adv c.in_ok-outcome-in-Failed.ensures
+    let adv : Advances truth gift (prog old.run.value) (prog new.run.value) (Err fault) = stepped gift (prog old.run.value) (prog new.run.value) l.call below inv.truth c.in-Failed.is c.in_ok-inner.ensures.steps in
+    stands_fault l (prog old.run.value) (prog new.run.value) gift ss fault c.in_ok-outcome-in-Failed.outcome.value stands adv c.in_ok-outcome-in-Failed.ensures
 
 pub run_call-means-came-requires : goal.run_call-means-came-requires
 run_call-means-came-requires g t c =
@@ -363,8 +366,8 @@ run_call-means-came-requires g t c =
     let old = c.deref_mut.result.now in
     let new = c.advance.new.standing in
     let gift = gift_of old.given in
-    let e : Enters truth gift (prog old.run) (prog new.run) l.call below c.in-Enter.inner.value c.in-Enter.left
-    = stepped gift (prog old.run) (prog new.run) l.call below inv.truth c.in-Enter.is c.in_ok-inner.ensures.steps in
+    let e : Enters truth gift (prog old.run.value) (prog new.run.value) l.call below c.in-Enter.inner.value c.in-Enter.left
+    = stepped gift (prog old.run.value) (prog new.run.value) l.call below inv.truth c.in-Enter.is c.in_ok-inner.ensures.steps in
     let room = e.levels in
     let resumed = c.advance.ensures.truth ∙ inv.truth in
     let at : Ask → Setting NodeRef = λ a. setting_of a globals in
@@ -383,8 +386,8 @@ run_call-need-came-requires g t c =
     let old = c.deref_mut.result.now in
     let new = c.advance.new.standing in
     let gift = gift_of old.given in
-    let e : Needs truth gift (prog old.run) (prog new.run) below c.in-Refer.needed.value c.in-Refer.left
-    = stepped gift (prog old.run) (prog new.run) l.call below inv.truth c.in-Refer.is c.in_ok-inner.ensures.steps in
+    let e : Needs truth gift (prog old.run.value) (prog new.run.value) below c.in-Refer.needed.value c.in-Refer.left
+    = stepped gift (prog old.run.value) (prog new.run.value) l.call below inv.truth c.in-Refer.is c.in_ok-inner.ensures.steps in
     let room = e.levels in
     let resumed = c.advance.ensures.truth ∙ inv.truth in
     let at : Ask → Setting NodeRef = λ a. setting_of a globals in
@@ -1077,7 +1080,7 @@ run_call-loop-standing-init g t c =
     let l = level_of truth c.args.globals.now c.args.below (call_of c.args.call.now) in
     let all = entries_of c.args.memo.now in
     let begun = c.in_ok-standing.standing.value in
-    let p = g.E.Engine.progress begun.run in
+    let p = g.E.Engine.progress begun.run.value in
     let P : Option (Gift NodeRef) → Type 0 = λ x. Stands l p x [] in
     let Q : List Stream → Type 0 = λ ss. Stands l p (gift_of begun.given) ss in
     record {
@@ -1427,13 +1430,13 @@ run_call-returns-in-Done-clause-counts g t c =
     let new = c.advance.new.standing in
     let gift = gift_of old.given in
     let ss = streams_of new.parts.items in
-    let stands : Stands l (prog old.run) gift ss = rw (c.advance.ensures.parts, c.deref_mut.ensures.value) inv.stands in
+    let stands : Stands l (prog old.run.value) gift ss = rw (c.advance.ensures.parts, c.deref_mut.ensures.value) inv.stands in
     let ran = c.in-Done.ran.value in
-    let adv : Advances truth gift (prog old.run) (prog new.run) (Ok (Done ran)) = stepped gift (prog old.run) (prog new.run) l.call below inv.truth c.in-Done.is c.in_ok-inner.ensures.steps in
+    let adv : Advances truth gift (prog old.run.value) (prog new.run.value) (Ok (Done ran)) = stepped gift (prog old.run.value) (prog new.run.value) l.call below inv.truth c.in-Done.is c.in_ok-inner.ensures.steps in
     λ h ready.
-    let X : Running l c.args.lost.now (prog old.run).left (received (prog old.run).waits (prog old.run).going (prog old.run).supplies gift)
+    let X : Running l c.args.lost.now (prog old.run.value).left (received (prog old.run.value).waits (prog old.run.value).going (prog old.run.value).supplies gift)
     (hand_of c.args.reuse.now c.args.memo.now) (hand_of c.loop-standing.reuse c.loop-standing.memo) = rw c.deref_mut.ensures.value (inv.running h ready) in
-    running_done l c.args.lost.now (hand_of c.args.reuse.now c.args.memo.now) (hand_of c.loop-standing.reuse c.loop-standing.memo) (prog old.run) (prog new.run) gift ss ran stands adv X
+    running_done l c.args.lost.now (hand_of c.args.reuse.now c.args.memo.now) (hand_of c.loop-standing.reuse c.loop-standing.memo) (prog old.run.value) (prog new.run.value) gift ss ran stands adv X
 
 pub run_call-returns-in-Done-clause-made_of : goal.run_call-returns-in-Done-clause-made_of
 run_call-returns-in-Done-clause-made_of g t c =
@@ -1448,10 +1451,10 @@ run_call-returns-in-Done-clause-made_of g t c =
     let new = c.advance.new.standing in
     let gift = gift_of old.given in
     let ss = streams_of new.parts.items in
-    let stands : Stands l (prog old.run) gift ss = rw (c.advance.ensures.parts, c.deref_mut.ensures.value) inv.stands in
+    let stands : Stands l (prog old.run.value) gift ss = rw (c.advance.ensures.parts, c.deref_mut.ensures.value) inv.stands in
     let ran = c.in-Done.ran.value in
-    let adv : Advances truth gift (prog old.run) (prog new.run) (Ok (Done ran)) = stepped gift (prog old.run) (prog new.run) l.call below inv.truth c.in-Done.is c.in_ok-inner.ensures.steps in
-    done_same l (prog old.run) (prog new.run) gift ss ran stands adv
+    let adv : Advances truth gift (prog old.run.value) (prog new.run.value) (Ok (Done ran)) = stepped gift (prog old.run.value) (prog new.run.value) l.call below inv.truth c.in-Done.is c.in_ok-inner.ensures.steps in
+    done_same l (prog old.run.value) (prog new.run.value) gift ss ran stands adv
 
 pub run_call-returns-in-Failed-clause-counts : goal.run_call-returns-in-Failed-clause-counts
 run_call-returns-in-Failed-clause-counts g t c =
@@ -1466,13 +1469,13 @@ run_call-returns-in-Failed-clause-counts g t c =
     let new = c.advance.new.standing in
     let gift = gift_of old.given in
     let ss = streams_of new.parts.items in
-    let stands : Stands l (prog old.run) gift ss = rw (c.advance.ensures.parts, c.deref_mut.ensures.value) inv.stands in
+    let stands : Stands l (prog old.run.value) gift ss = rw (c.advance.ensures.parts, c.deref_mut.ensures.value) inv.stands in
     let fault = c.in-Failed.fault.value in
-    let adv : Advances truth gift (prog old.run) (prog new.run) (Err fault) = stepped gift (prog old.run) (prog new.run) l.call below inv.truth c.in-Failed.is c.in_ok-inner.ensures.steps in
+    let adv : Advances truth gift (prog old.run.value) (prog new.run.value) (Err fault) = stepped gift (prog old.run.value) (prog new.run.value) l.call below inv.truth c.in-Failed.is c.in_ok-inner.ensures.steps in
     λ h ready.
-    let X : Running l c.args.lost.now (prog old.run).left (received (prog old.run).waits (prog old.run).going (prog old.run).supplies gift)
+    let X : Running l c.args.lost.now (prog old.run.value).left (received (prog old.run.value).waits (prog old.run.value).going (prog old.run.value).supplies gift)
     (hand_of c.args.reuse.now c.args.memo.now) (hand_of c.loop-standing.reuse c.loop-standing.memo) = rw c.deref_mut.ensures.value (inv.running h ready) in
-    running_failed l c.args.lost.now (hand_of c.args.reuse.now c.args.memo.now) (hand_of c.loop-standing.reuse c.loop-standing.memo) (prog old.run) (prog new.run) gift ss fault c.in_ok-outcome-in-Failed.outcome.value stands adv c.in_ok-outcome-in-Failed.ensures X
+    running_failed l c.args.lost.now (hand_of c.args.reuse.now c.args.memo.now) (hand_of c.loop-standing.reuse c.loop-standing.memo) (prog old.run.value) (prog new.run.value) gift ss fault c.in_ok-outcome-in-Failed.outcome.value stands adv c.in_ok-outcome-in-Failed.ensures X
 
 pub run_call-returns-in-Failed-clause-made_of : goal.run_call-returns-in-Failed-clause-made_of
 run_call-returns-in-Failed-clause-made_of g t c =
@@ -1487,10 +1490,10 @@ run_call-returns-in-Failed-clause-made_of g t c =
     let new = c.advance.new.standing in
     let gift = gift_of old.given in
     let ss = streams_of new.parts.items in
-    let stands : Stands l (prog old.run) gift ss = rw (c.advance.ensures.parts, c.deref_mut.ensures.value) inv.stands in
+    let stands : Stands l (prog old.run.value) gift ss = rw (c.advance.ensures.parts, c.deref_mut.ensures.value) inv.stands in
     let fault = c.in-Failed.fault.value in
-    let adv : Advances truth gift (prog old.run) (prog new.run) (Err fault) = stepped gift (prog old.run) (prog new.run) l.call below inv.truth c.in-Failed.is c.in_ok-inner.ensures.steps in
-    failed_same l (prog old.run) (prog new.run) gift ss fault c.in_ok-outcome-in-Failed.outcome.value stands adv c.in_ok-outcome-in-Failed.ensures
+    let adv : Advances truth gift (prog old.run.value) (prog new.run.value) (Err fault) = stepped gift (prog old.run.value) (prog new.run.value) l.call below inv.truth c.in-Failed.is c.in_ok-inner.ensures.steps in
+    failed_same l (prog old.run.value) (prog new.run.value) gift ss fault c.in_ok-outcome-in-Failed.outcome.value stands adv c.in_ok-outcome-in-Failed.ensures
 
 pub means_anew-returns-then-levels-eq0-clause-counts : goal.means_anew-returns-then-levels-eq0-clause-counts
 means_anew-returns-then-levels-eq0-clause-counts g t c =

@@ -82,11 +82,11 @@ invariant-run_call-loop-standing g l =
     let truth = (g.W.World.state l.fn.world).truth in
     let s = l.standing.value in
     record {
-      stands : Stands (level_of truth l.globals l.below (call_of l.call)) (g.E.Engine.progress s.run) (gift_of s.given) (streams_of s.parts.items);
-      onward : Onward (level_of truth l.globals l.below (call_of l.call)) (entries_of l.fn.memo) (entries_of l.memo) s.spare (g.E.Engine.progress s.run) (gift_of s.given);
+      stands : Stands (level_of truth l.globals l.below (call_of l.call)) (g.E.Engine.progress s.run.value) (gift_of s.given) (streams_of s.parts.items);
+      onward : Onward (level_of truth l.globals l.below (call_of l.call)) (entries_of l.fn.memo) (entries_of l.memo) s.spare (g.E.Engine.progress s.run.value) (gift_of s.given);
       running : OfRun (setting_of truth l.globals) (instance_of (call_of l.call) l.below (past_of l.globals)) (hand_of l.fn.reuse l.fn.memo)
-          (Running (level_of truth l.globals l.below (call_of l.call)) l.lost (g.E.Engine.progress s.run).left
-          (received (g.E.Engine.progress s.run).waits (g.E.Engine.progress s.run).going (g.E.Engine.progress s.run).supplies (gift_of s.given))
+          (Running (level_of truth l.globals l.below (call_of l.call)) l.lost (g.E.Engine.progress s.run.value).left
+          (received (g.E.Engine.progress s.run.value).waits (g.E.Engine.progress s.run.value).going (g.E.Engine.progress s.run.value).supplies (gift_of s.given))
           (hand_of l.fn.reuse l.fn.memo) (hand_of l.reuse l.memo));
       sure : IsSure truth l.reuse;
       truth : (g.W.World.state l.world).truth ≡ truth;
@@ -98,4 +98,4 @@ invariant-run_call-loop-standing g l =
 abbrev pub decreases-run_call-loop-standing : goal.decreases-run_call-loop-standing
 decreases-run_call-loop-standing g l =
     let s = l.standing.value in
-    work_left (level_of (g.W.World.state l.fn.world).truth l.globals l.below (call_of l.call)) (g.E.Engine.progress s.run) (gift_of s.given)
+    work_left (level_of (g.W.World.state l.fn.world).truth l.globals l.below (call_of l.call)) (g.E.Engine.progress s.run.value) (gift_of s.given)

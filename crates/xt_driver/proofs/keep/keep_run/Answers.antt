@@ -12,7 +12,7 @@ use Rattle.xt_driver.proofs.keep.keep_run.Goals as goal
 
 pub returns-clause-sure : goal.returns-clause-sure
 returns-clause-sure c =
-    let same = ap kept_in c.in_ok-shared.ensures.ok ∙ c.new-kept.ensures ∙ ap (λ k. kept_with k (ran_of c.into_inner-ran.result)) c.in_ok-call.ensures
+    let same = ap kept_in c.in-Ok-new.ensures.ok ∙ c.new-kept.ensures ∙ ap (λ k. kept_with k (ran_of c.into_inner-ran.result)) c.in-Ok.ensures
     ∙ ap (λ r. kept_with (call_of c.args.call.now) (ran_of r)) c.into_inner-ran.ensures in
     on_all c.keep.result c.keep.ensures.sure (λ sure ask before asks.
     let P : List (Event NodeRef) → Type 0 = λ es. AsksHold ask es in
@@ -20,7 +20,7 @@ returns-clause-sure c =
 
 pub returns-clause-kept : goal.returns-clause-kept
 returns-clause-kept c =
-    let same = ap kept_in c.in_ok-shared.ensures.ok ∙ c.new-kept.ensures ∙ ap (λ k. kept_with k (ran_of c.into_inner-ran.result)) c.in_ok-call.ensures
+    let same = ap kept_in c.in-Ok-new.ensures.ok ∙ c.new-kept.ensures ∙ ap (λ k. kept_with k (ran_of c.into_inner-ran.result)) c.in-Ok.ensures
     ∙ ap (λ r. kept_with (call_of c.args.call.now) (ran_of r)) c.into_inner-ran.ensures in
     on_all c.keep.result (on_both _ _ c.keep.result c.keep.ensures.kept c.keep.ensures.next) (λ kept.
-    (c.in_ok-shared.shared, record { kept = kept.0; next = kept.1 }, same))
+    (c.in-Ok-new.shared, record { kept = kept.0; next = kept.1 }, same))

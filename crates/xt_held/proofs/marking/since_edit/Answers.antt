@@ -19,9 +19,9 @@ returns-in-None-clause-spared c = λ parameters.
     (since_of c.args.since.now) (since_of next) is) c.anything.ensures
 
 pub returns-in-None-clause-told : goal.returns-in-None-clause-told
-returns-in-None-clause-told c = λ marks h.
+returns-in-None-clause-told c = λ records marks h.
     IfOk-weaker c.anything.result _ _ (λ next is.
-    anything_where marks _ (since_of next) is
+    anything_where records marks _ (since_of next) is
     (ap (λ (what : Option Compiled). edit_marks (known_of what) (edit_of c.args.edit.now) c.args.old.now c.args.new.now)
     (ap option_copied c.in-None.is))) c.anything.ensures
 
@@ -32,9 +32,9 @@ returns-in-Refused-clause-spared c = λ parameters.
     (since_of c.args.since.now) (since_of next) is) c.anything-in-Refused.ensures
 
 pub returns-in-Refused-clause-told : goal.returns-in-Refused-clause-told
-returns-in-Refused-clause-told c = λ marks h.
+returns-in-Refused-clause-told c = λ records marks h.
     IfOk-weaker c.anything-in-Refused.result _ _ (λ next is.
-    anything_where marks _ (since_of next) is
+    anything_where records marks _ (since_of next) is
     (ap (λ (what : Option Compiled). edit_marks (known_of what) (edit_of c.args.edit.now) c.args.old.now c.args.new.now)
     (ap option_copied c.in-Some.is ∙ ap Some c.in-Refused.is))) c.anything-in-Refused.ensures
 
@@ -45,7 +45,7 @@ returns-in-Stylesheet-clause-spared c = λ parameters.
     (sym (ap option_copied c.in-Some.is ∙ ap Some c.in-Stylesheet.is)) (c.since_edit_of.ensures.spared c.in-Stylesheet.field-2 parameters)
 
 pub returns-in-Stylesheet-clause-told : goal.returns-in-Stylesheet-clause-told
-returns-in-Stylesheet-clause-told c = λ marks h.
-    subst (λ (what : Option Compiled). IfOk c.since_edit_of.result (λ next. AreToldBy (remembered marks
+returns-in-Stylesheet-clause-told c = λ records marks h.
+    subst (λ (what : Option Compiled). IfOk c.since_edit_of.result (λ next. AreToldBy records (remembered marks
     (edit_marks (known_of what) (edit_of c.args.edit.now) c.args.old.now c.args.new.now)) (since_of next)))
-    (sym (ap option_copied c.in-Some.is ∙ ap Some c.in-Stylesheet.is)) (c.since_edit_of.ensures.told marks h)
+    (sym (ap option_copied c.in-Some.is ∙ ap Some c.in-Stylesheet.is)) (c.since_edit_of.ensures.told records marks h)

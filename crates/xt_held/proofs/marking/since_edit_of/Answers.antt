@@ -21,9 +21,9 @@ returns-clause-spared c = λ method parameters.
     (since_of c.args.since.now) (since_of next) is) c.and.ensures
 
 pub returns-clause-told : goal.returns-clause-told
-returns-clause-told c = λ marks h.
+returns-clause-told c = λ records marks h.
     IfOk-weaker c.and.result _ _ (λ next is.
-    edit_told c.edits_lead_as_they_are_seen.ensures c.edits_keep_space.ensures marks (space_rules_of c.args.space_rules.now).rules
+    edit_told c.edits_lead_as_they_are_seen.ensures c.edits_keep_space.ensures records marks (space_rules_of c.args.space_rules.now).rules
     (edit_of c.args.edit.now) c.args.old.now c.args.new.now c.requires.faultless c.distinct_numbers.ensures c.requires.edit
     (change_in c.in_ok-told.told) (change_in c.in_ok-change.change) c.in_ok-told.ensures c.in_ok-change.ensures c.in-Ok.asking
     (since_of c.args.since.now) (since_of next) is h) c.and.ensures

@@ -23,7 +23,7 @@ returns-in-None-clause-told c = λ marks h modules are.
     IfOk-weaker c.copy.result _ _ (λ next is. (
       [],
       none_add modules (known_of (option_copied c.args.known)) (option_copied c.args.new) (ap option_copied c.in-None.is) are,
-      same_told marks (since_of c.args.since.now) (since_of next) is h,
+      same_told c.args.records.now marks (since_of c.args.since.now) (since_of next) is h,
     )) c.copy.ensures
 
 pub returns-in-Refused-clause-spared : goal.returns-in-Refused-clause-spared
@@ -39,7 +39,7 @@ returns-in-Refused-clause-told c = λ marks h modules are.
       [],
       refused_add modules (known_of (option_copied c.args.known)) (option_copied c.args.new) c.in-Refused.field-0
           (ap option_copied c.in-Some.is ∙ ap Some c.in-Refused.is) are,
-      same_told marks (since_of c.args.since.now) (since_of next) is h,
+      same_told c.args.records.now marks (since_of c.args.since.now) (since_of next) is h,
     )) c.copy-in-Refused.ensures
 
 pub returns-in-Stylesheet-clause-spared : goal.returns-in-Stylesheet-clause-spared

@@ -19,9 +19,9 @@ returns-in-None-clause-spared c = λ parameters.
     (since_of c.args.since.now) (since_of next) is) c.anything.ensures
 
 pub returns-in-None-clause-told : goal.returns-in-None-clause-told
-returns-in-None-clause-told c = λ marks h.
+returns-in-None-clause-told c = λ records marks h.
     IfOk-weaker c.anything.result _ _ (λ next is.
-    anything_where marks _ (since_of next) is
+    anything_where records marks _ (since_of next) is
     (ap (λ (what : Option Compiled). move_marks (known_of what) c.args.path.now c.args.other.now c.args.old.now c.args.new.now)
     (ap option_copied c.in-None.is))) c.anything.ensures
 
@@ -32,9 +32,9 @@ returns-in-Refused-clause-spared c = λ parameters.
     (since_of c.args.since.now) (since_of next) is) c.anything-in-Refused.ensures
 
 pub returns-in-Refused-clause-told : goal.returns-in-Refused-clause-told
-returns-in-Refused-clause-told c = λ marks h.
+returns-in-Refused-clause-told c = λ records marks h.
     IfOk-weaker c.anything-in-Refused.result _ _ (λ next is.
-    anything_where marks _ (since_of next) is
+    anything_where records marks _ (since_of next) is
     (ap (λ (what : Option Compiled). move_marks (known_of what) c.args.path.now c.args.other.now c.args.old.now c.args.new.now)
     (ap option_copied c.in-Some.is ∙ ap Some c.in-Refused.is))) c.anything-in-Refused.ensures
 
@@ -45,9 +45,9 @@ returns-then-not-sees_all-clause-spared c = λ parameters.
     (since_of c.args.since.now) (since_of next) is) c.anything-then-not-sees_all.ensures
 
 pub returns-then-not-sees_all-clause-told : goal.returns-then-not-sees_all-clause-told
-returns-then-not-sees_all-clause-told c = λ marks h.
+returns-then-not-sees_all-clause-told c = λ records marks h.
     IfOk-weaker c.anything-then-not-sees_all.result _ _ (λ next is.
-    anything_where marks _ (since_of next) is
+    anything_where records marks _ (since_of next) is
     (ap (λ (what : Option Compiled). move_marks (known_of what) c.args.path.now c.args.other.now c.args.old.now c.args.new.now)
     (ap option_copied c.in-Some.is ∙ ap Some c.in-Stylesheet.is)
     ∙ move_where_some c.in-Stylesheet.space_rules c.args.path.now c.args.other.now c.args.old.now c.args.new.now
@@ -61,9 +61,9 @@ returns-else-not-sees_all-clause-spared c = λ parameters.
     (c.since_move_of.ensures.spared c.in-Stylesheet.space_rules c.in-Stylesheet.field-2 parameters (c.sees_all.ensures.0 c.if-not-sees_all.false))
 
 pub returns-else-not-sees_all-clause-told : goal.returns-else-not-sees_all-clause-told
-returns-else-not-sees_all-clause-told c = λ marks h.
-    subst (λ (mark : Mark). IfOk c.since_move_of.result (λ next. AreToldBy (remembered marks mark) (since_of next)))
+returns-else-not-sees_all-clause-told c = λ records marks h.
+    subst (λ (mark : Mark). IfOk c.since_move_of.result (λ next. AreToldBy records (remembered marks mark) (since_of next)))
     (sym (ap (λ (what : Option Compiled). move_marks (known_of what) c.args.path.now c.args.other.now c.args.old.now c.args.new.now)
     (ap option_copied c.in-Some.is ∙ ap Some c.in-Stylesheet.is)
     ∙ move_where_all c.in-Stylesheet.space_rules c.args.path.now c.args.other.now c.args.old.now c.args.new.now
-    (c.sees_all.ensures.0 c.if-not-sees_all.false))) (c.since_move_of.ensures.told marks h)
+    (c.sees_all.ensures.0 c.if-not-sees_all.false))) (c.since_move_of.ensures.told records marks h)

@@ -20,9 +20,9 @@ returns-in-None-clause-spared c = λ rules method parameters all.
     c.anything.ensures
 
 pub returns-in-None-clause-told : goal.returns-in-None-clause-told
-returns-in-None-clause-told c = λ marks h.
+returns-in-None-clause-told c = λ records marks h.
     IfOk-weaker c.anything.result _ _ (λ next is.
-    no_move_told marks (move_change c.args.path.now c.args.other.now c.args.old.now c.args.new.now) (since_of next) is
+    no_move_told records marks (move_change c.args.path.now c.args.other.now c.args.old.now c.args.new.now) (since_of next) is
     (sym (ap (option_map move_change_in) c.in-None.is) ∙ c.in_ok-move_change_of.ensures)) c.anything.ensures
 
 pub returns-in-Ok-clause-spared : goal.returns-in-Ok-clause-spared
@@ -36,8 +36,8 @@ returns-in-Ok-clause-spared c = λ rules method parameters all.
     (since_of c.args.since.now) (since_of next) is) c.and.ensures
 
 pub returns-in-Ok-clause-told : goal.returns-in-Ok-clause-told
-returns-in-Ok-clause-told c = λ marks h.
+returns-in-Ok-clause-told c = λ records marks h.
     IfOk-weaker c.and.result _ _ (λ next is.
-    move_told marks (move_change c.args.path.now c.args.other.now c.args.old.now c.args.new.now) (move_change_in c.in-Some.change)
+    move_told records marks (move_change c.args.path.now c.args.other.now c.args.old.now c.args.new.now) (move_change_in c.in-Some.change)
     (sym (ap (option_map move_change_in) c.in-Some.is) ∙ c.in_ok-move_change_of.ensures) c.in-Ok.asking (since_of c.args.since.now) (since_of next) is h)
     c.and.ensures

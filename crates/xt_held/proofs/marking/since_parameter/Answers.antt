@@ -14,7 +14,7 @@ returns-clause-spared c = λ known parameters value source.
     (is ∙ ap (λ name. remembered (since_of c.args.since.now) (ParameterGiven name)) c.in_ok-name.ensures)) c.and.ensures
 
 pub returns-clause-told : goal.returns-clause-told
-returns-clause-told c = λ marks h.
+returns-clause-told c = λ records marks h.
     IfOk-weaker c.and.result _ _ (λ next is.
-    value_told marks c.args.name.now (since_of c.args.since.now) (since_of next)
+    value_told records marks c.args.name.now (since_of c.args.since.now) (since_of next)
     (is ∙ ap (λ name. remembered (since_of c.args.since.now) (ParameterGiven name)) c.in_ok-name.ensures) h) c.and.ensures

@@ -25,7 +25,7 @@ returns-in-None-clause-told c = λ marks h sheet rules.
     IfOk-weaker c.anything.result _ _ (λ next is. (
       Anything ∷ [],
       style_unknown (known_of (option_copied c.args.known)) sheet (ap known_of (ap option_copied c.in-None.is)),
-      anything_told marks (since_of next) is,
+      anything_told c.args.records.now marks (since_of next) is,
     )) c.anything.ensures
 
 pub returns-in-Refused-clause-spared : goal.returns-in-Refused-clause-spared
@@ -39,7 +39,7 @@ returns-in-Refused-clause-told c = λ marks h sheet rules.
     IfOk-weaker c.anything-in-Refused.result _ _ (λ next is. (
       Anything ∷ [],
       style_unknown (known_of (option_copied c.args.known)) sheet (ap known_of (ap option_copied c.in-Some.is ∙ ap Some c.in-Refused.is)),
-      anything_told marks (since_of next) is,
+      anything_told c.args.records.now marks (since_of next) is,
     )) c.anything-in-Refused.ensures
 
 pub returns-then-not-same-clause-spared : goal.returns-then-not-same-clause-spared
@@ -55,7 +55,7 @@ returns-then-not-same-clause-told c = λ marks h sheet rules.
       style_other (known_of (option_copied c.args.known)) sheet (space_rules_of c.in-Stylesheet.rules) (space_rules_of c.args.space_rules.now)
           (ap known_of (ap option_copied c.in-Some.is ∙ ap Some c.in-Stylesheet.is))
           (λ same. true_false (sym (c.same.ensures.1 same) ∙ c.if-not-same.true)) rules,
-      anything_told marks (since_of next) is,
+      anything_told c.args.records.now marks (since_of next) is,
     )) c.anything-then-not-same.ensures
 
 pub returns-else-not-same-clause-spared : goal.returns-else-not-same-clause-spared

@@ -68,6 +68,6 @@ returns-clause-tells c =
             all = told;
             by = as_told (is_edited_by held.batch) (documents_of held).modules (known_in held) told c.requires.unedited;
             asked = c.in_ok-came.ensures.asks told
-                (subst (λ (changes : List WorldChange). AreToldBy told changes) (sym c.in_ok-since.ensures) is);
+                (subst (λ (changes : List WorldChange). AreToldBy held.last.kept.records told changes) (sym c.in_ok-since.ensures) is);
           };
     }

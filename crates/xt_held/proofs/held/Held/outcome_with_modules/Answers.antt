@@ -78,6 +78,6 @@ pub returns-clause-asks : goal.returns-clause-asks
 returns-clause-asks c = λ told is modules are.
     let changes = since_of c.in_ok-since.since in
     let styled = subst (λ (what : Option Compiled). (style : List Mark) × AddsStyle modules (modules main_name) (known_of what) style
-    × AreToldBy (and_marks told style) changes) c.last_known-known.ensures (c.in_ok-since.ensures.told told is modules are) in
+    × AreToldBy c.args.self.now.last.kept.records (and_marks told style) changes) c.last_known-known.ensures (c.in_ok-since.ensures.told told is modules are) in
     styled_asked modules (known_in c.args.self.now) told changes c.args.self.now.last.kept.records c.outcome_of.result styled c.outcome_of.ensures.asked c.outcome_of.ensures.least
     c.outcome_of.ensures.since

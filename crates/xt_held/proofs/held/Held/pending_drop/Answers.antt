@@ -37,4 +37,7 @@ returns-clause-brings c =
     record { numbers = λ i. numbers.with_module (c.in_ok-dropped.ensures i) None (numbers_of c.args.self.now); kind = refl }
 
 pub returns-clause-tells : goal.returns-clause-tells
-returns-clause-tells c = record { tells = λ told is. subst (λ (changes : List WorldChange). AreToldBy told changes) (sym c.in_ok-since.ensures) is }
+returns-clause-tells c = record {
+  tells = λ told is.
+      subst (λ (changes : List WorldChange). AreToldBy c.args.self.now.last.kept.records told changes) (sym c.in_ok-since.ensures) is;
+}

@@ -53,4 +53,7 @@ pub returns-clause-kept : goal.returns-clause-kept
 returns-clause-kept c = kept_modules c.args.self.now _ c.in-Ok-reserve.ensures.entries refl
 
 pub returns-clause-tells : goal.returns-clause-tells
-returns-clause-tells c = record { tells = λ told is. subst (λ (changes : List WorldChange). AreToldBy told changes) (sym c.in-Ok-copy.ensures) is }
+returns-clause-tells c = record {
+  tells = λ told is.
+      subst (λ (changes : List WorldChange). AreToldBy c.args.self.now.last.kept.records told changes) (sym c.in-Ok-copy.ensures) is;
+}

@@ -27,4 +27,4 @@ pub returns-clause-kept : goal.returns-clause-kept
 returns-clause-kept c = kept_so c.args.self.now c.reserve.new.self c.in-Ok.ensures.same
 
 pub returns-clause-tells : goal.returns-clause-tells
-returns-clause-tells c = record { tells = λ told is. c.in_ok-since.ensures.told told is }
+returns-clause-tells c = record { tells = λ told is. c.in_ok-since.ensures.told c.args.self.now.last.kept.records told is }

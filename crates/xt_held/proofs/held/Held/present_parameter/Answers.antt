@@ -89,6 +89,6 @@ returns-clause-tells c =
           record {
             all = all;
             by = as_told (is_edited_by held.batch) documents.modules (known_in held) all (ap is_edited_by alone);
-            asked = came_asked all changes held.last.kept.records (Ok c.in_ok-tried.tried.came) (c.in_ok-since.ensures.told told is) tried.asked tried.least tried.since;
+            asked = came_asked all changes held.last.kept.records (Ok c.in_ok-tried.tried.came) (c.in_ok-since.ensures.told held.last.kept.records told is) tried.asked tried.least tried.since;
           };
     }

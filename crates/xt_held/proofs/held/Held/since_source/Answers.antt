@@ -56,22 +56,23 @@ pub returns-in-None-clause-told : goal.returns-in-None-clause-told
 returns-in-None-clause-told c = λ told is.
     let held = c.args.self.now in
     IfOk-weaker c.anything.result _ _ (λ next so.
-    none_told (known_in held) c.args.origin held.source c.in-None.is c.args.document.now told (since_of next) so) c.anything.ensures
+    none_told held.last.kept.records (known_in held) c.args.origin held.source c.in-None.is c.args.document.now told (since_of next) so) c.anything.ensures
 
 pub returns-in-Given-clause-told : goal.returns-in-Given-clause-told
 returns-in-Given-clause-told c = λ told is.
     let held = c.args.self.now in
     IfOk-weaker c.anything-in-Given.result _ _ (λ next so.
-    given_told (known_in held) c.args.origin c.in-Given.is held.source c.args.document.now told (since_of next) so) c.anything-in-Given.ensures
+    given_told held.last.kept.records (known_in held) c.args.origin c.in-Given.is held.source c.args.document.now told (since_of next) so)
+    c.anything-in-Given.ensures
 
 pub returns-in-Edited-clause-told : goal.returns-in-Edited-clause-told
 returns-in-Edited-clause-told c = λ told is.
     let held = c.args.self.now in
-    source_told (ap known_of c.last_known-known.ensures) c.in-Edited.is c.in-Some.is c.args.document.now told c.since_edit.result
-    (c.since_edit.ensures.told told is)
+    source_told held.last.kept.records (ap known_of c.last_known-known.ensures) c.in-Edited.is c.in-Some.is c.args.document.now told c.since_edit.result
+    (c.since_edit.ensures.told held.last.kept.records told is)
 
 pub returns-in-Moved-clause-told : goal.returns-in-Moved-clause-told
 returns-in-Moved-clause-told c = λ told is.
     let held = c.args.self.now in
-    source_told (ap known_of c.last_known-known.ensures) c.in-Moved.is c.in-Some.is c.args.document.now told c.since_move.result
-    (c.since_move.ensures.told told is)
+    source_told held.last.kept.records (ap known_of c.last_known-known.ensures) c.in-Moved.is c.in-Some.is c.args.document.now told c.since_move.result
+    (c.since_move.ensures.told held.last.kept.records told is)

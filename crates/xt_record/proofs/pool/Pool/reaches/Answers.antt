@@ -1,5 +1,7 @@
 use Rattle.std.proofs.Common.{refl, sym, ap, subst}
-use Rattle.xt_engine.specs.View.{event_of}
+use Rattle.spec_run.specs.Going.{Entered}
+use Rattle.xt_engine.specs.View.{call_of, event_of}
+use Rattle.xt_engine.specs.declared.call.Call.{Call}
 use Rattle.xt_engine.specs.declared.event.Event.{Event}
 use Rattle.xt_record.specs.Grown.{values_of}
 use Rattle.xt_record.specs.Reached.{Reaches}
@@ -15,4 +17,6 @@ returns-in-Asked-clause-reaches c = λ trees is.
 pub returns-in-Entered-clause-reaches : goal.returns-in-Entered-clause-reaches
 returns-in-Entered-clause-reaches c = if_ok c.reaches_over.result c.reaches_over.ensures.reaches (λ b h trees is.
     let Of : Event → Type 0 = λ e. Reaches (values_of c.args.self.now.records.items) (event_of e) c.args.reach.now c.reaches_over.new.reach in
-    subst Of (sym c.in-Entered.is) (h trees is))
+    let At : Call → Type 0 = λ k. Reaches (values_of c.args.self.now.records.items) (Entered (call_of k) c.in-Entered.depth) c.args.reach.now
+    c.reaches_over.new.reach in
+    subst Of (sym c.in-Entered.is) (subst At c.deref.ensures (h trees is)))
