@@ -1,7 +1,8 @@
 // One call with all that it enters and all globals that it needs. It is served by a record where one serves it, and
 // run by the engine otherwise; and a global is evaluated once for all references to it before its turn that have the
 // levels for it.
-ghost use Rattle.std.specs.Prelude.{◌≡◌, ◌-◌, suc, IfOk, OnOk};
+ghost use Rattle.std.specs.Prelude.{◌≡◌, ◌-◌, [], suc, IfOk, None, OnOk};
+ghost use Rattle.xt_engine.specs.Progress.{started};
 ghost use Rattle.spec_run.specs.Meaning.{meaning};
 ghost use Rattle.spec_reuse.specs.Instantiation.{entered, for_reference};
 ghost use Rattle.xt_syntax.specs.PartView.{place_of};
@@ -21,7 +22,7 @@ use crate::came::Outcome;
 use crate::follow::{Gone, Next, next_done, set_out, take_entered, take_reference};
 use crate::globals::{Globals, Reference, evaluation_of, look_up};
 use crate::keep::{keep_ended, next_turn, tried};
-use crate::level::{Needed, Step, advance, begin, take_global, take_stream};
+use crate::level::{Level, Needed, Step, advance, begin, take_global, take_stream};
 use crate::lost::{Lost, regained_reference};
 use crate::memo::{Memo, Referred};
 use crate::outcome::{Ended, cut_short, done, evaluated, refused, too_deep, whole_again};
@@ -101,8 +102,9 @@ fn first_anew<E: Engine, W: World>(
     match serve(alloc, engine, world, globals, memo, reuse, call, below)? {
         Served::As(outcome) => Ok(outcome),
         Served::Not(lost) => {
+            let standing = begin(alloc, engine, call, below)?;
             let ended = run_call(
-                alloc, engine, world, globals, memo, reuse, &lost, call, below,
+                alloc, engine, world, globals, memo, reuse, &lost, call, below, standing,
             )?;
             keep_ended(alloc, reuse, call, ended)
         }
@@ -172,8 +174,9 @@ fn means_anew<E: Engine, W: World>(
     match serve(alloc, engine, world, globals, memo, reuse, call, below)? {
         Served::As(outcome) => Ok(outcome),
         Served::Not(lost) => {
+            let standing = begin(alloc, engine, call, below)?;
             let ended = run_call(
-                alloc, engine, world, globals, memo, reuse, &lost, call, below,
+                alloc, engine, world, globals, memo, reuse, &lost, call, below, standing,
             )?;
             keep_ended(alloc, reuse, call, ended)
         }
@@ -322,7 +325,7 @@ fn go_on<E: Engine, W: World>(
     }
 }
 
-// Runs the call by the engine, with so many levels below its own. A global that was lost is not evaluated again. What the
+// Runs the call by the engine, with so many levels below its own, from where that begins. A global that was lost is not evaluated again. What the
 // engine made is kept by the caller: here it would take room on each level.
 #[cycle(drive)]
 fn run_call<E: Engine, W: World>(
@@ -335,10 +338,14 @@ fn run_call<E: Engine, W: World>(
     lost: &Lost,
     call: &Call,
     below: u64,
+    mut standing: Box<Level<E::Run>>,
 ) -> Result<Ended, Memory>
     requires remembers { Remembers (setting_of (W.state world.now).truth globals.now) (past_of globals.now) (entries_of memo.now) }
     requires sure { IsSure (W.state world.now).truth reuse.now }
     requires lost { IsLost (setting_of (W.state world.now).truth globals.now) (past_of globals.now) lost.now }
+    requires started { E.progress standing.value.run.value ≡ started (call_of call.now) below }
+    requires given { standing.value.given ≡ None }
+    requires parts { standing.value.parts.items ≡ [] }
     ensures keeps { OnOk result (Keeps (setting_of (W.state world.old).truth globals.now) (past_of globals.now) (entries_of memo.old) (entries_of memo.new)) }
     ensures lasts { IfOk result (λ e. Lasts (setting_of (W.state world.old).truth globals.now) (past_of globals.now) (suc below - e.outcome.value.spare) (entries_of memo.new) (call_of call.now) (outcome_of e.outcome.value)) }
     ensures meaning { IfOk result (λ e. outcome_of e.outcome.value ≡ meaning (setting_of (W.state world.old).truth globals.now) (suc below) (past_of globals.now) 0 (call_of call.now)) }
@@ -352,7 +359,6 @@ fn run_call<E: Engine, W: World>(
     ensures last { reuse.new.last ≡ reuse.old.last }
     ensures spared { reuse.new.spared ≡ reuse.old.spared }
 {
-    let mut standing = begin(alloc, engine, call, below)?;
     reuse.count_run();
     loop {
         match advance(alloc, engine, world, reuse, &mut standing, call, below)? {

@@ -114,24 +114,38 @@ pub fn advance<E: Engine, W: World>(
 {
     // From two places, so that Rattle's own compiler leaves it out of the frame of a level, where it would take room while
     // all is run that the level enters.
-    let turn = match standing.given.take() {
-        None => reuse.resume(
-            alloc,
-            engine,
-            &mut standing.run,
-            None,
-            &mut standing.at,
-            world,
-        ),
-        given => reuse.resume(
-            alloc,
-            engine,
-            &mut standing.run,
-            given,
-            &mut standing.at,
-            world,
-        ),
-    };
+    match standing.given.take() {
+        None => stepped(alloc, engine, world, reuse, standing, None, call, below),
+        given => stepped(alloc, engine, world, reuse, standing, given, call, below),
+    }
+}
+
+// Goes on with this, up to the next step.
+fn stepped<E: Engine, W: World>(
+    alloc: Global,
+    engine: &mut E,
+    world: &mut W,
+    reuse: &Reuse<'_>,
+    standing: &mut Level<E::Run>,
+    given: Option<Entered>,
+    call: &Call,
+    below: u64,
+) -> Result<Step, Memory>
+    requires sure { IsSure (W.state world.now).truth reuse.now }
+    ensures steps { IfOk result (λ s. Steps (W.state world.old).truth (gift_of given) (E.progress standing.old.run.value) (E.progress standing.new.run.value) (call_of call.now) below s) }
+    ensures parts { standing.new.parts ≡ standing.old.parts }
+    ensures spare { standing.new.spare ≡ standing.old.spare }
+    ensures truth { (W.state world.new).truth ≡ (W.state world.old).truth }
+    ensures name { W.name world.new ≡ W.name world.old }
+{
+    let turn = reuse.resume(
+        alloc,
+        engine,
+        &mut standing.run,
+        given,
+        &mut standing.at,
+        world,
+    );
     match turn {
         Ok(Turn::Want(wanted, depth)) => {
             let inner = settled(alloc, call, wanted)?;

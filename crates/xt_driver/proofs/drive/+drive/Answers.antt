@@ -59,8 +59,8 @@ use Rattle.xt_record.proofs.Ok.{if_both}
 use Rattle.xt_driver.proofs.Said.{counts_from, counts_said, lasts_said, means_said, outcome_said, said_in, unsaid_in}
 use Rattle.xt_driver.proofs.drive.+drive.Goals as goal
 
-pub run_call-loop-standing-smaller-in-Continue-branch-4 : goal.run_call-loop-standing-smaller-in-Continue-branch-4
-run_call-loop-standing-smaller-in-Continue-branch-4 g t c =
+pub run_call-loop-standing-smaller-in-Continue-branch-3 : goal.run_call-loop-standing-smaller-in-Continue-branch-3
+run_call-loop-standing-smaller-in-Continue-branch-3 g t c =
     let truth = (g.W.World.state c.args.world.now).truth in
     let prog = g.E.Engine.progress in
     let globals = c.args.globals.now in
@@ -87,8 +87,8 @@ run_call-loop-standing-smaller-in-Continue-branch-4 g t c =
     let onto = stands_entered l (prog old.run.value) (prog new.run.value) gift ss (streams_of next.parts.items) e.wanted e.depth c.means-came.result next.given stands e.advances came streamed in
     rw (c.take_stream.ensures.run, at, sym c.deref_mut.ensures.value) onto.less
 
-pub run_call-loop-standing-preserved-in-Continue-branch-4 : goal.run_call-loop-standing-preserved-in-Continue-branch-4
-run_call-loop-standing-preserved-in-Continue-branch-4 g t c =
+pub run_call-loop-standing-preserved-in-Continue-branch-3 : goal.run_call-loop-standing-preserved-in-Continue-branch-3
+run_call-loop-standing-preserved-in-Continue-branch-3 g t c =
     let truth = (g.W.World.state c.args.world.now).truth in
     let prog = g.E.Engine.progress in
     let globals = c.args.globals.now in
@@ -924,7 +924,28 @@ means_anew-run_call-requires g t c =
     let room : suc (c.args.levels - 1) ≡ c.args.levels = omega arith in
     let remembers = remembers_there at past mid there c.in_ok-outcome.ensures.keeps.remembers in
     let lost = served_not (setting_of truth globals) past c.in_ok-outcome.field-0 (suc (c.args.levels - 1)) mid (call_of c.args.call.now) c.in-Not.lost c.in_ok-outcome.ensures.served c.in-Not.is in
-    λ κs lives. (omega (arith, room), (lives.0, (lives.1.0, (lives.1.1, (remembers, (sure_there (sym there) c.in_ok-outcome.ensures.sure, lost_there at past c.in-Not.lost there lost))))))
+    λ κs lives. (
+      omega (arith, room),
+      (
+        lives.0,
+        (
+          lives.1.0,
+          (
+            lives.1.1,
+            (
+              remembers,
+              (
+                sure_there (sym there) c.in_ok-outcome.ensures.sure,
+                (
+                  lost_there at past c.in-Not.lost there lost,
+                  (c.in_ok-standing-in-Not.ensures.started, (c.in_ok-standing-in-Not.ensures.given, c.in_ok-standing-in-Not.ensures.parts)),
+                ),
+              ),
+            ),
+          ),
+        ),
+      ),
+    )
 
 pub means_anew-returns-in_ok-ended-in-Not-clause-keeps : goal.means_anew-returns-in_ok-ended-in-Not-clause-keeps
 means_anew-returns-in_ok-ended-in-Not-clause-keeps g t c =
@@ -1079,15 +1100,15 @@ run_call-loop-standing-init g t c =
     let truth = (g.W.World.state c.args.world.now).truth in
     let l = level_of truth c.args.globals.now c.args.below (call_of c.args.call.now) in
     let all = entries_of c.args.memo.now in
-    let begun = c.in_ok-standing.standing.value in
+    let begun = c.args.standing.value in
     let p = g.E.Engine.progress begun.run.value in
     let P : Option (Gift NodeRef) → Type 0 = λ x. Stands l p x [] in
     let Q : List Stream → Type 0 = λ ss. Stands l p (gift_of begun.given) ss in
     record {
-      stands = subst Q (sym (ap streams_of c.in_ok-standing.ensures.parts)) (subst P (sym (ap gift_of c.in_ok-standing.ensures.given)) (stands_begun l p refl c.in_ok-standing.ensures.started));
-      onward = onward_begun l all begun.spare p (gift_of begun.given) refl c.requires.remembers c.in_ok-standing.ensures.started (ap gift_of c.in_ok-standing.ensures.given);
+      stands = subst Q (sym (ap streams_of c.requires.parts)) (subst P (sym (ap gift_of c.requires.given)) (stands_begun l p refl c.requires.started));
+      onward = onward_begun l all begun.spare p (gift_of begun.given) refl c.requires.remembers c.requires.started (ap gift_of c.requires.given);
       running = λ h ready. running_begun l c.args.lost.now p (gift_of begun.given) (hand_of c.args.reuse.now c.args.memo.now) c.count_run.new.self
-          c.in_ok-standing.ensures.started (ap gift_of c.in_ok-standing.ensures.given) h ready c.count_run.ensures.last c.count_run.ensures.kept
+          c.requires.started (ap gift_of c.requires.given) h ready c.count_run.ensures.last c.count_run.ensures.kept
           c.count_run.ensures.next c.count_run.ensures.ran;
       sure = c.count_run.ensures.sure truth c.requires.sure;
       truth = refl;
