@@ -29,7 +29,7 @@ use Rattle.xt_driver.specs.declared.drive.Served.{Served}
 use Rattle.xt_driver.specs.declared.drive.Served.TheVariants as served
 use Rattle.xt_driver.specs.declared.follow.Gone.{Gone}
 use Rattle.xt_driver.specs.declared.follow.Gone.TheVariants as gone
-use Rattle.xt_driver.specs.declared.follow.Inner.{Inner}
+use Rattle.std.specs.declared.rc.Rc.{Rc}
 use Rattle.xt_driver.specs.declared.follow.Next.{Next}
 use Rattle.xt_driver.specs.declared.follow.Next.TheVariants as next
 use Rattle.xt_driver.specs.declared.way.Way.{Way}
@@ -41,7 +41,7 @@ use Rattle.xt_driver.specs.declared.came.Outcome.{Outcome as Came}
 use Rattle.xt_driver.specs.View.{outcome_of, Gives}
 use Rattle.xt_driver.specs.Remembered.{Entry, Keeps, Lasts, GivesAlways}
 use Rattle.xt_driver.specs.Referring.{HoldsAs, Settles}
-use Rattle.xt_driver.specs.Along.{halts, inner_of, refuses, IsNext, IsTaken, TakesSo, Takes, IsSeenAs, IsTakenAs, IsLostAs, TakesReferenceSo, TakesReference}
+use Rattle.xt_driver.specs.Along.{halts, refuses, IsNext, IsTaken, TakesSo, Takes, IsSeenAs, IsTakenAs, IsLostAs, TakesReferenceSo, TakesReference}
 use Rattle.xt_driver.specs.Lost.{IsLost, IsServed}
 use Rattle.xt_driver.proofs.Remembering.{keeps_on}
 use Rattle.xt_driver.specs.Followed.{IsFollowed, cut_with, EndsWith, IsGone}
@@ -108,16 +108,16 @@ along_held s i first all spare k ss e es x h n is =
 
 pub along_entered : (s : Ask → Setting NodeRef) {a b : Ask} (i : Instantiation NodeRef) (first all new : List (Entry NodeRef)) (k : Kept NodeRef)
     (old way : Way) (e : Event NodeRef) (es : List (Event NodeRef)) (x : Next)
-    (inner : Inner) (left : ℕ) (came : Result (Box Came Allocator) Memory) (ended : Gone)
+    (inner : Rc CodeCall Allocator) (left : ℕ) (came : Result (Box Came Allocator) Memory) (ended : Gone)
     → a ≡ b → IsFollowed (s b) i first all old.spare k (streams_of old.parts.items) (e ∷ es) → IsNext x i.call i.below (streams_of old.parts.items) e
     → x ≡ next.Enter inner left
-    → OnOk came (Keeps (s a) i.past all new) → IfOk came (λ o. Lasts (s a) i.past (left - o.value.spare) new (call_of (inner_of inner)) (outcome_of o.value))
+    → OnOk came (Keeps (s a) i.past all new) → IfOk came (λ o. Lasts (s a) i.past (left - o.value.spare) new (call_of inner.value) (outcome_of o.value))
     → Takes ended came old way → ended ≡ gone.On → IsFollowed (s b) i first new way.spare k (streams_of way.parts.items) es
 along_entered s i first all new k old way e es x inner left (Err m) ended same h n is keeps lasts takes empty = absurd takes
 along_entered s {b = b} i first all new k old way e es x inner left (Ok o) ended same h n is keeps lasts takes empty =
     let P : Next → Type 0 = λ y. IsNext y i.call i.below (streams_of old.parts.items) e in
     let K : Ask → Type 0 = λ y. Keeps (s y) i.past all new in
-    let L : Ask → Type 0 = λ y. Lasts (s y) i.past (left - o.value.spare) new (call_of (inner_of inner)) (outcome_of o.value) in
+    let L : Ask → Type 0 = λ y. Lasts (s y) i.past (left - o.value.spare) new (call_of inner.value) (outcome_of o.value) in
     let T : Gone → Type 0 = λ y. TakesSo y o.value old way in
     let F : List Stream → Type 0 = λ ss. IsFollowed (s b) i first new way.spare k ss es in
     let taken : IsTaken o.value old way = subst T empty takes in
@@ -125,7 +125,7 @@ along_entered s {b = b} i first all new k old way e es x inner left (Ok o) ended
   where
     by_event : (y : Event NodeRef) → IsFollowed (s b) i first all old.spare k (streams_of old.parts.items) (y ∷ es)
         → IsNext (next.Enter inner left) i.call i.below (streams_of old.parts.items) y
-        → Keeps (s b) i.past all new → Lasts (s b) i.past (left - o.value.spare) new (call_of (inner_of inner)) (outcome_of o.value) → IsTaken o.value old way
+        → Keeps (s b) i.past all new → Lasts (s b) i.past (left - o.value.spare) new (call_of inner.value) (outcome_of o.value) → IsTaken o.value old way
         → IsFollowed (s b) i first new way.spare k (streams_of old.parts.items ++ (outcome_of o.value).content ∷ []) es
     by_event (Asked q v) f n kept lasting taken = absurd n
     by_event (Saw Position d p v) f n kept lasting taken = absurd n
@@ -134,14 +134,14 @@ along_entered s {b = b} i first all new k old way e es x inner left (Ok o) ended
     by_event (Saw (Global name) d p v) f n kept lasting taken = absurd n
     by_event (Held j xs) f n kept lasting taken = absurd n
     by_event (Entered c d) f n kept lasting taken =
-        followed_entered (s b) i first all new old.spare way.spare o.value.spare k (streams_of old.parts.items) c (call_of (inner_of inner)) d left (outcome_of o.value) es
+        followed_entered (s b) i first all new old.spare way.spare o.value.spare k (streams_of old.parts.items) c (call_of inner.value) d left (outcome_of o.value) es
         f kept n.0 n.1 lasting (goes_on (outcome_of o.value).ending taken.on) taken.spare taken.inner
 
 -- it is refused
 along_stopped : (s : Setting NodeRef) (i : Instantiation NodeRef) (first all : List (Entry NodeRef)) (k : Kept NodeRef) (old way : Way) (e : Event NodeRef)
-    (es : List (Event NodeRef)) (x : Next) (inner : Inner) (left : ℕ) (came : Result (Box Came Allocator) Memory) (last : Box Came Allocator)
+    (es : List (Event NodeRef)) (x : Next) (inner : Rc CodeCall Allocator) (left : ℕ) (came : Result (Box Came Allocator) Memory) (last : Box Came Allocator)
     → IsFollowed s i first all old.spare k (streams_of old.parts.items) (e ∷ es) → IsNext x i.call i.below (streams_of old.parts.items) e
-    → x ≡ next.Enter inner left → IfOk came (λ o. outcome_of o.value ≡ meaning s left i.past 0 (call_of (inner_of inner)))
+    → x ≡ next.Enter inner left → IfOk came (λ o. outcome_of o.value ≡ meaning s left i.past 0 (call_of inner.value))
     → Takes (gone.Refused last) came old way → EndsWith s i k (streams_of way.parts.items) (outcome_of last.value).ending
 along_stopped s i first all k old way e es x inner left (Err m) last h n is means takes = absurd takes
 along_stopped s i first all k old way e es x inner left (Ok o) last h n is means takes =
@@ -160,7 +160,7 @@ along_stopped s i first all k old way e es x inner left (Ok o) last h n is means
     by_event (Saw (Global name) d p v) f m = absurd m
     by_event (Held j xs) f m = absurd m
     by_event (Entered c d) f m =
-        followed_refused s i first all old.spare k (streams_of old.parts.items) c (call_of (inner_of inner)) d left (outcome_of o.value) es f m.0 m.1 means takes.1.stops
+        followed_refused s i first all old.spare k (streams_of old.parts.items) c (call_of inner.value) d left (outcome_of o.value) es f m.0 m.1 means takes.1.stops
 
 -- ---- Globals
 
@@ -227,8 +227,8 @@ pub gone_holds : (s : Setting NodeRef) (i : Instantiation NodeRef) (all : List (
 gone_holds s i all way e x n is first k es h = along_held s i first all way.spare k (streams_of way.parts.items) e es x h n is
 
 pub gone_entered : (s : Setting NodeRef) (i : Instantiation NodeRef) (all new : List (Entry NodeRef)) (old way : Way) (e : Event NodeRef) (x : Next)
-    (inner : Inner) (call : CodeCall) (left : ℕ) (came : Result (Box Came Allocator) Memory) (ended : Gone)
-    → call ≡ inner_of inner → IsNext x i.call i.below (streams_of old.parts.items) e → x ≡ next.Enter inner left
+    (inner : Rc CodeCall Allocator) (call : CodeCall) (left : ℕ) (came : Result (Box Came Allocator) Memory) (ended : Gone)
+    → call ≡ inner.value → IsNext x i.call i.below (streams_of old.parts.items) e → x ≡ next.Enter inner left
     → OnOk came (Keeps s i.past all new) → IfOk came (λ o. Lasts s i.past (left - o.value.spare) new (call_of call) (outcome_of o.value))
     → IfOk came (λ o. outcome_of o.value ≡ meaning s left i.past 0 (call_of call))
     → Takes ended came old way → IsGone ended s i all new old way e
@@ -270,7 +270,7 @@ gone_referred s i all new old way e x needed reference left came ended same n is
     by_gone (gone.Refused last) t = not_refused came last t
 
 -- no more levels are left than there were
-pub left_entered : (x : Next) (inner : Inner) (left : ℕ) (c : Call NodeRef) (below : ℕ) (ss : List Stream) (e : Event NodeRef)
+pub left_entered : (x : Next) (inner : Rc CodeCall Allocator) (left : ℕ) (c : Call NodeRef) (below : ℕ) (ss : List Stream) (e : Event NodeRef)
     → IsNext x c below ss e → x ≡ next.Enter inner left → left ≤ below
 left_entered x inner left c below ss e n is = let P : Next → Type 0 = λ y. IsNext y c below ss e in by_event e (subst P is n)
   where

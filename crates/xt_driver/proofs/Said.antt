@@ -29,15 +29,13 @@ use Rattle.xt_engine.specs.Advances.{ending_of}
 use Rattle.xt_tree.specs.StreamView.{stream_of}
 use Rattle.xt_tree.specs.declared.value.Value.{Value}
 use Rattle.xt_record.specs.View.{kept_in}
-use Rattle.xt_record.specs.Asked.{StaysSo}
+use Rattle.xt_record.specs.Asked.{LooksAt}
 use Rattle.xt_record.specs.Grown.{values_of, IsSaid, IsTakenOver}
 use Rattle.xt_record.specs.Search.{next_of}
-use Rattle.xt_record.specs.Sure.{IsSure}
 use Rattle.xt_record.specs.declared.record.Record.{Record}
 use Rattle.xt_record.specs.declared.index.Index.{Index}
 use Rattle.xt_record.specs.declared.reuse.Reuse.{Reuse}
 use Rattle.xt_record.specs.declared.reuse.Said.{Said}
-use Rattle.xt_record.specs.declared.reuse.Steps.{Steps}
 use Rattle.xt_record.specs.declared.tree.Summary.{Summary}
 use Rattle.xt_record.proofs.Saying.{lasts}
 use Rattle.xt_driver.specs.Counted.{kept_at, kept_by, most_counted, records_of, AreLikeRun, Counted, CountsOver, Hand, IsReady, IsWithin}
@@ -111,7 +109,7 @@ module _ (s : Setting NodeRef) (last : List Record) (call : Call NodeRef) (level
 
   -- ---- Nothing more is counted
 
-  module _ (reuse after : Reuse) (there : last ≡ values_of reuse.last.now.records.items) (stays : StaysSo reuse after)
+  module _ (reuse after : Reuse) (there : last ≡ values_of reuse.last.now.records.items) (looks : LooksAt reuse after)
       (next : next_of after ≡ next_of reuse ++ (said.below ++ v ∷ [])) where
     abbrev tree : List Record
     tree = said.below ++ v ∷ []
@@ -146,7 +144,7 @@ module _ (s : Setting NodeRef) (last : List Record) (call : Call NodeRef) (level
         (one, at_hand vs (λ r h. among r (inr h)) hold.1)
 
     records_stay : records_of after ≡ records_of reuse
-    records_stay = λ i. map kept_at (stays.last i).now.records.items ++ map kept_at (stays.kept i).records.items
+    records_stay = λ i. map kept_at (looks.last i).now.records.items ++ map kept_at (looks.kept i).records.items
 
     -- and is at hand, as one of the last run
     new_at_hand : (x : Kept NodeRef) → IsIn x (map kept_in tree) → IsIn x (records_of after)
@@ -198,9 +196,8 @@ module _ (s : Setting NodeRef) (last : List Record) (call : Call NodeRef) (level
           record {
             list = [];
             enters = subst E records_stay (nothing_entered s (records_of after) is (found_at_hand s after is (within ready.within) found));
-            ran = none_counted (record { reuse = reuse; entries = entries }) (record { reuse = after; entries = entries })
-                (ap (λ (x : Steps). x.ran) stays.steps);
-            stands = stand_same reuse after stays.last (ap (λ (x : Index). x.records.items) stays.kept);
+            ran = none_counted (record { reuse = reuse; entries = entries }) (record { reuse = after; entries = entries }) looks.ran;
+            stands = stand_same reuse after looks.last (ap (λ (x : Index). x.records.items) looks.kept);
             more = more;
             only = likes_more s reuse after tree next (likes_so of_run);
             keeps = keeps_found s is after found;
@@ -209,20 +206,20 @@ module _ (s : Setting NodeRef) (last : List Record) (call : Call NodeRef) (level
 
 -- where nothing is said, nothing of what is counted changes before it
 pub counts_from : (s : Setting NodeRef) (values : List (Bound NodeRef)) (is : List (Instantiation NodeRef)) (reuse mid : Reuse)
-    (entries : List (Entry NodeRef)) (after : Hand) → StaysSo reuse mid → next_of mid ≡ next_of reuse
+    (entries : List (Entry NodeRef)) (after : Hand) → LooksAt reuse mid → next_of mid ≡ next_of reuse
     → CountsOver s values is (record { reuse = mid; entries = entries }) after → CountsOver s values is (record { reuse = reuse; entries = entries }) after
-counts_from s values is reuse mid entries after stays next h of_run ready =
-    let kept = ap (λ (x : Index). x.records.items) stays.kept in
-    let records = records_same reuse mid stays.last kept in
+counts_from s values is reuse mid entries after looks next h of_run ready =
+    let kept = ap (λ (x : Index). x.records.items) looks.kept in
+    let records = records_same reuse mid looks.last kept in
     let more = keeps_same reuse mid next in
     let c = h of_run (ready_on s values (record { reuse = reuse; entries = entries }) mid more (within_same reuse mid records next ready.within) ready) in
     let E : List (Kept NodeRef) → Type 0 = λ ks. Enters s ks c.list is (records_of after.reuse) in
     let R : ℕ → Type 0 = λ n. n ≤ most_counted → after.reuse.steps.ran ≡ min (n + length c.list) most_counted in
-    let on = stand_same reuse mid stays.last kept in
+    let on = stand_same reuse mid looks.last kept in
     record {
       list = c.list;
       enters = subst E records c.enters;
-      ran = subst R (ap (λ (x : Steps). x.ran) stays.steps) c.ran;
+      ran = subst R looks.ran c.ran;
       stands = λ at r here. c.stands at r (on at r here);
       more = λ k m. c.more k (more k m);
       only = λ m. c.only (likes_same s reuse mid next m);
@@ -232,14 +229,12 @@ counts_from s values is reuse mid entries after stays next h of_run ready =
 
 -- what is taken over is what was found
 pub said_in : (ask : Question NodeRef → Answer NodeRef) (reuse after : Reuse) (call : Call NodeRef) (levels : ℕ) (o : Option Said) (x : Said) → o ≡ Some x
-    → IfSome o (λ y. (of : Question NodeRef → Answer NodeRef) → IsSure of reuse
-    → IsTakenOver of (values_of reuse.last.now.records.items) (next_of reuse) (next_of after) call levels y.whole.value y.record.value)
-    → IsSure ask reuse
+    → IfSome o (λ y. IsTakenOver ask (values_of reuse.last.now.records.items) (next_of reuse) (next_of after) call levels y.whole.value y.record.value)
     → IsTakenOver ask (values_of reuse.last.now.records.items) (next_of reuse) (next_of after) call levels x.whole.value x.record.value
-said_in ask reuse after call levels o x e h sure =
-    let P : Option Said → Type 0 = λ p. IfSome p (λ y. (of : Question NodeRef → Answer NodeRef) → IsSure of reuse
-    → IsTakenOver of (values_of reuse.last.now.records.items) (next_of reuse) (next_of after) call levels y.whole.value y.record.value) in
-    subst P e h ask sure
+said_in ask reuse after call levels o x e h =
+    let P : Option Said → Type 0 = λ p. IfSome p (λ y. IsTakenOver ask (values_of reuse.last.now.records.items) (next_of reuse) (next_of after) call levels y.whole.value
+    y.record.value) in
+    subst P e h
 
 -- and where nothing was found, nothing is
 pub unsaid_in : (reuse after : Reuse) (o : Option Said) → o ≡ None → IfNone o (next_of after ≡ next_of reuse) → next_of after ≡ next_of reuse

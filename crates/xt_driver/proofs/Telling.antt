@@ -44,7 +44,7 @@ use Rattle.xt_record.specs.declared.reuse.Reuse.{Reuse}
 use Rattle.xt_text.specs.declared.memory.Memory.{Memory}
 use Rattle.xt_driver.specs.declared.follow.Gone.{Gone}
 use Rattle.xt_driver.specs.declared.follow.Gone.TheVariants as gone
-use Rattle.xt_driver.specs.declared.follow.Inner.{Inner}
+use Rattle.std.specs.declared.rc.Rc.{Rc}
 use Rattle.xt_driver.specs.declared.follow.Next.{Next}
 use Rattle.xt_driver.specs.declared.follow.Next.TheVariants as next
 use Rattle.xt_driver.specs.declared.way.Way.{Way}
@@ -54,7 +54,7 @@ use Rattle.xt_driver.specs.declared.lost.LostReference.{LostReference}
 use Rattle.xt_driver.specs.declared.memo.Referred.{Referred}
 use Rattle.xt_driver.specs.declared.came.Outcome.{Outcome as Came}
 use Rattle.xt_driver.specs.View.{outcome_of, Gives, GivesSo}
-use Rattle.xt_driver.specs.Along.{halts, inner_of, refuses, IsNext, IsSeenAs, Takes, TakesSo, TakesReference, TakesReferenceSo}
+use Rattle.xt_driver.specs.Along.{halts, refuses, IsNext, IsSeenAs, Takes, TakesSo, TakesReference, TakesReferenceSo}
 use Rattle.xt_driver.specs.Lost.{is_to}
 use Rattle.xt_driver.specs.Counted.{Hand, records_of, KeepsAll, IsReady, Counted, CountedAlong, CountedLost, CountsOver, CountsOn, CountsLost, CountsGone}
 use Rattle.xt_driver.specs.Counted.{IsCounted, IsIdle, known_by}
@@ -300,9 +300,9 @@ tells_refused s i k done rest ss a b c call depth o is stops over x =
       h.1,
     )
 
-pub counts_entered : (s : Setting NodeRef) (i : Instantiation NodeRef) (e : Event NodeRef) (old way : Way) (b c : Hand) (x : Next) (inner : Inner)
+pub counts_entered : (s : Setting NodeRef) (i : Instantiation NodeRef) (e : Event NodeRef) (old way : Way) (b c : Hand) (x : Next) (inner : Rc CodeCall Allocator)
     (call : CodeCall) (left : ℕ) (came : Result (Box Came Allocator) Memory) (ended : Gone)
-    → call ≡ inner_of inner → IsNext x i.call i.below (streams_of old.parts.items) e → x ≡ next.Enter inner left
+    → call ≡ inner.value → IsNext x i.call i.below (streams_of old.parts.items) e → x ≡ next.Enter inner left
     → OnOk came (CountsOver s i.past.values (entered s left i.past 0 (call_of call)) b c)
     → IfOk came (λ o. outcome_of o.value ≡ meaning s left i.past 0 (call_of call))
     → Takes ended came old way → CountsOn ended s i e (streams_of old.parts.items) (streams_of way.parts.items) b c

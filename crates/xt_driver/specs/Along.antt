@@ -15,14 +15,11 @@ use Rattle.xt_tree.specs.ValueView.{value_of}
 use Rattle.xt_tree.specs.StreamView.{streams_of}
 use Rattle.xt_engine.specs.View.{call_of}
 use Rattle.xt_record.specs.View.{AreWhole}
-use Rattle.xt_engine.specs.declared.call.Call.{Call as CodeCall}
 use Rattle.xt_engine.specs.declared.turn.Entered.{Entered as Given}
 use Rattle.xt_engine.specs.declared.turn.Entered.TheVariants as given
 use Rattle.xt_text.specs.declared.memory.Memory.{Memory}
 use Rattle.xt_driver.specs.declared.follow.Gone.{Gone}
 use Rattle.xt_driver.specs.declared.follow.Gone.TheVariants as gone
-use Rattle.xt_driver.specs.declared.follow.Inner.{Inner}
-use Rattle.xt_driver.specs.declared.follow.Inner.TheVariants as entering
 use Rattle.xt_driver.specs.declared.follow.Next.{Next}
 use Rattle.xt_driver.specs.declared.follow.Next.TheVariants as next
 use Rattle.xt_driver.specs.declared.way.Way.{Way}
@@ -61,14 +58,9 @@ IsReferred (next.Enter inner left) levels name place = ⊥
 IsReferred next.Holds levels name place = ⊥
 IsReferred next.Differs levels name place = ⊥
 
--- the call that was entered
-abbrev pub inner_of : Inner → CodeCall
-inner_of (entering.Kept call) = call.now
-inner_of (entering.Settled call) = call.value
-
 -- this call, with so many levels left
 abbrev pub IsEntered : Next → ℕ → Call NodeRef → Type 0
-IsEntered (next.Enter inner left) levels c = (call_of (inner_of inner) ≡ c) × (left ≡ levels)
+IsEntered (next.Enter inner left) levels c = (call_of inner.value ≡ c) × (left ≡ levels)
 IsEntered (next.Refer needed left) levels c = ⊥
 IsEntered next.Holds levels c = ⊥
 IsEntered next.Differs levels c = ⊥

@@ -66,8 +66,8 @@ pub fn settled(alloc: Global, outer: &Call, wanted: Rc<Call>) -> Result<Rc<Call>
     whole
 }
 
-/// A copy of a call that is entered from another one, with what it has from that one.
-pub fn completed(alloc: Global, outer: &Call, inner: &Call) -> Result<Rc<Call>, Memory>
+// A copy of a call that is entered from another one, with what it has from that one.
+fn completed(alloc: Global, outer: &Call, inner: &Call) -> Result<Rc<Call>, Memory>
     ensures { IfOk result (λ c. call_of c.value ≡ settled (call_of outer.now) (call_of inner.now)) }
 {
     let mut call = inner.copy(alloc)?;
@@ -75,8 +75,8 @@ pub fn completed(alloc: Global, outer: &Call, inner: &Call) -> Result<Rc<Call>, 
     Ok(Rc::new(alloc, call)?)
 }
 
-/// Whether the call has a position, a size and a current rule of its own, so that it is the same whatever enters it.
-pub fn says_all(call: &Call) -> bool
+// Whether the call has a position, a size and a current rule of its own, so that it is the same whatever enters it.
+fn says_all(call: &Call) -> bool
     ensures { result ≡ true → (outer : plan.Call NodeRef) → settled outer (call_of call.now) ≡ call_of call.now }
 {
     match (&call.position, &call.size, &call.ruling) {

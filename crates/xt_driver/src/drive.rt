@@ -66,7 +66,7 @@ pub fn first_means<E: Engine, W: World>(
     ensures last { reuse.new.last ≡ reuse.old.last }
     ensures spared { reuse.new.spared ≡ reuse.old.spared }
 {
-    match reuse.said(alloc, call, levels)? {
+    match reuse.said(alloc, world, call, levels)? {
         Some(said) => whole_again(alloc, said, levels),
         None => first_anew(alloc, engine, world, globals, memo, reuse, call, levels),
     }
@@ -137,7 +137,7 @@ fn means<E: Engine, W: World>(
     ensures last { reuse.new.last ≡ reuse.old.last }
     ensures spared { reuse.new.spared ≡ reuse.old.spared }
 {
-    match reuse.said(alloc, call, levels)? {
+    match reuse.said(alloc, world, call, levels)? {
         Some(said) => whole_again(alloc, said, levels),
         None => means_anew(alloc, engine, world, globals, memo, reuse, call, levels),
     }
@@ -314,8 +314,7 @@ fn go_on<E: Engine, W: World>(
         Next::Holds => Ok(Gone::On),
         Next::Differs => Ok(Gone::Not(Lost::Nothing)),
         Next::Enter(inner, left) => {
-            let call = inner.as_call();
-            let came = means(alloc, engine, world, globals, memo, reuse, call, left);
+            let came = means(alloc, engine, world, globals, memo, reuse, &inner, left);
             take_entered(way, came, inner)
         }
         Next::Refer(needed, left) => {

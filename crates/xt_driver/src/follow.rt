@@ -11,9 +11,9 @@ ghost use Rattle.xt_questions.specs.View.{current_of, given_of, wanted_of};
 ghost use Rattle.xt_engine.specs.View.{call_of, event_of, ruling_of};
 ghost use Rattle.xt_driver.specs.View.{ending_of, outcome_of};
 ghost use Rattle.xt_record.specs.View.{AreWhole};
-ghost use Rattle.xt_driver.specs.Along.{halts, inner_of, refuses, HoldsIf, IsEntered, IsHeld, IsNext, IsReferred, IsSeen, IsSeenAs, Takes, TakesReference};
+ghost use Rattle.xt_driver.specs.Along.{halts, refuses, HoldsIf, IsEntered, IsHeld, IsNext, IsReferred, IsSeen, IsSeenAs, Takes, TakesReference};
 
-use crate::calls::{completed, says_all};
+use crate::calls::settled;
 use crate::came::Outcome;
 use crate::level::Needed;
 use crate::lost::{Lost, LostReference};
@@ -45,36 +45,15 @@ impl Way {
     }
 }
 
-/// A call that was entered.
-#[derive(Drop)]
-pub enum Inner<'a> {
-    /// One that says all itself, as it stands in the record: most do, and are large, so that they are not copied.
-    Kept(&'a Call),
-    /// One that has the rest from the call that enters it.
-    Settled(Rc<Call>),
-}
-
-impl<'a> Inner<'a> {
-    /// The call.
-    pub fn as_call(&self) -> &Call
-        ensures { result.now ≡ inner_of self.now }
-    {
-        match self {
-            Inner::Kept(call) => call,
-            Inner::Settled(call) => call,
-        }
-    }
-}
-
 /// What was done next.
 #[derive(Drop)]
-pub enum Next<'a> {
+pub enum Next {
     /// What holds for this call too.
     Holds,
     /// What does not.
     Differs,
     /// This call was entered, for which so many levels are left.
-    Enter(Inner<'a>, u64),
+    Enter(Rc<Call>, u64),
     /// This global was needed, for which so many levels are left.
     Refer(Box<Needed>, u64),
 }
@@ -106,13 +85,13 @@ pub fn set_out(alloc: Global, below: u64) -> Result<Box<Way>, Memory>
 
 /// What was done next, for this call with so many levels below its own, where these are the streams of all that was
 /// entered. That each question has its answer is known of the record.
-pub fn next_done<'a>(
+pub fn next_done(
     alloc: Global,
-    event: &'a Event,
+    event: &Event,
     call: &Call,
     below: u64,
     parts: &[Rc<Items>],
-) -> Result<Next<'a>, Memory>
+) -> Result<Next, Memory>
     ensures { IfOk result (λ n. IsNext n (call_of call.now) below (streams_of parts.now) (event_of event.now)) }
 {
     match event {
@@ -137,7 +116,7 @@ fn seen(
     given: &Given,
     call: &Call,
     left: u64,
-) -> Result<Next<'static>, Memory>
+) -> Result<Next, Memory>
     ensures { IfOk result (λ n. IsSeen n (call_of call.now) left (wanted_of wanted.now) (place_of place.now) (Known (given_of given.now))) }
 {
     match wanted {
@@ -149,12 +128,7 @@ fn seen(
 }
 
 // A global was.
-fn referred(
-    alloc: Global,
-    name: &Expanded,
-    place: &Place,
-    left: u64,
-) -> Result<Next<'static>, Memory>
+fn referred(alloc: Global, name: &Expanded, place: &Place, left: u64) -> Result<Next, Memory>
     ensures { IfOk result (λ n. IsReferred n left name.now (place_of place.now)) }
 {
     let place = copy_place(alloc, place)?;
@@ -169,7 +143,7 @@ fn referred(
 }
 
 // A position or size was, of which the call has this one.
-fn counted(number: &Option<u64>, given: &Given) -> Next<'static>
+fn counted(number: &Option<u64>, given: &Given) -> Next
     ensures { HoldsIf result (Known (Counted (unwrap_or number.now 1)) ≡ Known (given_of given.now)) }
 {
     match given {
@@ -196,7 +170,7 @@ fn number_or_one(number: &Option<u64>) -> u64
 }
 
 // The current template rule was, and this is that of the call.
-fn ruled(ruling: &Ruling, given: &Given) -> Next<'static>
+fn ruled(ruling: &Ruling, given: &Given) -> Next
     ensures { HoldsIf result (Known (Ruled (current_by (ruling_of ruling.now))) ≡ Known (given_of given.now)) }
 {
     match given {
@@ -223,14 +197,11 @@ fn is_rule(ruling: &Ruling, rule: &Option<CurrentRule>) -> bool
 }
 
 // A call was entered.
-fn entered<'a>(alloc: Global, inner: &'a Call, call: &Call, left: u64) -> Result<Next<'a>, Memory>
-    ensures { IfOk result (λ n. IsEntered n left (settled (call_of call.now) (call_of inner.now))) }
+fn entered(alloc: Global, inner: &Rc<Call>, call: &Call, left: u64) -> Result<Next, Memory>
+    ensures { IfOk result (λ n. IsEntered n left (settled (call_of call.now) (call_of inner.now.value))) }
 {
-    if says_all(inner) {
-        return Ok(Next::Enter(Inner::Kept(inner), left));
-    }
-    let inner = completed(alloc, call, inner)?;
-    Ok(Next::Enter(Inner::Settled(inner), left))
+    let inner = settled(alloc, call, inner.clone()?)?;
+    Ok(Next::Enter(inner, left))
 }
 
 // These streams, from this one on, were held.
@@ -239,7 +210,7 @@ fn held(
     first: u64,
     contents: &[Rc<Items>],
     parts: &[Rc<Items>],
-) -> Result<Next<'static>, Memory>
+) -> Result<Next, Memory>
     ensures { IfOk result (λ n. IsHeld n (drop first (streams_of parts.now)) (streams_of contents.now)) }
 {
     if are_held(alloc, parts, first, contents)? {
@@ -280,7 +251,7 @@ fn is_refused(ending: &Ending) -> bool
 pub fn take_entered(
     way: &mut Way,
     came: Result<Box<Outcome>, Memory>,
-    call: Inner<'_>,
+    call: Rc<Call>,
 ) -> Result<Gone, Memory>
     ensures { IfOk result (λ gone. Takes gone came way.old way.new) }
 {

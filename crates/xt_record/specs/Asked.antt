@@ -6,7 +6,8 @@
 --     UnitIsAsked, NoUnitIsAsked  which units they are for
 --     Asks        what asking some of them counts
 --     Judges      what a run that judges records leaves as it was
---     StaysSo     what it leaves as it was where it does not even that
+--     LooksAt     what it leaves as it was where it may keep more for the next run besides
+--     StaysSo     what it leaves as it was where it does not even judge
 use Rattle.std.specs.Prelude.{◌≡◌, ◌⊎◌, ℕ, ◌+◌, ◌≤◌, Bool, true, false, List, [], ◌∷◌}
 use Rattle.std.specs.declared.rc.Rc.{Rc}
 use Rattle.std.specs.declared.alloc.Global.{Global}
@@ -108,6 +109,14 @@ pub record Judges (before after : Reuse) : Type 0 where
   pub spared : after.spared ≡ before.spared
   pub kept : after.kept ≡ before.kept
   pub next : after.next ≡ before.next
+  pub ran : after.steps.ran ≡ before.steps.ran
+  pub asked : before.steps.asked ≤ after.steps.asked
+
+-- records of the last run may have been judged, and some of them are kept for the next run
+pub record LooksAt (before after : Reuse) : Type 0 where
+  pub last : after.last ≡ before.last
+  pub spared : after.spared ≡ before.spared
+  pub kept : after.kept ≡ before.kept
   pub ran : after.steps.ran ≡ before.steps.ran
   pub asked : before.steps.asked ≤ after.steps.asked
 

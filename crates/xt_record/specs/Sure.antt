@@ -1,5 +1,5 @@
 -- What is sure of the records that a run may reuse.
-use Rattle.std.specs.Prelude.{◌≡◌, ◌+◌, ◌≤◌, Bool, true, false, List, [], ◌∷◌, IfSome}
+use Rattle.std.specs.Prelude.{◌≡◌, ℕ, suc, ◌+◌, ◌-◌, ◌<◌, ◌≤◌, Bool, true, false, List, [], ◌∷◌, take, drop, slice_get, IfSome}
 use Rattle.std.specs.declared.rc.Rc.{Rc}
 use Rattle.std.specs.declared.alloc.Global.{Global}
 use Rattle.spec_meaning.specs.Question.{Question, Answer}
@@ -45,6 +45,15 @@ AllJudged ask (v ∷ vs) (r ∷ rs) = IsTrueOf ask v r.value × AllJudged ask vs
 pub record AreAnswered (ask : Question NodeRef → Answer NodeRef) (pool : Pool) : Type 0 where
   pub hold : AllHold ask pool.records.items
   pub trees : AreTrees (values_of pool.records.items) pool.trees.items
+
+-- those that stand from a place on, up to an end
+abbrev pub from_to : (first end : ℕ) → List (Rc Record Global) → List (Rc Record Global)
+from_to first end rs = take (end - first) (drop first rs)
+
+-- the questions of all records of the tree at this turn have their answers
+abbrev pub TreeHolds : (Question NodeRef → Answer NodeRef) → Pool → (turn : ℕ) → Type 0
+TreeHolds ask pool turn =
+    IfSome (slice_get pool.trees.items turn) (λ t. 0 < t.size → AllHold ask (from_to (suc turn - t.size) (suc turn) pool.records.items))
 
 -- ---- What need not be asked again
 

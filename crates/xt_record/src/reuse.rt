@@ -1,15 +1,15 @@
 // What a run may reuse.
-ghost use Rattle.std.specs.Prelude.{◌≡◌, ◌<◌, ◌≤◌, ◌+◌, ◌++◌, ◌∷◌, [], true, false, drop, length, get_or, slice_get, min, suc, IfOk, IfSome, IfNone, OnOk, Some};
+ghost use Rattle.std.specs.Prelude.{◌≡◌, ◌<◌, ◌≤◌, ◌+◌, ◌-◌, ◌^◌, ◌++◌, ◌∷◌, [], true, false, drop, length, get_or, slice_get, min, suc, IfOk, IfSome, IfNone, OnOk, Some};
 ghost use Rattle.std.specs.Bool.{Decides};
 ghost use Rattle.spec_meaning.specs.Question.{Question, Answer};
 ghost use Rattle.spec_node.specs.declared.node_ref.NodeRef.{NodeRef};
 ghost use Rattle.xt_engine.specs.View.{call_of};
 ghost use Rattle.xt_record.specs.View.{AsksHold, DoesNotServe, DoesNotSuit, IsAt, MayServe, kept_in};
 ghost use Rattle.spec_touch.specs.Marks.{any_marks};
-ghost use Rattle.xt_record.specs.Asked.{Judges, NoneMarked, NoneMarkedAmong, marked_of, StaysSo};
+ghost use Rattle.xt_record.specs.Asked.{Judges, LooksAt, NoneMarked, NoneMarkedAmong, marked_of, StaysSo};
 ghost use Rattle.xt_record.specs.Chain.{key_of, keys_in, IsLatest};
 ghost use Rattle.xt_record.specs.Grown.{values_of, AreTrees, IsSaidAt, IsTakenOver};
-ghost use Rattle.xt_record.specs.Sure.{AreAnswered, IsSure, verdict_of};
+ghost use Rattle.xt_record.specs.Sure.{from_to, AllHold, AreAnswered, IsSure, TreeHolds, verdict_of};
 ghost use Rattle.xt_record.specs.Search.{PassedAmong, PassedOver, Stands, StandsAmong, kept_place, last_place, most, next_of};
 ghost use Rattle.xt_record.specs.declared.reuse.Verdict.TheVariants as Verdict;
 ghost use Rattle.xt_spared.specs.View.{IsSparedBy, Spares};
@@ -90,6 +90,10 @@ pub struct Reuse<'a> {
 
 // So many records of the last run are looked for one by one, before they are put in order by their calls.
 const FEW: u8 = 64;
+
+// Of a tree that has more records below its own than this no question is asked, since it would mostly be another answer
+// to one of them that is found, and what has others would be asked again.
+const MOST_ASKED: usize = 15;
 
 impl<'a> Reuse<'a> {
     /// Nothing is kept yet and nothing counted, and no question of the last run was asked. Those that are spared have the
@@ -377,12 +381,22 @@ impl<'a> Reuse<'a> {
     }
 
     /// What a tree of the last run says by itself of a call, where one stood in its place, with so many levels left. It is
-    /// kept for the next run. Where there is none the call is under way.
-    pub fn said(&mut self, alloc: Global, call: &Call, levels: u64) -> Result<Option<Said>, Memory>
-        ensures sure { OnOk result ((ask : Question NodeRef → Answer NodeRef) → IsSure ask self.old → IsSure ask self.new) }
-        ensures said { IfOk result (λ o. IfSome o (λ x. (ask : Question NodeRef → Answer NodeRef) → IsSure ask self.old → IsTakenOver ask (values_of self.old.last.now.records.items) (next_of self.old) (next_of self.new) (call_of call.now) levels x.whole.value x.record.value)) }
+    /// kept for the next run. Where there is none the call is under way. Where questions of a small tree are not spared they
+    /// are asked, up to the first that has another answer, and counted.
+    pub fn said<W: World>(
+        &mut self,
+        alloc: Global,
+        world: &mut W,
+        call: &Call,
+        levels: u64,
+    ) -> Result<Option<Said>, Memory>
+        requires sure { IsSure (W.state world.now).truth self.now }
+        ensures sure { OnOk result (IsSure (W.state world.old).truth self.new) }
+        ensures said { IfOk result (λ o. IfSome o (λ x. IsTakenOver (W.state world.old).truth (values_of self.old.last.now.records.items) (next_of self.old) (next_of self.new) (call_of call.now) levels x.whole.value x.record.value)) }
         ensures unsaid { IfOk result (λ o. IfNone o (next_of self.new ≡ next_of self.old)) }
-        ensures stays { StaysSo self.old self.new }
+        ensures looks { LooksAt self.old self.new }
+        ensures truth { (W.state world.new).truth ≡ (W.state world.old).truth }
+        ensures name { W.name world.new ≡ W.name world.old }
     {
         if levels == 0 {
             return Ok(None);
@@ -390,63 +404,130 @@ impl<'a> Reuse<'a> {
         let count = self.next.count();
         match self.frames.open(alloc, self.last, call, count)? {
             None => Ok(None),
-            Some(turn) => self.said_at(alloc, turn, call, levels),
+            Some(turn) => self.said_at(alloc, world, turn, call, levels),
         }
     }
 
     // The tree of the record at this turn of the last run, where it says all of the call.
-    fn said_at(
+    fn said_at<W: World>(
         &mut self,
         alloc: Global,
+        world: &mut W,
         turn: usize,
         call: &Call,
         levels: u64,
     ) -> Result<Option<Said>, Memory>
-        ensures sure { OnOk result ((ask : Question NodeRef → Answer NodeRef) → IsSure ask self.old → IsSure ask self.new) }
-        ensures said { IfOk result (λ o. IfSome o (λ x. (ask : Question NodeRef → Answer NodeRef) → IsSure ask self.old → IsTakenOver ask (values_of self.old.last.now.records.items) (next_of self.old) (next_of self.new) (call_of call.now) levels x.whole.value x.record.value)) }
+        requires sure { IsSure (W.state world.now).truth self.now }
+        ensures sure { OnOk result (IsSure (W.state world.old).truth self.new) }
+        ensures said { IfOk result (λ o. IfSome o (λ x. IsTakenOver (W.state world.old).truth (values_of self.old.last.now.records.items) (next_of self.old) (next_of self.new) (call_of call.now) levels x.whole.value x.record.value)) }
         ensures unsaid { IfOk result (λ o. IfNone o (next_of self.new ≡ next_of self.old)) }
-        ensures stays { StaysSo self.old self.new }
+        ensures looks { LooksAt self.old self.new }
+        ensures truth { (W.state world.new).truth ≡ (W.state world.old).truth }
+        ensures name { W.name world.new ≡ W.name world.old }
     {
-        let Some(said) = self.tree_for(alloc, turn, call, levels)? else {
+        let last = self.last;
+        let Some(said) = self.tree_for(alloc, world, turn, call, levels)? else {
             return Ok(None);
         };
-        self.next.take_over(alloc, self.last, turn)?;
+        self.next.take_over(alloc, last, turn)?;
         let _ = self.frames.close(0);
         Ok(Some(said))
     }
 
     // The record at this turn of the last run with what its tree says, where that is all of the call.
-    fn tree_for(
-        &self,
+    fn tree_for<W: World>(
+        &mut self,
         alloc: Global,
+        world: &mut W,
         turn: usize,
         call: &Call,
         levels: u64,
     ) -> Result<Option<Said>, Memory>
-        ensures said { IfOk result (λ o. IfSome o (λ x. (ask : Question NodeRef → Answer NodeRef) → IsSure ask self.now → IsSaidAt ask (values_of self.now.last.now.records.items) self.now.last.now.trees.items turn (call_of call.now) levels x.whole.value x.record.value)) }
-        ensures within { IfOk result (λ o. IfSome o (λ x. turn < length self.now.last.now.records.items)) }
+        requires sure { IsSure (W.state world.now).truth self.now }
+        ensures sure { OnOk result (IsSure (W.state world.old).truth self.new) }
+        ensures said { IfOk result (λ o. IfSome o (λ x. IsSaidAt (W.state world.old).truth (values_of self.old.last.now.records.items) self.old.last.now.trees.items turn (call_of call.now) levels x.whole.value x.record.value)) }
+        ensures within { IfOk result (λ o. IfSome o (λ x. turn < length self.old.last.now.records.items)) }
+        ensures judges { Judges self.old self.new }
+        ensures truth { (W.state world.new).truth ≡ (W.state world.old).truth }
+        ensures name { W.name world.new ≡ W.name world.old }
     {
-        match self.whole_for(turn, levels) {
-            None => Ok(None),
-            Some(whole) => self.said_by(alloc, whole, turn, call, levels),
+        let last = self.last;
+        let Some(whole) = whole_for(last, turn, levels) else {
+            return Ok(None);
+        };
+        let Some(said) = said_by(alloc, last, whole, turn, call, levels)? else {
+            return Ok(None);
+        };
+        match self.tree_holds(alloc, world, turn, whole) {
+            Ok(true) => Ok(Some(said)),
+            Ok(false) => {
+                drop(said);
+                Ok(None)
+            }
+            Err(Memory) => {
+                drop(said);
+                Err(Memory)
+            }
         }
     }
 
-    // What the tree of the record at this turn of the last run says, where that is for fewer levels and need not be asked.
-    fn whole_for(&self, turn: usize, levels: u64) -> Option<&Rc<Summary>>
-        ensures within { IfSome result (λ w. turn < length self.now.last.now.records.items) }
-        ensures tree { IfSome result (λ w. IfSome (slice_get self.now.last.now.trees.items turn) (λ t. t.whole ≡ Some w.now)) }
-        ensures room { IfSome result (λ w. suc w.now.value.levels ≤ levels) }
-        ensures spares { IfSome result (λ w. (question : Question NodeRef) → Covers w.now.value.named question → IsSparedBy self.now.spared.now question) }
+    // Whether each question of the tree at this turn of the last run, which says this, has its answer. Those that are not
+    // spared are asked where the tree is small.
+    fn tree_holds<W: World>(
+        &mut self,
+        alloc: Global,
+        world: &mut W,
+        turn: usize,
+        whole: &Rc<Summary>,
+    ) -> Result<bool, Memory>
+        requires sure { IsSure (W.state world.now).truth self.now }
+        requires within { turn < length self.now.last.now.records.items }
+        requires tree { IfSome (slice_get self.now.last.now.trees.items turn) (λ t. t.whole ≡ Some whole.now) }
+        requires paired { length self.now.last.now.trees.items ≡ length self.now.last.now.records.items }
+        ensures sure { OnOk result (IsSure (W.state world.old).truth self.new) }
+        ensures holds { IfOk result (λ b. b ≡ true → TreeHolds (W.state world.old).truth self.old.last.now turn) }
+        ensures judges { Judges self.old self.new }
+        ensures truth { (W.state world.new).truth ≡ (W.state world.old).truth }
+        ensures name { W.name world.new ≡ W.name world.old }
     {
-        let whole = self.last.whole_at(turn)?;
-        if !has_room(whole, levels) {
-            return None;
+        if self.spares_all(whole) {
+            return Ok(true);
         }
-        if !self.spares_all(whole) {
-            return None;
+        let first = self.last.first_of(turn);
+        if turn - first > MOST_ASKED {
+            return Ok(false);
         }
-        Some(whole)
+        self.all_hold(alloc, world, first, turn)
+    }
+
+    // Whether the questions of all records of the last run from the first turn up to this turn have their answers. The last
+    // stands first, since the others are of what it entered.
+    fn all_hold<W: World>(
+        &mut self,
+        alloc: Global,
+        world: &mut W,
+        first: usize,
+        turn: usize,
+    ) -> Result<bool, Memory>
+        requires sure { IsSure (W.state world.now).truth self.now }
+        requires within { turn < length self.now.last.now.records.items }
+        requires room { turn < 2 ^ 64 - 1 }
+        ensures sure { OnOk result (IsSure (W.state world.old).truth self.new) }
+        ensures holds { IfOk result (λ b. b ≡ true → first ≤ suc turn → AllHold (W.state world.old).truth (from_to first (suc turn) self.old.last.now.records.items)) }
+        ensures judges { Judges self.old self.new }
+        ensures truth { (W.state world.new).truth ≡ (W.state world.old).truth }
+        ensures name { W.name world.new ≡ W.name world.old }
+    {
+        let last = self.last;
+        let mut end = turn + 1;
+        while end > first {
+            let holds = self.holds(alloc, world, end - 1, last.record_at(end - 1))?;
+            if !holds {
+                return Ok(false);
+            }
+            end = end - 1;
+        }
+        Ok(true)
     }
 
     // Where it says so, no question of a tree need be asked.
@@ -455,33 +536,6 @@ impl<'a> Reuse<'a> {
         ensures unmarked { result ≡ true → (question : Question NodeRef) → Covers whole.now.value.named question → any_marks (since_of self.now.spared.now.since.now) question ≡ false }
     {
         self.spared.spares_all(&whole.named)
-    }
-
-    // The record at this turn of the last run with this, which its tree says, where it is of the call.
-    fn said_by(
-        &self,
-        alloc: Global,
-        whole: &Rc<Summary>,
-        turn: usize,
-        call: &Call,
-        levels: u64,
-    ) -> Result<Option<Said>, Memory>
-        requires within { turn < length self.now.last.now.records.items }
-        requires tree { IfSome (slice_get self.now.last.now.trees.items turn) (λ t. t.whole ≡ Some whole.now) }
-        requires room { suc whole.now.value.levels ≤ levels }
-        requires spares { (question : Question NodeRef) → Covers whole.now.value.named question → IsSparedBy self.now.spared.now question }
-        ensures said { IfOk result (λ o. IfSome o (λ x. (ask : Question NodeRef → Answer NodeRef) → IsSure ask self.now → IsSaidAt ask (values_of self.now.last.now.records.items) self.now.last.now.trees.items turn (call_of call.now) levels x.whole.value x.record.value)) }
-        ensures within { IfOk result (λ o. IfSome o (λ x. turn < length self.now.last.now.records.items)) }
-    {
-        let copy = whole.clone()?;
-        let suiting = self.last.suiting(alloc, turn, call, levels)?;
-        match suiting {
-            None => Ok(None),
-            Some(record) => Ok(Some(Said {
-                record,
-                whole: copy,
-            })),
-        }
     }
 
     /// Where nothing was run and no question asked again, goes over the records of the last run, from the end on, up to the
@@ -599,6 +653,47 @@ fn verdict_of(holds: bool) -> Verdict
         Verdict::Holds
     } else {
         Verdict::Fails
+    }
+}
+
+// What the tree of the record at this turn of the last run says, where that is for fewer levels.
+fn whole_for(last: &Pool, turn: usize, levels: u64) -> Option<&Rc<Summary>>
+    ensures within { IfSome result (λ w. turn < length last.now.records.items) }
+    ensures tree { IfSome result (λ w. IfSome (slice_get last.now.trees.items turn) (λ t. t.whole ≡ Some w.now)) }
+    ensures room { IfSome result (λ w. suc w.now.value.levels ≤ levels) }
+    ensures paired { length last.now.trees.items ≡ length last.now.records.items }
+{
+    let whole = last.whole_at(turn)?;
+    if has_room(whole, levels) {
+        Some(whole)
+    } else {
+        None
+    }
+}
+
+// The record at this turn of the last run with this, which its tree says, where it is of the call.
+fn said_by(
+    alloc: Global,
+    last: &Pool,
+    whole: &Rc<Summary>,
+    turn: usize,
+    call: &Call,
+    levels: u64,
+) -> Result<Option<Said>, Memory>
+    requires within { turn < length last.now.records.items }
+    requires tree { IfSome (slice_get last.now.trees.items turn) (λ t. t.whole ≡ Some whole.now) }
+    requires room { suc whole.now.value.levels ≤ levels }
+    ensures said { IfOk result (λ o. IfSome o (λ x. (ask : Question NodeRef → Answer NodeRef) → AreTrees (values_of last.now.records.items) last.now.trees.items → TreeHolds ask last.now turn
+        → IsSaidAt ask (values_of last.now.records.items) last.now.trees.items turn (call_of call.now) levels x.whole.value x.record.value)) }
+{
+    let copy = whole.clone()?;
+    let suiting = last.suiting(alloc, turn, call, levels)?;
+    match suiting {
+        None => Ok(None),
+        Some(record) => Ok(Some(Said {
+            record,
+            whole: copy,
+        })),
     }
 }
 

@@ -1,5 +1,5 @@
 use Rattle.std.proofs.Common.{◌≡◌, ◌≤◌, ◌∙◌, ◌-◌, ◌+◌, ◌<◌, ◌∷◌, ◌++◌, [], ℕ, List, Option, Some, None, Result, suc, map, refl, sym, ap, subst, Ok, Err, length, arith}
-use Rattle.std.specs.Prelude.{Box, IfOk, IfNone, is_some}
+use Rattle.std.specs.Prelude.{Box, IfOk, IfNone, OnOk, is_some}
 use Rattle.std.specs.declared.alloc.Global.{Global as Allocator}
 use Rattle.std.specs.declared.rc.Rc.{Rc}
 use Rattle.std.proofs.lemmas.List.{length-map}
@@ -24,15 +24,16 @@ use Rattle.xt_driver.specs.declared.globals.Evaluation.{Evaluation}
 use Rattle.xt_driver.specs.declared.drive.Served.{Served}
 use Rattle.xt_driver.specs.declared.came.Outcome.{Outcome as Came}
 use Rattle.xt_driver.specs.View.{setting_of, past_of, outcome_of, IsStreamed}
-use Rattle.xt_driver.specs.Remembered.{Lasts}
+use Rattle.xt_driver.specs.Remembered.{Keeps, Lasts}
 use Rattle.xt_driver.specs.Referring.{entry_of, entries_of, Refers, Settles}
 use Rattle.xt_driver.specs.Stands.{level_of, Stands}
 use Rattle.xt_driver.specs.Steps.{Enters, Needs}
 use Rattle.xt_driver.specs.Along.{IsNext}
 use Rattle.xt_driver.specs.Lost.{IsServed, IsOfReference}
-use Rattle.xt_driver.specs.Counted.{hand_of, CountedAlong, CountsFollowed, CountsServed, IsAnswer, IsKeptToo, IsUnserved, IsMadeOf, CountedRun, OfRun}
+use Rattle.xt_driver.specs.Counted.{hand_of, CountedAlong, CountsFollowed, CountsOver, CountsServed, IsAnswer, IsKeptToo, IsUnserved, IsMadeOf, CountedRun, OfRun}
 use Rattle.xt_driver.specs.declared.follow.Gone.TheVariants as gone
 use Rattle.xt_record.specs.Search.{PassedOver, Stands as IsThere}
+use Rattle.xt_record.specs.Sure.{IsSure}
 use Rattle.spec_reuse.specs.Serving.{Fits}
 use Rattle.spec_reuse.specs.Instantiation.{entered, for_reference}
 use Rattle.xt_text.specs.declared.memory.Memory.{Memory}
@@ -696,7 +697,7 @@ go_on-returns-in-Enter-clause-goes g t c =
     let x = c.in_ok-next_done.field-0 in
     let n : IsNext x i.call i.below (streams_of way.parts.items) e = rw (sym c.as_slice.ensures.value) c.in_ok-next_done.ensures in
     if_ok c.take_entered.result c.take_entered.ensures (λ l h.
-    gone_entered s i all (entries_of c.means-came.new.memo) way c.take_entered.new.way e x c.in-Enter.inner c.as_call-call.result.now c.in-Enter.left c.means-came.result l c.as_call-call.ensures n c.in-Enter.is
+    gone_entered s i all (entries_of c.means-came.new.memo) way c.take_entered.new.way e x c.in-Enter.inner c.deref.result.now c.in-Enter.left c.means-came.result l c.deref.ensures n c.in-Enter.is
     c.means-came.ensures.keeps c.means-came.ensures.lasts c.means-came.ensures.meaning h)
 
 pub go_on-returns-in-Enter-clause-sure : goal.go_on-returns-in-Enter-clause-sure
@@ -730,7 +731,7 @@ go_on-returns-in-Refer-clause-goes g t c =
     let x = c.in_ok-next_done.field-0 in
     let n : IsNext x i.call i.below (streams_of way.parts.items) e = rw (sym c.as_slice.ensures.value) c.in_ok-next_done.ensures in
     if_ok c.take_reference.result c.take_reference.ensures (λ l h.
-    gone_referred s i all (entries_of c.refer-came.new.memo) way c.take_reference.new.way e x c.in-Refer.needed c.deref.result.now c.in-Refer.left c.refer-came.result l c.deref.ensures n c.in-Refer.is
+    gone_referred s i all (entries_of c.refer-came.new.memo) way c.take_reference.new.way e x c.in-Refer.needed c.deref-in-Refer.result.now c.in-Refer.left c.refer-came.result l c.deref-in-Refer.ensures n c.in-Refer.is
     c.refer-came.ensures.keeps c.refer-came.ensures.settles h)
 
 pub go_on-returns-in-Refer-clause-sure : goal.go_on-returns-in-Refer-clause-sure
@@ -1229,8 +1230,8 @@ go_on-returns-in-Enter-clause-counts g t c =
     let n : IsNext x i.call i.below (streams_of way.parts.items) e = rw (sym c.as_slice.ensures.value) c.in_ok-next_done.ensures in
     let now = hand_of c.args.reuse.now c.args.memo.now in
     if_ok c.take_entered.result c.take_entered.ensures (λ l h.
-    counts_entered s i e way c.take_entered.new.way now (hand_of c.means-came.new.reuse c.means-came.new.memo) x c.in-Enter.inner c.as_call-call.result.now
-    c.in-Enter.left c.means-came.result l c.as_call-call.ensures n c.in-Enter.is c.means-came.ensures.counts c.means-came.ensures.meaning h)
+    counts_entered s i e way c.take_entered.new.way now (hand_of c.means-came.new.reuse c.means-came.new.memo) x c.in-Enter.inner c.deref.result.now
+    c.in-Enter.left c.means-came.result l c.deref.ensures n c.in-Enter.is c.means-came.ensures.counts c.means-came.ensures.meaning h)
 
 pub go_on-returns-in-Refer-clause-counts : goal.go_on-returns-in-Refer-clause-counts
 go_on-returns-in-Refer-clause-counts g t c =
@@ -1244,8 +1245,8 @@ go_on-returns-in-Refer-clause-counts g t c =
     let n : IsNext x i.call i.below (streams_of way.parts.items) e = rw (sym c.as_slice.ensures.value) c.in_ok-next_done.ensures in
     let now = hand_of c.args.reuse.now c.args.memo.now in
     if_ok c.take_reference.result c.take_reference.ensures (λ l h.
-    counts_referred s i e way c.take_reference.new.way now (hand_of c.refer-came.new.reuse c.refer-came.new.memo) x c.in-Refer.needed c.deref.result.now
-    c.in-Refer.left c.refer-came.result l c.deref.ensures n c.in-Refer.is c.refer-came.ensures.counts c.refer-came.ensures.idle
+    counts_referred s i e way c.take_reference.new.way now (hand_of c.refer-came.new.reuse c.refer-came.new.memo) x c.in-Refer.needed c.deref-in-Refer.result.now
+    c.in-Refer.left c.refer-came.result l c.deref-in-Refer.ensures n c.in-Refer.is c.refer-came.ensures.counts c.refer-came.ensures.idle
     (if_ok c.refer-came.result c.refer-came.ensures.settles (λ r m. m.gives)) h)
 
 pub serve-returns-in-None-clause-counts : goal.serve-returns-in-None-clause-counts
@@ -1533,8 +1534,7 @@ means-returns-in-Some-clause-lasts g t c =
     let call = call_of c.args.call.now in
     let x = c.in-Some.said in
     let last = values_of c.args.reuse.now.last.now.records.items in
-    let said = (said_in truth c.args.reuse.now c.said.new.self call c.args.levels c.in_ok-said.field-0 x c.in-Some.is c.in_ok-said.ensures.said
-    c.requires.sure).said in
+    let said = (said_in truth c.args.reuse.now c.said.new.self call c.args.levels c.in_ok-said.field-0 x c.in-Some.is c.in_ok-said.ensures.said).said in
     if_ok c.whole_again.result (if_both _ _ c.whole_again.result c.whole_again.ensures.outcome c.whole_again.ensures.spare) (λ o both.
     let spare = both.1 in
     let low = said.room in
@@ -1551,8 +1551,7 @@ means-returns-in-Some-clause-meaning g t c =
     let call = call_of c.args.call.now in
     let x = c.in-Some.said in
     let last = values_of c.args.reuse.now.last.now.records.items in
-    let said = (said_in truth c.args.reuse.now c.said.new.self call c.args.levels c.in_ok-said.field-0 x c.in-Some.is c.in_ok-said.ensures.said
-    c.requires.sure).said in
+    let said = (said_in truth c.args.reuse.now c.said.new.self call c.args.levels c.in_ok-said.field-0 x c.in-Some.is c.in_ok-said.ensures.said).said in
     if_ok c.whole_again.result c.whole_again.ensures.outcome (λ o is.
     means_said s last call c.args.levels x.whole.value x.record.value refl said past (outcome_of o.value)
     (outcome_said s last call c.args.levels x.whole.value x.record.value refl said (outcome_of o.value) is))
@@ -1565,10 +1564,35 @@ means-returns-in-Some-clause-counts g t c =
     let call = call_of c.args.call.now in
     let x = c.in-Some.said in
     let last = values_of c.args.reuse.now.last.now.records.items in
-    let taken = said_in truth c.args.reuse.now c.said.new.self call c.args.levels c.in_ok-said.field-0 x c.in-Some.is c.in_ok-said.ensures.said
-    c.requires.sure in
+    let taken = said_in truth c.args.reuse.now c.said.new.self call c.args.levels c.in_ok-said.field-0 x c.in-Some.is c.in_ok-said.ensures.said in
     on_any c.whole_again.result (counts_said s last call c.args.levels x.whole.value x.record.value refl taken.said c.args.reuse.now c.said.new.self refl
-    c.said.ensures.stays taken.next (past_of globals) (entries_of c.args.memo.now))
+    c.said.ensures.looks taken.next (past_of globals) (entries_of c.args.memo.now))
+
+pub means-means_anew-requires : goal.means-means_anew-requires
+means-means_anew-requires g t c =
+    let globals = c.args.globals.now in
+    let remembers = remembers_there (λ a. setting_of a globals) (past_of globals) (entries_of c.args.memo.now) c.said.ensures.truth c.requires.remembers in
+    λ κs lives. (omega arith, (lives.0, (lives.1.0, (lives.1.1, (remembers, sure_there (sym c.said.ensures.truth) c.in_ok-said.ensures.sure)))))
+
+pub means-returns-in-None-clause-keeps : goal.means-returns-in-None-clause-keeps
+means-returns-in-None-clause-keeps g t c =
+    let globals = c.args.globals.now in
+    let T : Ask → Type 0 = λ a. OnOk c.means_anew.result (Keeps (setting_of a globals) (past_of globals) (entries_of c.args.memo.now) (entries_of c.means_anew.new.memo)) in
+    subst T c.said.ensures.truth c.means_anew.ensures.keeps
+
+pub means-returns-in-None-clause-lasts : goal.means-returns-in-None-clause-lasts
+means-returns-in-None-clause-lasts g t c =
+    let globals = c.args.globals.now in
+    let T : Ask → Type 0 = λ a. IfOk c.means_anew.result (λ o. Lasts (setting_of a globals) (past_of globals) (c.args.levels - o.value.spare)
+    (entries_of c.means_anew.new.memo) (call_of c.args.call.now) (outcome_of o.value)) in
+    subst T c.said.ensures.truth c.means_anew.ensures.lasts
+
+pub means-returns-in-None-clause-meaning : goal.means-returns-in-None-clause-meaning
+means-returns-in-None-clause-meaning g t c =
+    let globals = c.args.globals.now in
+    let T : Ask → Type 0 = λ a. IfOk c.means_anew.result (λ o. outcome_of o.value ≡ meaning (setting_of a globals) c.args.levels (past_of globals) 0
+    (call_of c.args.call.now)) in
+    subst T c.said.ensures.truth c.means_anew.ensures.meaning
 
 pub means-returns-in-None-clause-counts : goal.means-returns-in-None-clause-counts
 means-returns-in-None-clause-counts g t c =
@@ -1576,7 +1600,15 @@ means-returns-in-None-clause-counts g t c =
     let globals = c.args.globals.now in
     let s = setting_of truth globals in
     let past = past_of globals in
+    let call = call_of c.args.call.now in
     let none = unsaid_in c.args.reuse.now c.said.new.self c.in_ok-said.field-0 c.in-None.is c.in_ok-said.ensures.unsaid in
-    on_all c.means_anew.result c.means_anew.ensures.counts (λ over.
-    counts_from s past.values (entered s c.args.levels past 0 (call_of c.args.call.now)) c.args.reuse.now c.said.new.self (entries_of c.args.memo.now)
-    (hand_of c.means_anew.new.reuse c.means_anew.new.memo) c.said.ensures.stays none over)
+    let T : Ask → Type 0 = λ a. OnOk c.means_anew.result (CountsOver (setting_of a globals) past.values (entered (setting_of a globals) c.args.levels past 0 call)
+    (hand_of c.said.new.self c.args.memo.now) (hand_of c.means_anew.new.reuse c.means_anew.new.memo)) in
+    on_all c.means_anew.result (subst T c.said.ensures.truth c.means_anew.ensures.counts) (λ over.
+    counts_from s past.values (entered s c.args.levels past 0 call) c.args.reuse.now c.said.new.self (entries_of c.args.memo.now)
+    (hand_of c.means_anew.new.reuse c.means_anew.new.memo) c.said.ensures.looks none over)
+
+pub means-returns-in-None-clause-sure : goal.means-returns-in-None-clause-sure
+means-returns-in-None-clause-sure g t c =
+    let T : Ask → Type 0 = λ a. OnOk c.means_anew.result (IsSure a c.means_anew.new.reuse) in
+    subst T c.said.ensures.truth c.means_anew.ensures.sure

@@ -7,17 +7,18 @@ use Rattle.xt_engine.specs.View.{call_of}
 use Rattle.xt_record.specs.View.{kept_in}
 use Rattle.xt_record.specs.declared.record.Record.{Record}
 use Rattle.xt_record.proofs.Saying.{tree_said}
-use Rattle.xt_record.proofs.reuse.Reuse.said_by.Goals as goal
+use Rattle.xt_record.proofs.reuse.said_by.Goals as goal
 
-pub returns-in-Some-clause-said : goal.returns-in-Some-clause-said
-returns-in-Some-clause-said c = λ ask sure.
-    let self = c.args.self.now in
-    let rs = self.last.now.records.items in
+pub returns-in-Some : goal.returns-in-Some
+returns-in-Some c =
+    let pool = c.args.last.now in
+    let rs = pool.records.items in
     let turn = c.args.turn in
     let call = call_of c.args.call.now in
     let k = c.in_ok-suiting.ensures in
     let Of : Option (Rc Record Global) → Type 0 = λ o. IfSome o (λ r. IsOf call (kept_in r.value)) in
     let At : Option (Rc Record Global) → Type 0 = λ o. IfSome o (λ r. r.value ≡ (get_or rs turn r).value) in
-    tree_said ask self.spared.now self.last.now turn c.args.levels call c.args.whole.now c.in_ok-copy.copy c.in-Some.record k.paired c.requires.within
-    c.requires.tree c.in_ok-copy.ensures.cases c.requires.room c.requires.spares (subst Of c.in-Some.is k.of_call) (subst At c.in-Some.is k.at)
-    sure.trees sure.spared
+    record {
+      said = λ ask trees holds. tree_said ask pool turn c.args.levels call c.args.whole.now c.in_ok-copy.copy c.in-Some.record k.paired c.requires.within
+          c.requires.tree c.in_ok-copy.ensures.cases c.requires.room (subst Of c.in-Some.is k.of_call) (subst At c.in-Some.is k.at) trees holds;
+    }
