@@ -1,5 +1,5 @@
 -- What a call means of which a tree says all, and that nothing more is counted.
-use Rattle.std.proofs.Common.{◌≡◌, ◌⊎◌, inl, inr, ℕ, zero, suc, ◌+◌, ◌-◌, ◌≤◌, Bool, List, [], ◌∷◌, ◌++◌, length, map, min, Option, None, Some, refl, sym}
+use Rattle.std.proofs.Common.{◌≡◌, inl, inr, ℕ, suc, ◌+◌, ◌-◌, ◌≤◌, Bool, List, [], ◌∷◌, ◌++◌, length, map, min, Option, None, Some, refl, sym}
 use Rattle.std.proofs.Common.{ap, subst, ◌∙◌, arith}
 use Rattle.std.proofs.lemmas.List.{map-append}
 use Rattle.std.specs.Prelude.{IfNone, IfSome}
@@ -38,9 +38,9 @@ use Rattle.xt_record.specs.declared.reuse.Reuse.{Reuse}
 use Rattle.xt_record.specs.declared.reuse.Said.{Said}
 use Rattle.xt_record.specs.declared.tree.Summary.{Summary}
 use Rattle.xt_record.proofs.Saying.{lasts}
-use Rattle.xt_driver.specs.Counted.{kept_at, kept_by, most_counted, records_of, AreLikeRun, Counted, CountsOver, Hand, IsReady, IsWithin}
+use Rattle.xt_driver.specs.Counted.{kept_at, kept_by, most_counted, records_of, AreLikeRun, CountsOver, Hand, IsWithin}
 use Rattle.xt_driver.specs.Followed.{instance_of}
-use Rattle.xt_driver.specs.Remembered.{Entry, Lasts, Suits}
+use Rattle.xt_driver.specs.Remembered.{Entry, Lasts}
 use Rattle.xt_driver.proofs.Completing.{kept_more, keeps_same, keeps_more, within_same, within_more, found_at_hand, keeps_found, likes_same, likes_more}
 use Rattle.xt_driver.proofs.Tallying.{none_counted, ready_on, records_same, stand_same}
 

@@ -3,7 +3,6 @@ use Rattle.std.proofs.Common.{◌≡◌, ◌⊎◌, inl, inr, ℕ, zero, suc, �
 use Rattle.std.proofs.Common.{ap, subst, arith}
 use Rattle.std.specs.Prelude.{Box, IfOk}
 use Rattle.std.specs.declared.alloc.Global.{Global as Allocator}
-use Rattle.std.specs.declared.rc.Rc.{Rc}
 use Rattle.spec_meaning.specs.Question.{Question, Answer}
 use Rattle.spec_run.specs.Going.{Event, Asked, Saw, Entered, Held}
 use Rattle.spec_run.specs.Trail.{Kept}

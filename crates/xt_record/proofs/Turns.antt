@@ -1,17 +1,17 @@
 -- The latest of a key in lists that stand behind each other.
-use Rattle.std.proofs.Common.{◌≡◌, ℕ, zero, suc, ◌+◌, ◌-◌, ◌<◌, ◌≤◌, List, [], ◌∷◌, ◌++◌, take, drop, length, slice_get, Option, None, Some, refl, sym, ap, subst, ◌∙◌, length-append, arith}
-use Rattle.std.specs.Prelude.{IfSome, IsSomeAnd}
+use Rattle.std.proofs.Common.{◌≡◌, ℕ, zero, suc, ◌+◌, ◌-◌, ◌<◌, List, [], ◌∷◌, ◌++◌, take, drop, length, slice_get, Option, None, Some, refl, sym, ap, subst, ◌∙◌, length-append, arith}
+use Rattle.std.specs.Prelude.{IfSome}
 use Rattle.std.proofs.lemmas.List.{map-append}
 use Rattle.std.proofs.Math.Logic.{∥∥₁_elim, ∥∥₁_map, ∥∥₁_prop}
 use Rattle.std.specs.declared.rc.Rc.{Rc}
 use Rattle.std.specs.declared.alloc.Global.{Global}
-use Rattle.xt_record.specs.Chain.{key_in, keys_in, IsLatest}
+use Rattle.xt_record.specs.Chain.{keys_in, IsLatest}
 use Rattle.xt_record.specs.Listed.{key_at, keys_of, records_in}
 use Rattle.xt_record.specs.Pieced.{flat}
 use Rattle.xt_record.specs.declared.entry.Entry.{Entry}
 use Rattle.xt_record.specs.declared.key.Key.{Key}
 use Rattle.xt_record.specs.declared.record.Record.{Record}
-use Rattle.xt_record.proofs.Chaining.{none_some, split, within}
+use Rattle.xt_record.proofs.Chaining.{none_some, within}
 use Rattle.xt_record.proofs.Pieced.{IsPlaced, get_behind, get_first, map_length}
 
 -- what stands in lists behind each other stands in one of them

@@ -1,7 +1,6 @@
-use Rattle.std.proofs.Common.{◌≡◌, ◌+◌, ◌++◌, ◌∷◌, [], ◌∙◌, suc, take, length, slice_get, Some, refl, sym, ap, subst, arith, List}
+use Rattle.std.proofs.Common.{◌≡◌, ◌+◌, ◌++◌, ◌∷◌, [], ◌∙◌, take, slice_get, sym, ap, arith, List}
 use Rattle.std.proofs.lemmas.List.{take_more}
 use Rattle.xt_record.specs.declared.entry.Entry.{Entry}
-use Rattle.xt_record.specs.declared.tree.Tree.{Tree}
 use Rattle.xt_record.proofs.Chaining.{from_more, within}
 use Rattle.xt_record.proofs.Pieced.{get_taken, part_length}
 use Rattle.xt_record.proofs.block.all_within.Goals as goal

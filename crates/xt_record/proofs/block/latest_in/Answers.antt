@@ -1,4 +1,4 @@
-use Rattle.std.proofs.Common.{◌≡◌, ◌-◌, ◌∙◌, Some, true≢false, sym, ap, arith}
+use Rattle.std.proofs.Common.{◌-◌, ◌∙◌, Some, true≢false, sym, ap, arith}
 use Rattle.xt_record.specs.Listed.{key_at, keys_of}
 use Rattle.xt_record.specs.declared.key.Key.{Key}
 use Rattle.xt_record.proofs.Chaining.{pass_found, pass_one, some_is}

@@ -1,4 +1,4 @@
-use Rattle.std.proofs.Common.{◌≡◌, ◌+◌, ◌-◌, ◌≤◌, ◌∙◌, List, take, drop, length, refl, sym, ap, subst, arith}
+use Rattle.std.proofs.Common.{◌≡◌, ◌+◌, ◌-◌, ◌≤◌, List, take, drop, length, refl, sym, ap, subst, arith}
 use Rattle.xt_record.specs.Taken.{AllWithin, IsPart}
 use Rattle.xt_record.specs.declared.block.Block.{Block}
 use Rattle.xt_record.specs.declared.entry.Entry.{Entry}

@@ -1,4 +1,4 @@
-use Rattle.std.proofs.Common.{◌≡◌, ℕ, ◌+◌, ◌<◌, ◌-◌, ◌∙◌, suc, Some, None, List, take, drop, length, slice_index, get_or, refl, sym, ap, subst, arith}
+use Rattle.std.proofs.Common.{◌≡◌, ℕ, ◌+◌, ◌<◌, ◌-◌, ◌∙◌, suc, Some, None, List, take, drop, length, subst, arith}
 use Rattle.std.proofs.lemmas.Grind.{get_or_default_zero}
 use Rattle.xt_record.specs.Chain.{IsLatest}
 use Rattle.xt_record.specs.Listed.{keys_of}

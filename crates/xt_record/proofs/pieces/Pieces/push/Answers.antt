@@ -1,4 +1,4 @@
-use Rattle.std.proofs.Common.{◌≡◌, ◌+◌, ◌≤◌, ◌++◌, ◌∷◌, [], ◌∙◌, List, if◌then◌else◌, sym, ap, subst, arith}
+use Rattle.std.proofs.Common.{◌≡◌, ◌+◌, ◌++◌, ◌∷◌, [], ◌∙◌, List, if◌then◌else◌, ap, arith}
 use Rattle.xt_record.specs.Pieced.{flat}
 use Rattle.xt_record.specs.declared.entry.Entry.{Entry}
 use Rattle.xt_record.proofs.Pieced.{flat_more, pieced_more}

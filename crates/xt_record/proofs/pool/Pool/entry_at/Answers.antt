@@ -1,4 +1,4 @@
-use Rattle.std.proofs.Common.{◌≡◌, ◌++◌, ◌∙◌, slice_get, sym, ap, arith}
+use Rattle.std.proofs.Common.{◌++◌, ◌∙◌, slice_get, sym, ap, arith}
 use Rattle.xt_record.specs.Listed.{Listed, record_in, tree_in}
 use Rattle.xt_record.proofs.Listing.{loose_at}
 use Rattle.xt_record.proofs.Pieced.{get_map}

@@ -1,4 +1,4 @@
-use Rattle.std.proofs.Common.{◌≡◌, ◌∙◌, arith}
+use Rattle.std.proofs.Common.{arith}
 use Rattle.xt_record.specs.Grown.{values_of}
 use Rattle.xt_record.proofs.Grown.{taken_on}
 use Rattle.xt_record.proofs.pool.Pool.take_over.Goals as goal

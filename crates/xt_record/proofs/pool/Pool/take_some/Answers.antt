@@ -1,4 +1,4 @@
-use Rattle.std.proofs.Common.{◌≡◌, ◌+◌, arith}
+use Rattle.std.proofs.Common.{◌+◌, arith}
 use Rattle.xt_record.specs.Taken.{IsPartOf}
 use Rattle.xt_record.proofs.Grown.{at_item, one_step, piece_step}
 use Rattle.xt_record.proofs.pool.Pool.take_some.Goals as goal

@@ -1,4 +1,4 @@
-use Rattle.std.proofs.Common.{◌≡◌, ◌<◌, ◌-◌, ◌∙◌, ℕ, suc, Bor, ap, drop, length, subst, sym, arith}
+use Rattle.std.proofs.Common.{◌≡◌, ◌-◌, ◌∙◌, ℕ, suc, Bor, ap, drop, length, subst, sym, arith}
 use Rattle.spec_meaning.specs.Question.{Question, Answer}
 use Rattle.spec_node.specs.declared.node_ref.NodeRef.{NodeRef}
 use Rattle.xt_record.specs.Asked.{NoneMarkedAmong}

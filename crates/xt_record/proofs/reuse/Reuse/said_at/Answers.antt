@@ -1,4 +1,4 @@
-use Rattle.std.proofs.Common.{Option, ap, subst}
+use Rattle.std.proofs.Common.{Option, subst}
 use Rattle.std.specs.Prelude.{IfSome}
 use Rattle.xt_engine.specs.View.{call_of}
 use Rattle.xt_record.specs.Grown.{values_of, IsSaidAt, IsTakenOver}

@@ -1,5 +1,5 @@
 use Rattle.std.proofs.Common.{refl}
-use Rattle.xt_record.proofs.Saying.{first_holds, tree_spared}
+use Rattle.xt_record.proofs.Saying.{tree_spared}
 use Rattle.xt_record.proofs.reuse.Reuse.tree_holds.Goals as goal
 
 pub returns-then-spares_all-clause-holds : goal.returns-then-spares_all-clause-holds
