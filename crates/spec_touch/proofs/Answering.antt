@@ -29,9 +29,9 @@ use Rattle.spec_node.specs.declared.node_ref.NodeRef.{NodeRef}
 use Rattle.spec_node.specs.Naming.{number_of, part_at, ref_of, same_ref}
 use Rattle.xp_axes.proofs.Kept.{ref_is}
 use Rattle.spec_touch.specs.Touched.{goes_or_comes, is_changed, holds_change, is_child, step_by_children}
-use Rattle.spec_touch.specs.Touched.{step_by_attributes, inside_by_children}
+use Rattle.spec_touch.specs.Touched.{step_by_attributes, inside_but, touched_but}
 use Rattle.spec_touch.specs.Touched.{is_touched}
-use Rattle.spec_touch.specs.Leads.{ChangesIn, children, attributes, inside, further, Leads, at_root, below_root}
+use Rattle.spec_touch.specs.Leads.{ChangesIn, children, attributes, inside, further, Leads, at_root, below_root, IsFreeIn}
 use Rattle.spec_touch.proofs.Ways.{on-same}
 use Rattle.spec_touch.proofs.Positions.{way_from, rises_from, Where, here, higher, child, elsewhere, Stands, is_here}
 use Rattle.spec_touch.proofs.Positions.{is_higher, is_aside}
@@ -41,7 +41,7 @@ use Rattle.spec_touch.proofs.Off.{marks_children, marks_attributes, children-unm
 use Rattle.spec_touch.proofs.Entries.{IsMarked, marks_text, marks_copy, Same, IsAway, below_child, an_attribute, IsLost}
 use Rattle.spec_touch.proofs.Entries.{Runs, both_end, both, gone, brought, or-first, or-second}
 use Rattle.spec_touch.proofs.Running.{contradicted, attribute-named, olds_of, news_of, olds_at, news_at, way_in}
-use Rattle.spec_touch.proofs.Running.{olds-at-rise, news-at-rise, leads-run}
+use Rattle.spec_touch.proofs.Running.{olds-at-rise, news-at-rise, leads-run, all-free}
 
 -- ---- Truths
 
@@ -143,8 +143,8 @@ passes-same a (tree.Named own) e f kind name = λ i. is_principal a (kind i) && 
 passes-same a (tree.OfType type) e f kind name = ap (is_of_type type) kind
 passes-same a (tree.Instruction target) e f kind name = λ i. is_of_type type.ProcessingInstruction (kind i) && has_local target (name i)
 
-module _ (change : Change) (olds news way : List ℕ) where
-  ref-same : {e f : Entry ℕ} → Same change olds news way e f → ref_of e ≡ ref_of f
+module _ (loose : List ℕ) (change : Change) (olds news way : List ℕ) where
+  ref-same : {e f : Entry ℕ} → Same loose change olds news way e f → ref_of e ≡ ref_of f
   ref-same s = λ i. record { node = record { number = s.label i }; part = part_at (s.ending i) (s.number i) }
 
   -- what goes or comes has another name than a node that does not
@@ -159,9 +159,9 @@ module _ (change : Change) (olds news way : List ℕ) where
   -- the node of a name, before and after
   data Found (node : NodeRef) : Option (Entry ℕ) → Option (Entry ℕ) → Type 0 where
     nowhere : Found node None None
-    at : {e f : Entry ℕ} → Same change olds news way e f → ref_of e ≡ node → Found node (Some e) (Some f)
+    at : {e f : Entry ℕ} → Same loose change olds news way e f → ref_of e ≡ node → Found node (Some e) (Some f)
 
-  found-cond : (node : NodeRef) (e f : Entry ℕ) (b c : Bool) (o p : Option (Entry ℕ)) → Same change olds news way e f
+  found-cond : (node : NodeRef) (e f : Entry ℕ) (b c : Bool) (o p : Option (Entry ℕ)) → Same loose change olds news way e f
       → same_ref node (ref_of e) ≡ b
       → b ≡ c → Found node o p → Found node (cond b (Some e) o) (cond c (Some f) p)
   found-cond node e f true true o p s h g r = at s (ref_is node e h)
@@ -169,7 +169,7 @@ module _ (change : Change) (olds news way : List ℕ) where
   found-cond node e f true false o p s h g r = absurd (cc)
   found-cond node e f false true o p s h g r = absurd (cc)
 
-  found : (node : NodeRef) {es fs : List (Entry ℕ)} → Runs change olds news way es fs → goes_or_comes change node ≡ false
+  found : (node : NodeRef) {es fs : List (Entry ℕ)} → Runs loose change olds news way es fs → goes_or_comes change node ≡ false
       → Found node (find (λ e. same_ref node (ref_of e)) es) (find (λ e. same_ref node (ref_of e)) fs)
   found node both_end u = nowhere
   found node (both {e = e} {f = f} {es = es} {fs = fs} s r) u =
@@ -183,9 +183,9 @@ module _ (change : Change) (olds news way : List ℕ) where
       (sym (other-name node f u l.named)) (found node r u)
 
   -- those that pass two tests which agree on what stays and pass nothing that goes or comes
-  picked : (p q : Entry ℕ → Bool) → ((e f : Entry ℕ) → Same change olds news way e f → p e ≡ q f)
+  picked : (p q : Entry ℕ → Bool) → ((e f : Entry ℕ) → Same loose change olds news way e f → p e ≡ q f)
       → ((e : Entry ℕ) → IsLost change olds way e → p e ≡ false) → ((f : Entry ℕ) → IsLost change news way f → q f ≡ false)
-      → {es fs : List (Entry ℕ)} → Runs change olds news way es fs → map ref_of (filter p es) ≡ map ref_of (filter q fs)
+      → {es fs : List (Entry ℕ)} → Runs loose change olds news way es fs → map ref_of (filter p es) ≡ map ref_of (filter q fs)
   picked p q same lost won both_end = refl
   picked p q same lost won (both {e = e} {f = f} {es = es} {fs = fs} s r) =
       (λ i. map ref_of (cond (same e f s i) (e ∷ filter p es) (filter p es))) ∙ either (q f) (picked p q same lost won r)
@@ -217,8 +217,8 @@ module _ (change : Change) (olds news way : List ℕ) where
   and-not true c e = absurd (cc)
   and-not false c e = refl
 
-  on-kept : (low high : ℕ) → rises_from low olds → rises_from high news → (a : Axis) (e f d g : Entry ℕ) → Same change olds news way e f
-      → Same change olds news way d g → is_on a (way_to e.place) (way_to d.place) ≡ is_on a (way_to f.place) (way_to g.place)
+  on-kept : (low high : ℕ) → rises_from low olds → rises_from high news → (a : Axis) (e f d g : Entry ℕ) → Same loose change olds news way e f
+      → Same loose change olds news way d g → is_on a (way_to e.place) (way_to d.place) ≡ is_on a (way_to f.place) (way_to g.place)
   on-kept low high o n a e f d g s t =
       on-same a (pair olds news low high o n e.place.ending d.place.ending s.stands t.stands)
       (pair olds news low high o n d.place.ending e.place.ending t.stands s.stands) (sorts d.place.ending t.stands)
@@ -230,8 +230,8 @@ module _ (change : Change) (olds news way : List ℕ) where
     is_no_attribute : change.of_attributes ≡ true → at_an_attribute w e ≡ false
 
   stepped-same : (low high : ℕ) → rises_from low olds → rises_from high news → (a : Axis) (test : Test) (e f : Entry ℕ)
-      (s : Same change olds news way e f) → IsUnmarked a s.where_is e.place.ending → {es fs : List
-      (Entry ℕ)} → Runs change olds news way es fs
+      (s : Same loose change olds news way e f) → IsUnmarked a s.where_is e.place.ending → {es fs : List
+      (Entry ℕ)} → Runs loose change olds news way es fs
       → step_from ref_of es a test (Some e) ≡ step_from ref_of fs a test (Some f)
   stepped-same low high o n a test e f s u r =
       ap (in_axis_order a) (picked (λ d. is_on a (way_to e.place) (way_to d.place) && passes a test d.item)
@@ -297,7 +297,7 @@ same-both false g e = e
 
 -- ---- Each question
 
-module _ (change : Change) (old new : Document ℕ) (h : Leads change old new) where
+module _ (loose : List ℕ) (change : Change) (old new : Document ℕ) (h : Leads change old new) (free : IsFreeIn loose h) where
   abbrev olds : List ℕ
   olds = olds_at h
 
@@ -307,26 +307,26 @@ module _ (change : Change) (old new : Document ℕ) (h : Leads change old new) w
   abbrev way : List ℕ
   way = way_in h
 
-  run : Runs change olds news way (entries_of old) (entries_of new)
-  run = leads-run change old new h
+  run : Runs loose change olds news way (entries_of old) (entries_of new)
+  run = leads-run loose change old new h free
 
   abbrev SameNode : (e f : Entry ℕ) → Type 0
-  SameNode e f = Same change olds news way e f
+  SameNode e f = Same loose change olds news way e f
 
   -- where what is told of a node that stays is the same, so is what is told of any
   told-same : (node : NodeRef) (tell say : Entry ℕ → Answer NodeRef) → goes_or_comes change node ≡ false
       → ((e f : Entry ℕ) → SameNode e f → ref_of e ≡ node → tell e ≡ say f)
       → told_of tell (find (λ e. same_ref node (ref_of e)) (entries_of old)) ≡ told_of say
       (find (λ e. same_ref node (ref_of e)) (entries_of new))
-  told-same node tell say u same = by (found change olds news way node run u)
+  told-same node tell say u same = by (found loose change olds news way node run u)
     where
-      by : {o p : Option (Entry ℕ)} → Found change olds news way node o p → told_of tell o ≡ told_of say p
+      by : {o p : Option (Entry ℕ)} → Found loose change olds news way node o p → told_of tell o ≡ told_of say p
       by nowhere = refl
       by (at {e = e} {f = f} s n) = same e f s n
 
   unmarked-at : (a : Axis) (e f : Entry ℕ) (s : SameNode e f) → goes_or_comes change (ref_of e) ≡ false
       → cond change.of_attributes (step_by_attributes change a (ref_of e)) (step_by_children change a (ref_of e)) ≡ false
-      → IsUnmarked change olds news way a s.where_is e.place.ending
+      → IsUnmarked loose change olds news way a s.where_is e.place.ending
   unmarked-at a e f s g u =
       record {
         by_children_not = λ o. step-children change a s.where_is e.place.ending (number_of e.item) e.number s.marked
@@ -342,14 +342,14 @@ module _ (change : Change) (old new : Document ℕ) (h : Leads change old new) w
       (find (λ e. same_ref node (ref_of e)) (entries_of old))
       ≡ told_of (λ e. SomeNodes (step_from ref_of (entries_of new) a test (find (λ e. same_ref node (ref_of e)) (entries_of new))))
       (find (λ e. same_ref node (ref_of e)) (entries_of new))
-  step-same node a test g u = by (found change olds news way node run g)
+  step-same node a test g u = by (found loose change olds news way node run g)
     where
-      by : {o p : Option (Entry ℕ)} → Found change olds news way node o p
+      by : {o p : Option (Entry ℕ)} → Found loose change olds news way node o p
           → told_of (λ e. SomeNodes (step_from ref_of (entries_of old) a test o)) o ≡ told_of
           (λ e. SomeNodes (step_from ref_of (entries_of new) a test p)) p
       by nowhere = refl
       by (at {e = e} {f = f} s n) =
-          ap SomeNodes (stepped-same change olds news way 1 1 (olds-at-rise h) (news-at-rise h) a test e f s
+          ap SomeNodes (stepped-same loose change olds news way 1 1 (olds-at-rise h) (news-at-rise h) a test e f s
           (unmarked-at a e f s (ap (goes_or_comes change) n ∙ g)
           (ap (λ r. cond change.of_attributes (step_by_attributes change a r) (step_by_children change a r)) n ∙ u)) run)
 
@@ -357,7 +357,7 @@ module _ (change : Change) (old new : Document ℕ) (h : Leads change old new) w
       → list_any (λ node. same_ref node (ref_of d)) nodes ≡ false
   not-among [] d u n = refl
   not-among (node ∷ nodes) d u n =
-      (λ i. other-name change olds news way node d (neither-first (goes_or_comes change node) (list_any (goes_or_comes change) nodes) u) n i
+      (λ i. other-name loose change olds news way node d (neither-first (goes_or_comes change node) (list_any (goes_or_comes change) nodes) u) n i
       || list_any (λ node. same_ref node (ref_of d)) nodes)
       ∙ not-among nodes d (neither-second (goes_or_comes change node) (list_any (goes_or_comes change) nodes) u) n
 
@@ -365,9 +365,9 @@ module _ (change : Change) (old new : Document ℕ) (h : Leads change old new) w
       → map ref_of (filter (λ e. list_any (λ node. same_ref node (ref_of e)) nodes) (entries_of old))
       ≡ map ref_of (filter (λ e. list_any (λ node. same_ref node (ref_of e)) nodes) (entries_of new))
   ordered-same nodes u =
-      picked change olds news way (λ e. list_any (λ node. same_ref node (ref_of e)) nodes)
+      picked loose change olds news way (λ e. list_any (λ node. same_ref node (ref_of e)) nodes)
       (λ e. list_any (λ node. same_ref node (ref_of e)) nodes)
-      (λ e f s. ap (λ r. list_any (λ node. same_ref node r) nodes) (ref-same change olds news way s))
+      (λ e f s. ap (λ r. list_any (λ node. same_ref node r) nodes) (ref-same loose change olds news way s))
       (λ d l. not-among nodes d u l.named) (λ d l. not-among nodes d u l.named) run
 
   place-same : change.of_attributes ≡ true → (e f : Entry ℕ) → SameNode e f → identifier e ≡ identifier f
@@ -381,35 +381,42 @@ module _ (change : Change) (old new : Document ℕ) (h : Leads change old new) w
       (λ e f s n. ap SomeText (place-same o e f s))
   place-told false o node u = absurd (cc)
 
-  pub unmarked : (s : Sheet) (parameters : Parameters) (called : stylesheet.Place → NodeRef) (q : Question NodeRef)
-      → is_touched change q ≡ false
+  pub unmarked_but : (s : Sheet) (parameters : Parameters) (called : stylesheet.Place → NodeRef) (q : Question NodeRef)
+      → touched_but loose change q ≡ false
       → truth_by ref_of same_ref called s parameters (entries_of old) q ≡ truth_by ref_of same_ref called s parameters (entries_of new) q
-  unmarked s parameters called (question.Step node a test) u =
+  unmarked_but s parameters called (question.Step node a test) u =
       step-same node a test (not-named change.of_attributes _ _ _ u) (not-marked change.of_attributes _ _ _ u)
-  unmarked s parameters called (question.Text node) u =
-      let n = no-more change.of_attributes (goes_or_comes change node) (inside_by_children change node) u in
+  unmarked_but s parameters called (question.Text node) u =
+      let n = no-more change.of_attributes (goes_or_comes change node) (inside_but loose change node) u in
       told-same node (λ e. SomeText (string_value e.item)) (λ e. SomeText (string_value e.item)) n.0
-      (λ e f t r. ap SomeText (t.text (ap (marks_text change) r ∙ n.1)))
-  unmarked s parameters called (question.Name node) u =
+      (λ e f t r. ap SomeText (t.text (ap (marks_text loose change) r ∙ n.1)))
+  unmarked_but s parameters called (question.Name node) u =
       told-same node (λ e. Named (kind_of e.item) (expanded_name e.item) (written_name e.item))
       (λ e. Named (kind_of e.item) (expanded_name e.item) (written_name e.item))
       (same-both change.of_attributes (goes_or_comes change node) u) (λ e f t r i. Named (t.kind i) (t.name i) (t.written i))
-  unmarked s parameters called (question.Place node) u = place-told change.of_attributes refl node u
-  unmarked s parameters called (question.Order nodes) u =
+  unmarked_but s parameters called (question.Place node) u = place-told change.of_attributes refl node u
+  unmarked_but s parameters called (question.Order nodes) u =
       ap SomeNodes (ordered-same nodes (same-both change.of_attributes (list_any (goes_or_comes change) nodes) u))
-  unmarked s parameters called (question.Key name value) u = absurd (let t : true ≡ false = always change.of_attributes ∙ u in cc)
+  unmarked_but s parameters called (question.Key name value) u = absurd (let t : true ≡ false = always change.of_attributes ∙ u in cc)
     where
       always : (b : Bool) → true ≡ cond b true true
       always true = refl
       always false = refl
-  unmarked s parameters called (question.Choice node mode candidates) u = absurd
+  unmarked_but s parameters called (question.Choice node mode candidates) u = absurd
       (let t : true ≡ false = always change.of_attributes ∙ u in cc)
     where
       always : (b : Bool) → true ≡ cond b true true
       always true = refl
       always false = refl
-  unmarked s parameters called (question.Copy node) u =
+  unmarked_but s parameters called (question.Copy node) u =
       told-same node (λ e. Copied (copy_of e.item)) (λ e. Copied (copy_of e.item)) (not-named change.of_attributes _ _ _ u)
-      (λ e f t r. ap Copied (t.copy (ap (marks_copy change) r ∙ not-marked change.of_attributes (goes_or_comes change node) _ _ u)))
-  unmarked s parameters called (question.Unit element) u = refl
-  unmarked s parameters called (question.External name) u = refl
+      (λ e f t r. ap Copied (t.copy (ap (marks_copy loose change) r ∙ not-marked change.of_attributes (goes_or_comes change node) _ _ u)))
+  unmarked_but s parameters called (question.Unit element) u = refl
+  unmarked_but s parameters called (question.External name) u = refl
+
+-- by the table
+pub unmarked : (change : Change) (old new : Document ℕ) (h : Leads change old new) (s : Sheet) (parameters : Parameters)
+    (called : stylesheet.Place → NodeRef) (q : Question NodeRef) → is_touched change q ≡ false
+    → truth_by ref_of same_ref called s parameters (entries_of old) q ≡ truth_by ref_of same_ref called s parameters (entries_of new) q
+unmarked change old new h s parameters called q u =
+    unmarked_but (change.before ++ change.after) change old new h (all-free change old new h) s parameters called q u

@@ -18,7 +18,7 @@ use Rattle.spec_change.specs.Change.{Change, is_among}
 use Rattle.spec_node.specs.declared.node_ref.NodeRef.{NodeRef}
 use Rattle.spec_node.specs.declared.node_ref.Part.TheVariants as part
 use Rattle.spec_node.specs.Naming.{number_of, ref_of}
-use Rattle.spec_touch.specs.Touched.{goes_or_comes, holds_change, inside_by_children}
+use Rattle.spec_touch.specs.Touched.{goes_or_comes, holds_change, inside_but}
 use Rattle.spec_touch.specs.Leads.{Parts, at_end, stays, rewritten, goes, comes}
 use Rattle.spec_touch.proofs.Positions.{self, rises_from, Where, here, higher, child, elsewhere, Stands, deeper}
 use Rattle.spec_touch.proofs.Off.{IsBelow, in_deeper}
@@ -32,18 +32,18 @@ IsMarked change higher n = is_among change.above n ≡ true
 IsMarked change child n = is_among (change.before ++ change.after) n ≡ true
 IsMarked change elsewhere n = Unit {0}
 
-abbrev pub marks_text : Change → NodeRef → Bool
-marks_text change node = cond change.of_attributes false (inside_by_children change node)
+abbrev pub marks_text : (loose : List ℕ) → Change → NodeRef → Bool
+marks_text loose change node = cond change.of_attributes false (inside_but loose change node)
 
-abbrev pub marks_copy : Change → NodeRef → Bool
-marks_copy change node = cond change.of_attributes (holds_change change node) (inside_by_children change node)
+abbrev pub marks_copy : (loose : List ℕ) → Change → NodeRef → Bool
+marks_copy loose change node = cond change.of_attributes (holds_change change node) (inside_but loose change node)
 
 abbrev pub node_ref : ℕ → NodeRef
 node_ref n = record { node = record { number = n }; part = part.Itself }
 
 -- ---- Nodes that stay
 
-pub record Same (change : Change) (olds news way : List ℕ) (e f : Entry ℕ) : Type 0 where
+pub record Same (loose : List ℕ) (change : Change) (olds news way : List ℕ) (e f : Entry ℕ) : Type 0 where
   pub where_is : Where
   pub stands : Stands olds news where_is way e.place.positions f.place.positions
   pub ending : e.place.ending ≡ f.place.ending
@@ -53,8 +53,8 @@ pub record Same (change : Change) (olds news way : List ℕ) (e f : Entry ℕ) :
   pub name : expanded_name e.item ≡ expanded_name f.item
   pub written : written_name e.item ≡ written_name f.item
   pub marked : IsMarked change where_is (number_of e.item)
-  pub text : marks_text change (ref_of e) ≡ false → string_value e.item ≡ string_value f.item
-  pub copy : marks_copy change (ref_of e) ≡ false → copy_of e.item ≡ copy_of f.item
+  pub text : marks_text loose change (ref_of e) ≡ false → string_value e.item ≡ string_value f.item
+  pub copy : marks_copy loose change (ref_of e) ≡ false → copy_of e.item ≡ copy_of f.item
 
 -- ---- Nodes that go or come
 
@@ -74,17 +74,17 @@ AllLost change kept way (e ∷ es) = IsLost change kept way e × AllLost change 
 
 -- ---- The nodes of two documents
 
-pub data Runs (change : Change) (olds news way : List ℕ) : (before after : List (Entry ℕ)) → Type 0 where
-  both_end : Runs change olds news way [] []
-  both : {e f : Entry ℕ} {es fs : List (Entry ℕ)} → Same change olds news way e f → Runs change olds news way es fs
-      → Runs change olds news way (e ∷ es) (f ∷ fs)
-  gone : {e : Entry ℕ} {es fs : List (Entry ℕ)} → IsLost change olds way e → Runs change olds news way es fs
-      → Runs change olds news way (e ∷ es) fs
-  brought : {f : Entry ℕ} {es fs : List (Entry ℕ)} → IsLost change news way f → Runs change olds news way es fs
-      → Runs change olds news way es (f ∷ fs)
+pub data Runs (loose : List ℕ) (change : Change) (olds news way : List ℕ) : (before after : List (Entry ℕ)) → Type 0 where
+  both_end : Runs loose change olds news way [] []
+  both : {e f : Entry ℕ} {es fs : List (Entry ℕ)} → Same loose change olds news way e f → Runs loose change olds news way es fs
+      → Runs loose change olds news way (e ∷ es) (f ∷ fs)
+  gone : {e : Entry ℕ} {es fs : List (Entry ℕ)} → IsLost change olds way e → Runs loose change olds news way es fs
+      → Runs loose change olds news way (e ∷ es) fs
+  brought : {f : Entry ℕ} {es fs : List (Entry ℕ)} → IsLost change news way f → Runs loose change olds news way es fs
+      → Runs loose change olds news way es (f ∷ fs)
 
-pub runs-append : {change : Change} {olds news way : List ℕ} {es fs gs hs : List (Entry ℕ)} → Runs change olds news way es fs
-    → Runs change olds news way gs hs → Runs change olds news way (es ++ gs) (fs ++ hs)
+pub runs-append : {loose : List ℕ} {change : Change} {olds news way : List ℕ} {es fs gs hs : List (Entry ℕ)} → Runs loose change olds news way es fs
+    → Runs loose change olds news way gs hs → Runs loose change olds news way (es ++ gs) (fs ++ hs)
 runs-append both_end r = r
 runs-append (both s q) r = both s (runs-append q r)
 runs-append (gone l q) r = gone l (runs-append q r)
@@ -95,13 +95,13 @@ pub lost-append : (change : Change) (kept way : List ℕ) (es fs : List (Entry �
 lost-append change kept way [] fs h g = g
 lost-append change kept way (e ∷ es) fs h g = (h.0, lost-append change kept way es fs h.1 g)
 
-pub all-gone : {change : Change} {olds news way : List ℕ} (es : List (Entry ℕ)) {fs gs : List (Entry ℕ)} → AllLost change olds way es
-    → Runs change olds news way fs gs → Runs change olds news way (es ++ fs) gs
+pub all-gone : {loose : List ℕ} {change : Change} {olds news way : List ℕ} (es : List (Entry ℕ)) {fs gs : List (Entry ℕ)} → AllLost change olds way es
+    → Runs loose change olds news way fs gs → Runs loose change olds news way (es ++ fs) gs
 all-gone [] h r = r
 all-gone (e ∷ es) h r = gone h.0 (all-gone es h.1 r)
 
-pub all-brought : {change : Change} {olds news way : List ℕ} (es : List (Entry ℕ)) {fs gs : List (Entry ℕ)} → AllLost change news way es
-    → Runs change olds news way fs gs → Runs change olds news way fs (es ++ gs)
+pub all-brought : {loose : List ℕ} {change : Change} {olds news way : List ℕ} (es : List (Entry ℕ)) {fs gs : List (Entry ℕ)} → AllLost change news way es
+    → Runs loose change olds news way fs gs → Runs loose change olds news way fs (es ++ gs)
 all-brought [] h r = r
 all-brought (e ∷ es) h r = brought h.0 (all-brought es h.1 r)
 
@@ -130,11 +130,11 @@ below-spread {kept = kept} {way = way} s n rest h = subst (λ p. IsBelow kept wa
 
 -- ---- A node that stays, with its namespace nodes and its attributes
 
-module _ (change : Change) (olds news way : List ℕ) where
+module _ (loose : List ℕ) (change : Change) (olds news way : List ℕ) where
   module _ (s t : List ℕ) (w : Where) (stands : Stands olds news w way s t) (x y : Found ℕ) (like : Like x y)
       (marked : IsMarked change w x.label) where
     pub namespaces-run : (k : ℕ) (ns : List (List ℕ × List ℕ))
-        → Runs change olds news way (namespace_entries s x k ns) (namespace_entries t y k ns)
+        → Runs loose change olds news way (namespace_entries s x k ns) (namespace_entries t y k ns)
     namespaces-run k [] = both_end
     namespaces-run k (n ∷ ns) =
         both (record {
@@ -151,7 +151,7 @@ module _ (change : Change) (olds news way : List ℕ) where
           copy = λ _. refl;
         }) (namespaces-run (k + 1) ns)
 
-    attributes-run : (k : ℕ) (ws : List Written) → Runs change olds news way (attribute_entries s x k ws) (attribute_entries t y k ws)
+    attributes-run : (k : ℕ) (ws : List Written) → Runs loose change olds news way (attribute_entries s x k ws) (attribute_entries t y k ws)
     attributes-run k [] = both_end
     attributes-run k (a ∷ ws) =
         both (record {
@@ -169,12 +169,12 @@ module _ (change : Change) (olds news way : List ℕ) where
         }) (attributes-run (k + 1) ws)
 
     abbrev TextStays : Type 0
-    TextStays = marks_text change (node_ref x.label) ≡ false → string_value_by x.content x.children ≡ string_value_by y.content y.children
+    TextStays = marks_text loose change (node_ref x.label) ≡ false → string_value_by x.content x.children ≡ string_value_by y.content y.children
 
     abbrev CopyStays : Type 0
-    CopyStays = marks_copy change (node_ref x.label) ≡ false → copied_by x x.content ≡ copied_by y y.content
+    CopyStays = marks_copy loose change (node_ref x.label) ≡ false → copied_by x x.content ≡ copied_by y y.content
 
-    pub node-same : TextStays → CopyStays → Same change olds news way
+    pub node-same : TextStays → CopyStays → Same loose change olds news way
         (record { place = record { positions = s; ending = Itself }; number = 0; item = TreeNode x })
         (record { place = record { positions = t; ending = Itself }; number = 0; item = TreeNode y })
     node-same text copy =
@@ -192,21 +192,21 @@ module _ (change : Change) (olds news way : List ℕ) where
           copy = copy;
         }
 
-    pub namespaces-same : Runs change olds news way (namespace_entries s x 1 (namespaces_of x)) (namespace_entries t y 1 (namespaces_of y))
+    pub namespaces-same : Runs loose change olds news way (namespace_entries s x 1 (namespaces_of x)) (namespace_entries t y 1 (namespaces_of y))
     namespaces-same =
-        subst (λ ns. Runs change olds news way (namespace_entries s x 1 (namespaces_of x)) (namespace_entries t y 1 ns)) like.namespaces
+        subst (λ ns. Runs loose change olds news way (namespace_entries s x 1 (namespaces_of x)) (namespace_entries t y 1 ns)) like.namespaces
         (namespaces-run 1 (namespaces_of x))
 
-    pub own-run : attributes_of x ≡ attributes_of y → TextStays → CopyStays → Runs change olds news way (own_entries s x) (own_entries t y)
+    pub own-run : attributes_of x ≡ attributes_of y → TextStays → CopyStays → Runs loose change olds news way (own_entries s x) (own_entries t y)
     own-run attributes text copy =
         both (node-same text copy) (runs-append namespaces-same
-        (subst (λ ws. Runs change olds news way (attribute_entries s x 1 (attributes_of x)) (attribute_entries t y 1 ws)) attributes
+        (subst (λ ws. Runs loose change olds news way (attribute_entries s x 1 (attributes_of x)) (attribute_entries t y 1 ws)) attributes
         (attributes-run 1 (attributes_of x))))
 
   -- siblings that stay with all that is below them, and stand neither on the way nor are children of the node of the change
   pub below-run : (s t : List ℕ) (above over : List Content) → scope_of root_scope above ≡ scope_of root_scope over → (n : ℕ) (f : Forest ℕ)
       → ((k : ℕ) (rest : List ℕ) → n ≤ k → Stands olds news elsewhere way (s ++ k ∷ rest) (t ++ k ∷ rest))
-      → Runs change olds news way (entries_in above s n f) (entries_in over t n f)
+      → Runs loose change olds news way (entries_in above s n f) (entries_in over t n f)
   below-run s t above over e n Empty h = both_end
   below-run s t above over e n (Node l c f g) h =
       runs-append (runs-append (own-run (s ++ n ∷ []) (t ++ n ∷ []) elsewhere (h n [] (omega arith)) (found_in above l c f)

@@ -1,6 +1,6 @@
 -- A question that a change of a world does not mark has the same answer in both worlds.
-use Rattle.std.proofs.Common.{◌≡◌, ℕ, Bool, true, false, List, ◌∷◌, Option, Some, refl, sym, ap, ◌∙◌, subst}
-use Rattle.std.specs.Prelude.{◌&&◌, not, Ok, IsTrue, bytes_eq, nat_lt}
+use Rattle.std.proofs.Common.{◌≡◌, ℕ, Bool, true, false, List, [], ◌∷◌, Option, Some, refl, sym, ap, ◌∙◌, subst}
+use Rattle.std.specs.Prelude.{◌&&◌, ◌||◌, not, Ok, IsTrue, bytes_eq, nat_lt}
 use Rattle.std.specs.List.{list_all}
 use Rattle.spec_document.specs.Forest.{Document, labels}
 use Rattle.spec_document.specs.Name.{Expanded}
@@ -20,13 +20,14 @@ use Rattle.spec_move.specs.Changed.{MoveChange, IsMove, move_change}
 use Rattle.spec_move.specs.Move.{moved_nodes}
 use Rattle.spec_node.specs.declared.node_ref.NodeRef.{NodeRef}
 use Rattle.spec_node.specs.Naming.{ref_of, same_ref}
-use Rattle.spec_touch.specs.Leads.{seen_change}
-use Rattle.spec_touch.specs.Marks.{World, WorldChange, SourceEdited, SourceMoved, answers, marks, any_marks, by_modules, by_parameter, is_unit_among}
+use Rattle.spec_touch.specs.Leads.{seen_change, AreLooseBelow}
+use Rattle.spec_touch.specs.Marks.{World, WorldChange, SourceEdited, SourceMoved, ModulesChanged, ParameterGiven, Anything, answers, marks, any_marks, asks, any_asks, by_modules, by_parameter, is_unit_among}
 use Rattle.spec_touch.specs.Marks.{IsSound, KeepsUnits, KeepsPlain, SameButSource, ComesTo, by_edit, by_move, by_modules_alone, by_value, by_anything, ComeTo, none_more, one_more}
 use Rattle.spec_touch.specs.Moved.{move_touched}
 use Rattle.spec_touch.specs.Plain.{AreAsking, spared, spared_by_move}
-use Rattle.spec_touch.specs.Touched.{is_touched}
-use Rattle.spec_touch.proofs.Answering.{unmarked, neither-first, neither-second}
+use Rattle.spec_touch.specs.Touched.{is_touched, touched_but}
+use Rattle.spec_touch.proofs.Running.{loose-free-in}
+use Rattle.spec_touch.proofs.Answering.{unmarked, unmarked_but, neither-first, neither-second}
 use Rattle.spec_touch.proofs.KeepingSpace.{keeps-space}
 use Rattle.spec_touch.proofs.Leading.{after_edit}
 use Rattle.spec_touch.proofs.Moving.{after_move, by-either, move-unmarked}
@@ -34,6 +35,10 @@ use Rattle.spec_touch.proofs.MovingChoices.{move-spared}
 use Rattle.spec_touch.proofs.SeenLeading.{edit-leads-seen}
 use Rattle.spec_touch.proofs.Sparing.{choice-spared}
 use Rattle.spec_touch.proofs.ToldApart.{seen-apart}
+
+one-of : {A : Type 0} (a b : Bool) → (a && b) ≡ false → (a ≡ false → A) → (b ≡ false → A) → A
+one-of false b h f g = f refl
+one-of true b h f g = g h
 
 not-false : (b : Bool) → not b ≡ false → b ≡ true
 not-false true h = refl
@@ -92,30 +97,36 @@ module _ (sheet : Sheet) (parameters : Parameters) (called : stylesheet.Place �
   told_in d = truth_by ref_of same_ref called sheet parameters (entries_of d) q
 
   module _ (rules : List SpaceRule) (edit : Edit) (before : Document ℕ) (sound : IsSound before) (change : Change) where
-    abbrev is_unmarked : Document ℕ → Type 0
-    is_unmarked after = marks (SourceEdited (seen_change change (seen rules before) (seen rules after)) asking) q ≡ false
+    abbrev is_unasked : (loose : List ℕ) → Document ℕ → Type 0
+    is_unasked loose after = asks (SourceEdited (seen_change change (seen rules before) (seen rules after)) asking loose) q ≡ false
 
     edited-unmarked : (first : ℕ) (new : Edited ℕ) → IsTrue (list_all (λ n. nat_lt n first) (before.root ∷ labels before.nodes))
         → edited_nodes first edit before ≡ Ok new → change_of edit before (after_edit before new) ≡ Some change
-        → is_unmarked (after_edit before new) → told_in (seen rules before) ≡ told_in (seen rules (after_edit before new))
-    edited-unmarked first new low e told u =
+        → (loose : List ℕ) → AreLooseBelow loose change.node (seen rules (after_edit before new)) → is_unasked loose (after_edit before new)
+        → told_in (seen rules before) ≡ told_in (seen rules (after_edit before new))
+    edited-unmarked first new low e told loose free u =
         let after = after_edit before new in
         let once = once-distinct _ sound.apart in
         let below = below-from first _ low in
         let l = edit-leads-seen rules first edit before new sound.normal once below e (keeps-space first edit before new e sound.valid) in
         let made = seen_change l.change (seen rules before) (seen rules after) in
         let same = some_same change l.change (sym told ∙ l.change_is) in
-        let u : (is_touched made q && not (spared asking made q)) ≡ false = subst
-        (λ x. marks (SourceEdited (seen_change x (seen rules before) (seen rules after)) asking) q ≡ false) same u in
-        by-either (is_touched made q) (spared asking made q) u
-        (λ t. unmarked made (seen rules before) (seen rules after) l.leads sheet parameters called q t)
+        let free : AreLooseBelow loose made.node (seen rules after) = subst (λ x. AreLooseBelow loose x.node (seen rules after)) same free in
+        let u : ((is_touched made q && touched_but loose made q) && not (spared asking made q)) ≡ false = subst
+        (λ x. asks (SourceEdited (seen_change x (seen rules before) (seen rules after)) asking loose) q ≡ false) same u in
+        by-either (is_touched made q && touched_but loose made q) (spared asking made q) u
+        (λ t. one-of (is_touched made q) (touched_but loose made q) t
+        (λ v. unmarked made (seen rules before) (seen rules after) l.leads sheet parameters called q v)
+        (λ v. unmarked_but loose made (seen rules before) (seen rules after) l.leads (loose-free-in loose made (seen rules before) (seen rules after) l.leads free)
+        sheet parameters called q v))
         (λ s. choice-spared made (seen rules before) (seen rules after) l.leads sheet parameters called
         (seen-apart rules before.root l.change before.nodes new.nodes once (edit_numbers first edit before new e once below).once) asking plain q s)
 
-    edit-unmarked : (after : Document ℕ) → IsEdit edit before after → change_of edit before after ≡ Some change → is_unmarked after
-        → told_in (seen rules before) ≡ told_in (seen rules after)
+    edit-unmarked : (after : Document ℕ) → IsEdit edit before after → change_of edit before after ≡ Some change → (loose : List ℕ)
+        → AreLooseBelow loose change.node (seen rules after) → is_unasked loose after → told_in (seen rules before) ≡ told_in (seen rules after)
     edit-unmarked after is =
-        subst (λ d. change_of edit before d ≡ Some change → is_unmarked d → told_in (seen rules before) ≡ told_in (seen rules d)) (sym is.new_is)
+        subst (λ d. change_of edit before d ≡ Some change → (loose : List ℕ) → AreLooseBelow loose change.node (seen rules d) → is_unasked loose d
+        → told_in (seen rules before) ≡ told_in (seen rules d)) (sym is.new_is)
         (edited-unmarked is.first is.edited is.below is.edited_is)
 
   module _ (path other : List ℕ) (before : Document ℕ) (sound : IsSound before) (change : MoveChange)
@@ -141,19 +152,50 @@ but-source : (old new : World) → SameButSource old new → (d : Document ℕ) 
 but-source old new same d e q =
     λ i. truth_by ref_of same_ref (sym same.called i) (sym same.sheet i) (sym same.parameters i) (entries_of (sym e i)) q
 
-pub world-unmarked : {change : WorldChange} {old new : World} → ComesTo change old new → (q : Question NodeRef) → marks change q ≡ false
+-- what need not be asked keeps its answer
+pub world-unasked : {change : WorldChange} {old new : World} → ComesTo change old new → (q : Question NodeRef) → asks change q ≡ false
     → answers old q ≡ answers new q
-world-unmarked (by_edit {old = old} {new = new} {asking = asking} rules edit before after sound is change told old_is new_is plain same) q u =
+world-unasked (by_edit {old = old} {new = new} {asking = asking} {loose = loose} rules edit before after sound is change told old_is new_is plain free same) q u =
     ap (λ d. truth_by ref_of same_ref old.called old.sheet old.parameters (entries_of d) q) old_is
-    ∙ edit-unmarked old.sheet old.parameters old.called asking plain q rules edit before sound change after is told u
+    ∙ edit-unmarked old.sheet old.parameters old.called asking plain q rules edit before sound change after is told loose free u
     ∙ but-source old new same (seen rules after) new_is q
-world-unmarked (by_move {old = old} {new = new} {change = change} {asking = asking} path other sound is told plain same) q u =
+world-unasked (by_move {old = old} {new = new} {change = change} {asking = asking} path other sound is told plain same) q u =
     move-kept old.sheet old.parameters old.called asking plain q path other old.source sound change u new.source is told
     ∙ but-source old new same new.source refl q
-world-unmarked (by_modules_alone {units = units} {asking = asking} {old = old} {new = new} e p k c) q u =
+world-unasked (by_modules_alone {units = units} {asking = asking} {old = old} {new = new} e p k c) q u =
     modules-unmarked units asking old new e p k c q u
-world-unmarked (by_value {name = name} {old = old} {new = new} h s c e) q u = parameter-unmarked name old new h s c e q u
-world-unmarked by_anything q u = absurd (cc)
+world-unasked (by_value {name = name} {old = old} {new = new} h s c e) q u = parameter-unmarked name old new h s c e q u
+world-unasked by_anything q u = absurd (cc)
+
+-- what is not marked need not be asked
+pub asks-less : (change : WorldChange) (q : Question NodeRef) → marks change q ≡ false → asks change q ≡ false
+asks-less (SourceEdited change asking loose) q u = less (is_touched change q) (touched_but loose change q) (not (spared asking change q)) u
+  where
+    less : (a b c : Bool) → (a && c) ≡ false → ((a && b) && c) ≡ false
+    less false b c h = refl
+    less true false c h = refl
+    less true true c h = h
+asks-less (SourceMoved change asking) q u = u
+asks-less (ModulesChanged units asking) q u = u
+asks-less (ParameterGiven name) q u = u
+asks-less Anything q u = u
+
+pub all-asks-less : (changes : List WorldChange) (q : Question NodeRef) → any_marks changes q ≡ false → any_asks changes q ≡ false
+all-asks-less [] q u = refl
+all-asks-less (change ∷ changes) q u =
+    (λ i. asks-less change q (neither-first (marks change q) (any_marks changes q) u) i || any_asks changes q)
+    ∙ all-asks-less changes q (neither-second (marks change q) (any_marks changes q) u)
+
+pub world-unmarked : {change : WorldChange} {old new : World} → ComesTo change old new → (q : Question NodeRef) → marks change q ≡ false
+    → answers old q ≡ answers new q
+world-unmarked {change = change} comes q u = world-unasked comes q (asks-less change q u)
+
+pub worlds-unasked : {changes : List WorldChange} {old new : World} → ComeTo changes old new → (q : Question NodeRef)
+    → any_asks changes q ≡ false → answers old q ≡ answers new q
+worlds-unasked none_more q u = refl
+worlds-unasked (one_more {change = change} {changes = changes} comes come) q u =
+    world-unasked comes q (neither-first (asks change q) (any_asks changes q) u)
+    ∙ worlds-unasked come q (neither-second (asks change q) (any_asks changes q) u)
 
 pub worlds-unmarked : {changes : List WorldChange} {old new : World} → ComeTo changes old new → (q : Question NodeRef)
     → any_marks changes q ≡ false → answers old q ≡ answers new q

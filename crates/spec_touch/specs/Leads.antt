@@ -1,7 +1,9 @@
 -- What is true of two documents of which a change leads from the first to the second.
 --     Leads          all but the children or the attributes of one node is the same, and of the children that stay each has its subtree
+--     AreLooseBelow  which children of a node are no elements
+--     IsFreeIn       where of the children that stay only some may be others: all but these are elements
 --     seen_change    the same change as it is seen, where texts of white space are stripped
-use Rattle.std.specs.Prelude.{Option, None, Some, ℕ, ◌≡◌, true, false, List, [], ◌∷◌, IsTrue}
+use Rattle.std.specs.Prelude.{Option, None, Some, ℕ, ◌≡◌, Bool, true, false, List, [], ◌∷◌, IsTrue}
 use Rattle.std.specs.List.{list_all, filter}
 use Rattle.spec_document.specs.Forest.{Written, Content, Element, Text, Comment, Instruction, Forest, Empty, Node}
 use Rattle.spec_document.specs.Forest.{Document, labels}
@@ -67,6 +69,40 @@ pub data Leads (change : Change) (old new : Document ℕ) : Type 0 where
   at_root : new.root ≡ old.root → change.above ≡ [] → ChildrenChange change old.root old.nodes new.nodes → Leads change old new
   below_root : {above : List ℕ} → new.root ≡ old.root → change.above ≡ old.root ∷ above
       → ChangesIn change above old.nodes new.nodes → Leads change old new
+
+-- ---- Children that may be others
+
+-- an element stays as it is
+abbrev pub is_element : Content → Bool
+is_element (Element name written) = true
+is_element (Text text) = false
+is_element (Comment text) = false
+is_element (Instruction target text) = false
+
+-- each of these siblings that is no element is one of those
+abbrev pub AreLoose : (loose : List ℕ) → Forest ℕ → Type 0
+AreLoose loose Empty = Unit {0}
+AreLoose loose (Node label content below siblings) = (is_element content ≡ false → is_among loose label ≡ true) × AreLoose loose siblings
+
+-- so of the children of the node of the change
+abbrev pub AreFree : {change : Change} {above : List ℕ} {old new : Forest ℕ} → (loose : List ℕ) → ChangesIn change above old new → Type 0
+AreFree loose (children {new = new} c) = AreLoose loose new
+AreFree loose (attributes c) = Unit {0}
+AreFree loose (inside c) = AreFree loose c
+AreFree loose (further c) = AreFree loose c
+
+abbrev pub IsFreeIn : {change : Change} {old new : Document ℕ} → (loose : List ℕ) → Leads change old new → Type 0
+IsFreeIn {new = new} loose (at_root same above c) = AreLoose loose new.nodes
+IsFreeIn loose (below_root same above c) = AreFree loose c
+
+-- so of the children of the node of this number, wherever it stands
+abbrev pub AreLooseIn : (loose : List ℕ) (number : ℕ) → Forest ℕ → Type 0
+AreLooseIn loose number Empty = Unit {0}
+AreLooseIn loose number (Node label content below siblings) =
+    (number ≡ label → AreLoose loose below) × AreLooseIn loose number below × AreLooseIn loose number siblings
+
+abbrev pub AreLooseBelow : (loose : List ℕ) (number : ℕ) → Document ℕ → Type 0
+AreLooseBelow loose number document = (number ≡ document.root → AreLoose loose document.nodes) × AreLooseIn loose number document.nodes
 
 -- a change between two documents as they are seen: of the children those that are seen, and a text goes or comes too where it is seen before or after
 -- alone

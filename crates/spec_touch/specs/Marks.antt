@@ -1,6 +1,7 @@
 -- Which questions a change marks of a world, which is a stylesheet, parameters and a source as it is seen.
 --     marks       of an edit of the source, of a move in it, of modules, of a parameter, and of what nothing is known of
 --     any_marks   of changes one after the other
+--     asks, any_asks  what of it must be asked: of the children that stay elements are as they were
 --     KeepsUnits  what a change of modules leaves as it was: units, and choices of a rule (KeepsPlain)
 --     ComesTo     what is true of the worlds before and after
 --     ComeTo      of worlds that changes one after the other lead through
@@ -21,10 +22,10 @@ use Rattle.spec_change.specs.Change.{Change, IsEdit, change_of}
 use Rattle.spec_move.specs.Changed.{MoveChange, IsMove, move_change}
 use Rattle.spec_node.specs.declared.node_ref.NodeRef.{NodeRef}
 use Rattle.spec_node.specs.Naming.{ref_of, same_ref}
-use Rattle.spec_touch.specs.Leads.{seen_change}
+use Rattle.spec_touch.specs.Leads.{seen_change, AreLooseBelow}
 use Rattle.spec_touch.specs.Moved.{move_touched}
 use Rattle.spec_touch.specs.Plain.{AreAsking, is_mode_among, spared, spared_by_move}
-use Rattle.spec_touch.specs.Touched.{is_touched}
+use Rattle.spec_touch.specs.Touched.{is_touched, touched_but}
 
 -- the elements of the stylesheet have names of the reader's choice, the nodes of the source their numbers
 pub record World : Type 0 where
@@ -37,8 +38,9 @@ abbrev pub answers : World → Question NodeRef → Answer NodeRef
 answers world = truth_by ref_of same_ref world.called world.sheet world.parameters (entries_of world.source)
 
 pub data WorldChange : Type 0 where
-  -- the source is edited, or a node of it moved. The modes are those that have a rule whose pattern has a predicate or key()
-  SourceEdited : (change : Change) → (asking : List (Option Expanded)) → WorldChange
+  -- the source is edited, or a node of it moved. The modes are those that have a rule whose pattern has a predicate or key(); of the children of the
+  -- node after an edit these are all that are no elements
+  SourceEdited : (change : Change) → (asking : List (Option Expanded)) → (loose : List ℕ) → WorldChange
   SourceMoved : (change : MoveChange) → (asking : List (Option Expanded)) → WorldChange
   -- modules come, go or are edited, and by the rules for white space the source is seen as before. These are elements whose units are as they were;
   -- and, where the template rules are as they were, the modes that have a rule whose pattern has a predicate or key()
@@ -82,15 +84,27 @@ by_parameter given (External name) = bytes_eq given name
 
 -- what a change of the source marks by the table, but for choices that it spares
 abbrev pub marks : WorldChange → Question NodeRef → Bool
-marks (SourceEdited change asking) question = is_touched change question && not (spared asking change question)
+marks (SourceEdited change asking loose) question = is_touched change question && not (spared asking change question)
 marks (SourceMoved change asking) question = move_touched change question && not (spared_by_move asking change question)
 marks (ModulesChanged units asking) question = by_modules units asking question
 marks (ParameterGiven name) question = by_parameter name question
 marks Anything question = true
 
+-- less than that may have another answer
+abbrev pub asks : WorldChange → Question NodeRef → Bool
+asks (SourceEdited change asking loose) question =
+    (is_touched change question && touched_but loose change question) && not (spared asking change question)
+asks (SourceMoved change asking) question = move_touched change question && not (spared_by_move asking change question)
+asks (ModulesChanged units asking) question = by_modules units asking question
+asks (ParameterGiven name) question = by_parameter name question
+asks Anything question = true
+
 -- changes one after the other mark what one of them marks
 abbrev pub any_marks : List WorldChange → Question NodeRef → Bool
 any_marks changes question = list_any (λ change. marks change question) changes
+
+abbrev pub any_asks : List WorldChange → Question NodeRef → Bool
+any_asks changes question = list_any (λ change. asks change question) changes
 
 -- ---- The worlds before and after
 
@@ -119,11 +133,11 @@ KeepsPlain asking old new =
 -- the first world comes to the second by the change
 pub data ComesTo : WorldChange → (old new : World) → Type 0 where
   -- an edit of a document, of which the worlds see what some rules for white space let them see
-  by_edit : {old new : World} {asking : List (Option Expanded)} → (rules : List SpaceRule) → (edit : Edit) → (before after : Document ℕ)
+  by_edit : {old new : World} {asking : List (Option Expanded)} {loose : List ℕ} → (rules : List SpaceRule) → (edit : Edit) → (before after : Document ℕ)
       → IsSound before → IsEdit edit before after → (change : Change) → change_of edit before after ≡ Some change
       → old.source ≡ seen rules before → new.source ≡ seen rules after
-      → AreAsking asking old.sheet.rules.rules → SameButSource old new
-      → ComesTo (SourceEdited (seen_change change (seen rules before) (seen rules after)) asking) old new
+      → AreAsking asking old.sheet.rules.rules → AreLooseBelow loose change.node (seen rules after) → SameButSource old new
+      → ComesTo (SourceEdited (seen_change change (seen rules before) (seen rules after)) asking loose) old new
   -- a move in a document of which all is seen
   by_move : {old new : World} {change : MoveChange} {asking : List (Option Expanded)} → (path other : List ℕ) → IsSound old.source
       → IsMove path other old.source new.source → move_change path other old.source new.source ≡ Some change

@@ -1,5 +1,6 @@
 -- Which questions a change of the source marks. A question that is not marked has the same true answer before the change and after it.
 --     is_touched     whether a change of a node's children or of its attributes marks a question
+--     touched_but    the same, where of the children that stay only these may have become others
 use Rattle.std.specs.Prelude.{ℕ, ◌==◌, Bool, true, false, ◌&&◌, ◌||◌, List, [], ◌∷◌, ◌++◌, if◌then◌else◌}
 use Rattle.std.specs.List.{list_any}
 use Rattle.spec_document.specs.declared.axis.Axis.{Axis}
@@ -60,21 +61,28 @@ step_by_children change axis.AncestorOrSelf node = false
 step_by_children change axis.Attribute node = false
 step_by_children change axis.Namespace node = false
 
--- what is below the node has changed, or a text that is a child of the node is another
-abbrev pub inside_by_children : Change → NodeRef → Bool
-inside_by_children change node = holds_change change node || is_child change node
+-- what is below the node has changed, or a text that is a child of the node is another. It may be one of these
+abbrev pub inside_but : (loose : List ℕ) → Change → NodeRef → Bool
+inside_but loose change node = holds_change change node || is_one_of loose node
 
+abbrev pub inside_by_children : Change → NodeRef → Bool
+inside_by_children change node = inside_but (change.before ++ change.after) change node
+
+abbrev pub by_children_but : (loose : List ℕ) → Change → Question NodeRef → Bool
+by_children_but loose change (Step node axis test) = goes_or_comes change node || step_by_children change axis node
+by_children_but loose change (Text node) = goes_or_comes change node || inside_but loose change node
+by_children_but loose change (Name node) = goes_or_comes change node
+by_children_but loose change (Place node) = true
+by_children_but loose change (Order nodes) = list_any (goes_or_comes change) nodes
+by_children_but loose change (Key name value) = true
+by_children_but loose change (Choice node mode candidates) = true
+by_children_but loose change (Copy node) = goes_or_comes change node || inside_but loose change node
+by_children_but loose change (Unit element) = false
+by_children_but loose change (External name) = false
+
+-- by the table any child may be another
 abbrev pub by_children : Change → Question NodeRef → Bool
-by_children change (Step node axis test) = goes_or_comes change node || step_by_children change axis node
-by_children change (Text node) = goes_or_comes change node || inside_by_children change node
-by_children change (Name node) = goes_or_comes change node
-by_children change (Place node) = true
-by_children change (Order nodes) = list_any (goes_or_comes change) nodes
-by_children change (Key name value) = true
-by_children change (Choice node mode candidates) = true
-by_children change (Copy node) = goes_or_comes change node || inside_by_children change node
-by_children change (Unit element) = false
-by_children change (External name) = false
+by_children change question = by_children_but (change.before ++ change.after) change question
 
 -- ---- Where attributes of the node change
 
@@ -96,3 +104,7 @@ by_attributes change (External name) = false
 
 abbrev pub is_touched : Change → Question NodeRef → Bool
 is_touched change question = if change.of_attributes then by_attributes change question else by_children change question
+
+-- less than by the table: these are all children that stay and may be others
+abbrev pub touched_but : (loose : List ℕ) → Change → Question NodeRef → Bool
+touched_but loose change question = if change.of_attributes then by_attributes change question else by_children_but loose change question

@@ -22,7 +22,7 @@ ghost use Rattle.spec_touch.specs.Touched.{is_touched};
 ghost use Rattle.spec_touch.specs.Leads.{KeepsSpace, Leads, seen_change};
 ghost use Rattle.spec_touch.specs.Moved.{move_touched};
 ghost use Rattle.spec_touch.specs.Plain.{AreAsking, TellsApart, spared, spared_by_move};
-ghost use Rattle.spec_touch.specs.Marks.{ComeTo, ComesTo, World, WorldChange, answers, any_marks, marks};
+ghost use Rattle.spec_touch.specs.Marks.{ComeTo, ComesTo, World, WorldChange, answers, any_asks, any_marks, marks};
 
 /// Each edit that is accepted makes a change that leads from the document before to the one after, where the numbers of the
 /// document were distinct and all below the first that is free.
@@ -54,6 +54,18 @@ pub fn unmarked_questions_keep_their_answers_in_worlds()
 pub fn unmarked_by_all_keep_their_answers()
     ensures { (changes : List WorldChange) (old new : World) → ComeTo changes old new → (question : Question NodeRef)
         → any_marks changes question ≡ false → answers old question ≡ answers new question }
+{}
+
+/// What need not be asked has the same true answer, too: of the children of a node whose children change, those that stay and
+/// are elements are as they were, though a change marks what is below them.
+pub fn what_need_not_be_asked_keeps_its_answers()
+    ensures { (changes : List WorldChange) (old new : World) → ComeTo changes old new → (question : Question NodeRef)
+        → any_asks changes question ≡ false → answers old question ≡ answers new question }
+{}
+
+/// And it is no more than what is marked that is asked.
+pub fn what_is_not_marked_need_not_be_asked()
+    ensures { (changes : List WorldChange) (question : Question NodeRef) → any_marks changes question ≡ false → any_asks changes question ≡ false }
 {}
 
 /// The change of an edit as it is seen leads from what is seen of the document before to what is seen of the one after,

@@ -12,5 +12,6 @@ pub use laws::{
     moves_to_another_parent_keep_the_answers_of_unmarked_questions, moves_to_another_parent_lead,
     moves_to_another_parent_lead_as_they_are_seen, plain_choices_stay,
     unmarked_by_all_keep_their_answers, unmarked_questions_keep_their_answers,
-    unmarked_questions_keep_their_answers_in_worlds,
+    unmarked_questions_keep_their_answers_in_worlds, what_is_not_marked_need_not_be_asked,
+    what_need_not_be_asked_keeps_its_answers,
 };

@@ -13,7 +13,7 @@ use Rattle.spec_edit.specs.Edit as spec
 use Rattle.spec_change.specs.Change.{Change, IsEdit, change_of}
 use Rattle.spec_move.specs.Changed.{MoveChange, IsMove, move_change}
 use Rattle.spec_node.specs.declared.node_ref.NodeRef.{NodeRef}
-use Rattle.spec_touch.specs.Leads.{Leads, seen_change}
+use Rattle.spec_touch.specs.Leads.{AreLooseBelow, Leads, seen_change}
 use Rattle.spec_touch.specs.Marks.{KeepsPlain, KeepsUnits, SourceEdited, SourceMoved, ModulesChanged, ParameterGiven, Anything, WorldChange, answers}
 use Rattle.spec_touch.specs.Plain.{AreAsking}
 use Rattle.xt_touch.specs.View.{remembered}
@@ -93,9 +93,10 @@ pub edit_stays : Answering → Leading → KeepingSpace → (held : world.Styles
     (seen (space_rules_of rules).rules new)
     → change ≡ seen_change told (seen (space_rules_of rules).rules old) (seen (space_rules_of rules).rules new))
     → (asking : List (Option Expanded)) → AreAsking asking (rules_of held.rules).rules
-    → (changes next : List WorldChange) → next ≡ remembered changes (SourceEdited change asking)
+    → (loose : List ℕ) → AreLooseBelow loose told.node (seen (space_rules_of rules).rules new)
+    → (changes next : List WorldChange) → next ≡ remembered changes (SourceEdited change asking loose)
     → StaysSpared (Some (Stylesheet held rules method)) (Some (Stylesheet held rules method)) parameters parameters (Some old) (Some new) changes next
-edit_stays answering leading keeping held rules method parameters edit old new faultless numbers q told change is seen_so asking asks changes next e =
+edit_stays answering leading keeping held rules method parameters edit old new faultless numbers q told change is seen_so asking asks loose free changes next e =
     λ answered own answers others h.
     let sight = (space_rules_of rules).rules in
     let sheet = answers.0 in
@@ -104,16 +105,16 @@ edit_stays answering leading keeping held rules method parameters edit old new f
     let made = seen_change told (seen sight old) (seen sight new) in
     let same : change ≡ made = seen_so (leads_so leading keeping sight edit old new q sound told is) in
     let comes = edit_comes sheet called parameters sight asking edit old new sound q told is
-    (subst (λ (rs : plain.Rules). AreAsking asking rs.rules) answers.1.rules asks) in
+    (subst (λ (rs : plain.Rules). AreAsking asking rs.rules) answers.1.rules asks) loose free in
     let before = truth_seen held rules parameters old in
     let after = truth_seen held rules parameters new in
-    let is_next : next ≡ remembered changes (SourceEdited made asking) = e ∙ ap (λ (c : Change). remembered changes (SourceEdited c asking)) same in
+    let is_next : next ≡ remembered changes (SourceEdited made asking loose) = e ∙ ap (λ (c : Change). remembered changes (SourceEdited c asking loose)) same in
     record {
       agrees = subst (λ (cs : List WorldChange). Agrees answered after cs) (sym is_next)
-          (agrees_after changes (SourceEdited made asking) answered before after
-          (alike answering (SourceEdited made asking) (world_of sheet called parameters (seen sight old)) (world_of sheet called parameters (seen sight new))
+          (agrees_after changes (SourceEdited made asking loose) answered before after
+          (alike answering (SourceEdited made asking loose) (world_of sheet called parameters (seen sight old)) (world_of sheet called parameters (seen sight new))
           comes before after (answers_so held sheet answers.1 parameters (seen sight old)) (answers_so held sheet answers.1 parameters (seen sight new))) h.agrees);
-      own = sheet_stays changes next (SourceEdited made asking) (OwnDecides held answered own) is_next h.own;
+      own = sheet_stays changes next (SourceEdited made asking loose) (OwnDecides held answered own) is_next h.own;
     }
 
 pub move_stays : Answering → (held : world.Stylesheet) (rules : SpaceRules) (method : Option (Method Expanded)) (parameters : Parameters)

@@ -21,9 +21,9 @@ use Rattle.spec_move.specs.Changed.{MoveChange, IsMove, move_change}
 use Rattle.spec_node.specs.declared.node_ref.NodeRef.{NodeRef}
 use Rattle.xt_tree.specs.Numbers.{IsNumbered, are_distinct}
 use Rattle.xt_tree.proofs.Bools.{not_true, true_false}
-use Rattle.spec_touch.specs.Leads.{KeepsSpace, Leads, seen_change}
-use Rattle.spec_touch.specs.Marks.{ComesTo, by_edit, by_move, by_modules_alone, by_value, SourceEdited, SourceMoved, ModulesChanged, ParameterGiven, Anything}
-use Rattle.spec_touch.specs.Marks.{IsSound, KeepsPlain, KeepsUnits, SameButSource, World, WorldChange, answers, any_marks, marks}
+use Rattle.spec_touch.specs.Leads.{AreLooseBelow, KeepsSpace, Leads, seen_change}
+use Rattle.spec_touch.specs.Marks.{ComesTo, by_edit, by_move, by_modules_alone, by_value, ComeTo, none_more, one_more, SourceEdited, SourceMoved, ModulesChanged, ParameterGiven, Anything}
+use Rattle.spec_touch.specs.Marks.{IsSound, KeepsPlain, KeepsUnits, SameButSource, World, WorldChange, answers, any_asks, asks}
 use Rattle.spec_touch.specs.Plain.{AreAsking}
 use Rattle.spec_touch.proofs.Answering.{neither-first, neither-second}
 use Rattle.xt_touch.specs.View.{keep_sheet, keeps_sheet, most_remembered, remembered}
@@ -33,7 +33,7 @@ use Rattle.xt_held.specs.RunView.{Agrees, Ask, IsFaultless}
 -- the laws on which this rests: of worlds, and of edits
 abbrev pub Answering : Type 0
 Answering =
-    (change : WorldChange) (old new : World) → ComesTo change old new → (question : Question NodeRef) → marks change question ≡ false
+    (changes : List WorldChange) (old new : World) → ComeTo changes old new → (question : Question NodeRef) → any_asks changes question ≡ false
     → answers old question ≡ answers new question
 
 abbrev after_edit : Document ℕ → Edited ℕ → Document ℕ
@@ -126,11 +126,11 @@ same_but_source sheet called parameters old new = record { sheet = refl; called 
 
 pub edit_comes : (sheet : Sheet) (called : Place → NodeRef) (parameters : Parameters) (rules : List SpaceRule) (asking : List (Option Expanded))
     (edit : Edit) (old new : Document ℕ) → IsSound old → IsEdit edit old new → (change : Change) → change_of edit old new ≡ Some change
-    → AreAsking asking sheet.rules.rules
-    → ComesTo (SourceEdited (seen_change change (seen rules old) (seen rules new)) asking) (world_of sheet called parameters (seen rules old))
+    → AreAsking asking sheet.rules.rules → (loose : List ℕ) → AreLooseBelow loose change.node (seen rules new)
+    → ComesTo (SourceEdited (seen_change change (seen rules old) (seen rules new)) asking loose) (world_of sheet called parameters (seen rules old))
     (world_of sheet called parameters (seen rules new))
-edit_comes sheet called parameters rules asking edit old new sound q change told asks =
-    by_edit rules edit old new sound q change told refl refl asks (same_but_source sheet called parameters (seen rules old) (seen rules new))
+edit_comes sheet called parameters rules asking edit old new sound q change told asks loose free =
+    by_edit rules edit old new sound q change told refl refl asks free (same_but_source sheet called parameters (seen rules old) (seen rules new))
 
 pub move_comes : (sheet : Sheet) (called : Place → NodeRef) (parameters : Parameters) (asking : List (Option Expanded))
     (path other : List ℕ) (old new : Document ℕ) → IsSound old → IsMove path other old new → (change : MoveChange)
@@ -159,35 +159,36 @@ value_comes sheet called parameters name value source =
 -- ---- What is answered as it was
 
 abbrev pub AreAlike : WorldChange → (before after : Ask) → Type 0
-AreAlike change before after = (q : Question NodeRef) → marks change q ≡ false → before q ≡ after q
+AreAlike change before after = (q : Question NodeRef) → asks change q ≡ false → before q ≡ after q
 
 -- two that answer as worlds do of which one comes to the other
 pub alike : Answering → (change : WorldChange) (old new : World) → ComesTo change old new → (before after : Ask)
     → ((q : Question NodeRef) → before q ≡ answers old q) → ((q : Question NodeRef) → after q ≡ answers new q) → AreAlike change before after
-alike answering change old new comes before after was is = λ q unmarked. was q ∙ answering change old new comes q unmarked ∙ sym (is q)
+alike answering change old new comes before after was is = λ q unasked.
+    was q ∙ answering (change ∷ []) old new (one_more comes none_more) q (ap (λ b. b || false) unasked) ∙ sym (is q)
 
--- what is marked neither before nor by the change is what is not marked after it
-neither : (q : Question NodeRef) (change : WorldChange) (changes : List WorldChange) → any_marks (changes ++ change ∷ []) q ≡ false
-    → (any_marks changes q ≡ false) × (marks change q ≡ false)
-neither q change [] h = (refl, neither-first (marks change q) false h)
+-- what must be asked neither before nor after the change need not be asked after all
+neither : (q : Question NodeRef) (change : WorldChange) (changes : List WorldChange) → any_asks (changes ++ change ∷ []) q ≡ false
+    → (any_asks changes q ≡ false) × (asks change q ≡ false)
+neither q change [] h = (refl, neither-first (asks change q) false h)
 neither q change (c ∷ cs) h =
-    let rest = neither q change cs (neither-second (marks c q) (any_marks (cs ++ change ∷ []) q) h) in
-    let first = neither-first (marks c q) (any_marks (cs ++ change ∷ []) q) h in
-    (ap (λ b. b || any_marks cs q) first ∙ rest.0, rest.1)
+    let rest = neither q change cs (neither-second (asks c q) (any_asks (cs ++ change ∷ []) q) h) in
+    let first = neither-first (asks c q) (any_asks (cs ++ change ∷ []) q) h in
+    (ap (λ b. b || any_asks cs q) first ∙ rest.0, rest.1)
 
-unmarked : (q : Question NodeRef) (change : WorldChange) (changes : List WorldChange) → any_marks (remembered changes change) q ≡ false
-    → (any_marks changes q ≡ false) × (marks change q ≡ false)
-unmarked q change changes h = by (nat_lt (length changes) most_remembered) h
+unasked : (q : Question NodeRef) (change : WorldChange) (changes : List WorldChange) → any_asks (remembered changes change) q ≡ false
+    → (any_asks changes q ≡ false) × (asks change q ≡ false)
+unasked q change changes h = by (nat_lt (length changes) most_remembered) h
   where
-    by : (b : Bool) → any_marks (cond b (changes ++ change ∷ []) (Anything ∷ [])) q ≡ false → (any_marks changes q ≡ false) × (marks change q ≡ false)
+    by : (b : Bool) → any_asks (cond b (changes ++ change ∷ []) (Anything ∷ [])) q ≡ false → (any_asks changes q ≡ false) × (asks change q ≡ false)
     by true h = neither q change changes h
     by false h = absurd (true_false h)
 
--- what answers as it was where the changes so far do not mark it does so where one more does not, where what that does not mark has its answers
+-- what answers as it was where it need not be asked after the changes so far does so after one more, where what need not be asked after that has its answers
 pub agrees_after : (changes : List WorldChange) (change : WorldChange) (was before after : Ask) → AreAlike change before after → Agrees was before changes
     → Agrees was after (remembered changes change)
 agrees_after changes change was before after same h = λ q u.
-    let both = unmarked q change changes u in
+    let both = unasked q change changes u in
     sym (same q both.1) ∙ h q both.0
 
 -- where anything may be another

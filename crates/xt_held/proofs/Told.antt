@@ -266,8 +266,8 @@ same_told records ms changes next e h = subst (λ (cs : List WorldChange). AreTo
 
 -- ---- An edit of the source, and a move in it
 
-edit_tells : (change : Change) (asking : List (Option Expanded)) → TellsOf (tell.SourceEdited change) (world.SourceEdited change asking)
-edit_tells change asking q h = (and_parts (is_touched change q) (not (spared asking change q)) h).0
+edit_tells : (change : Change) (asking : List (Option Expanded)) (loose : List ℕ) → TellsOf (tell.SourceEdited change) (world.SourceEdited change asking loose)
+edit_tells change asking loose q h = (and_parts (is_touched change q) (not (spared asking change q)) h).0
 
 -- no other question is spared than the choice of a rule
 unspared : (b c : Bool) → c ≡ false → b ≡ true → (b && not c) ≡ true
@@ -289,8 +289,8 @@ spares_choices change asking (Copy node) alone = refl
 spares_choices change asking (UnitOf element) alone = absurd (cc)
 spares_choices change asking (External name) alone = refl
 
-edit_heeds : (change : Change) (asking : List (Option Expanded)) → HeedsOf (tell.SourceEdited change) (world.SourceEdited change asking)
-edit_heeds change asking q alone h = unspared (is_touched change q) (spared asking change q) (spares_choices change asking q alone) h
+edit_heeds : (change : Change) (asking : List (Option Expanded)) (loose : List ℕ) → HeedsOf (tell.SourceEdited change) (world.SourceEdited change asking loose)
+edit_heeds change asking loose q alone h = unspared (is_touched change q) (spared asking change q) (spares_choices change asking q alone) h
 
 moves_spare_choices : (change : MoveChange) (asking : List (Option Expanded)) (q : Question NodeRef) → tell.by_modules q ≡ false
     → spared_by_move asking change q ≡ false
@@ -306,9 +306,9 @@ no_edit_of_units change element = by change.of_attributes
     by true = refl
     by false = refl
 
-edit_units : (records : Pool) (change : Change) (asking : List (Option Expanded))
-    → HeedsUnits records (tell.SourceEdited change) (world.SourceEdited change asking)
-edit_units records change asking element h = absurd (true_false (sym h ∙ no_edit_of_units change element))
+edit_units : (records : Pool) (change : Change) (asking : List (Option Expanded)) (loose : List ℕ)
+    → HeedsUnits records (tell.SourceEdited change) (world.SourceEdited change asking loose)
+edit_units records change asking loose element h = absurd (true_false (sym h ∙ no_edit_of_units change element))
 
 no_move_of_units : (change : MoveChange) (element : NodeRef) → move_touched change (UnitOf element) ≡ false
 no_move_of_units (in_order change) element = no_edit_of_units change element
@@ -331,16 +331,17 @@ pub edit_told : Leading → KeepingSpace → (records : Pool) (ms : List Mark) (
     → IsNumbered old → IsEdit edit old new → (first change : Change) → change_of edit old new ≡ Some first
     → (Leads (seen_change first (seen rules old) (seen rules new)) (seen rules old) (seen rules new)
     → change ≡ seen_change first (seen rules old) (seen rules new))
-    → (asking : List (Option Expanded)) (changes next : List WorldChange) → next ≡ since.remembered changes (world.SourceEdited change asking)
+    → (asking : List (Option Expanded)) (loose : List ℕ) (changes next : List WorldChange)
+    → next ≡ since.remembered changes (world.SourceEdited change asking loose)
     → AreToldBy records ms changes → AreToldBy records (tell.remembered ms (edit_marks (Some rules) edit old new)) next
-edit_told leading keeping records ms rules edit old new faultless numbers q first change is seen_so asking changes next e h =
+edit_told leading keeping records ms rules edit old new faultless numbers q first change is seen_so asking loose changes next e h =
     let same = seen_so (leads_so leading keeping rules edit old new q (sound_of old numbers faultless) first is) in
     let mark : edit_marks (Some rules) edit old new ≡ tell.SourceEdited change
     = ap (edited_so rules old new) is ∙ ap (λ (c : Change). tell.SourceEdited c) (sym same) in
     subst (λ (cs : List WorldChange). AreToldBy records (tell.remembered ms (edit_marks (Some rules) edit old new)) cs) (sym e)
-    (subst (λ (m : Mark). AreToldBy records (tell.remembered ms m) (since.remembered changes (world.SourceEdited change asking))) (sym mark)
-    (told_and records ms (tell.SourceEdited change) changes (world.SourceEdited change asking) (edit_tells change asking) (edit_heeds change asking)
-    (edit_units records change asking) h))
+    (subst (λ (m : Mark). AreToldBy records (tell.remembered ms m) (since.remembered changes (world.SourceEdited change asking loose))) (sym mark)
+    (told_and records ms (tell.SourceEdited change) changes (world.SourceEdited change asking loose) (edit_tells change asking loose)
+    (edit_heeds change asking loose) (edit_units records change asking loose) h))
 
 pub move_told : (records : Pool) (ms : List Mark) (is : Option MoveChange) (change : MoveChange) → Some change ≡ is
     → (asking : List (Option Expanded)) (changes next : List WorldChange) → next ≡ since.remembered changes (world.SourceMoved change asking)

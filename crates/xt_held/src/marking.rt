@@ -13,8 +13,8 @@ ghost use Rattle.spec_structure.specs.Modules.{Modules};
 ghost use Rattle.spec_stylesheet.specs.Sheet.{Sheet};
 ghost use Rattle.spec_stylesheet.specs.declared.method.Method.{Method};
 ghost use Rattle.spec_touch.specs.Leads as leads;
-ghost use Rattle.spec_touch.specs.Leads.{Leads};
-ghost use Rattle.xt_edit.specs.Telling.{change_in};
+ghost use Rattle.spec_touch.specs.Leads.{AreLooseBelow, Leads};
+ghost use Rattle.xt_edit.specs.Telling.{change_in, numbers_in};
 ghost use Rattle.xt_edit.specs.View.{edit_of};
 ghost use Rattle.xt_record.specs.declared.pool.Pool.{Pool as Records};
 ghost use Rattle.xt_syntax.specs.SheetView.{space_rules_of};
@@ -34,7 +34,7 @@ ghost use Rattle.xt_held.specs.declared.stylesheet.Compiled.TheVariants as compi
 use crate::sighting::{change_of, move_change_of};
 use crate::stylesheet::Compiled;
 use spec_touch::{
-    edits_keep_space, edits_lead_as_they_are_seen, unmarked_questions_keep_their_answers_in_worlds,
+    edits_keep_space, edits_lead_as_they_are_seen, what_need_not_be_asked_keeps_its_answers,
 };
 use std::alloc::Global;
 use xt_edit::{Change, Edit};
@@ -42,8 +42,8 @@ use xt_record::Pool;
 use xt_strip::Sighted;
 use xt_syntax::SpaceRules;
 use xt_text::{Memory, Path, Text};
-use xt_touch::{Elements, Modes, Since, WorldChange, seen_change};
-use xt_tree::NodeRef;
+use xt_touch::{Elements, Modes, Since, WorldChange, loose_children, seen_change};
+use xt_tree::{NodeId, NodeRef};
 use xt_world::{Stylesheet, same_plain_choices, same_rules, same_units};
 
 /// After this edit, which makes the new source of the old one.
@@ -91,30 +91,37 @@ fn since_edit_of(
     ensures told { (records : Records) (marks : List Mark) → AreToldBy records marks (since_of since.now) → IfOk result (λ next.
         AreToldBy records (remembered marks (edit_marks (Some (space_rules_of space_rules.now).rules) (edit_of edit.now) old.now new.now)) (since_of next)) }
 {
-    unmarked_questions_keep_their_answers_in_worlds();
+    what_need_not_be_asked_keeps_its_answers();
     edits_lead_as_they_are_seen();
     edits_keep_space();
     old.distinct_numbers();
     let told = change_of(alloc, old, edit, new)?;
-    let change = change_seen(alloc, space_rules, told, old, new)?;
+    let (change, loose) = change_seen(alloc, space_rules, told, old, new)?;
     let Ok(asking) = Modes::asking(alloc, stylesheet.rules.rules.as_slice()) else {
+        drop(loose);
         drop(change);
         return Err(Memory);
     };
-    since.and(alloc, WorldChange::SourceEdited { change, asking })
+    let edited = WorldChange::SourceEdited {
+        change,
+        asking,
+        loose,
+    };
+    since.and(alloc, edited)
 }
 
-// The change as these rules for white space let it be seen.
+// The change as these rules for white space let it be seen, and all children of its node, after it, that are no elements.
 fn change_seen(
     alloc: Global,
     space_rules: &SpaceRules,
     change: Change,
     old: &Sighted,
     new: &Sighted,
-) -> Result<Change, Memory>
-    ensures { IfOk result (λ told. let rules = (space_rules_of space_rules.now).rules in
+) -> Result<(Change, Vec<NodeId>), Memory>
+    ensures told { IfOk result (λ seen. let rules = (space_rules_of space_rules.now).rules in
         let is = leads.seen_change (change_in change) (sight.seen rules old.now) (sight.seen rules new.now) in
-        Leads is (sight.seen rules old.now) (sight.seen rules new.now) → change_in told ≡ is) }
+        Leads is (sight.seen rules old.now) (sight.seen rules new.now) → change_in seen.0 ≡ is) }
+    ensures loose { IfOk result (λ seen. AreLooseBelow (numbers_in seen.1.items) (change_in change).node (sight.seen (space_rules_of space_rules.now).rules new.now)) }
 {
     let Ok(old) = old.seen(alloc, space_rules) else {
         drop(change);
@@ -126,10 +133,33 @@ fn change_seen(
         return Err(Memory);
     };
     let told = seen_change(alloc, &change, &old, &new);
+    let loose = loose_children(alloc, &new, change.node);
     drop(new);
     drop(old);
     drop(change);
-    told
+    both(told, loose)
+}
+
+fn both(
+    told: Result<Change, Memory>,
+    loose: Result<Vec<NodeId>, Memory>,
+) -> Result<(Change, Vec<NodeId>), Memory>
+    ensures told { IfOk result (λ seen. told ≡ Ok seen.0) }
+    ensures loose { IfOk result (λ seen. loose ≡ Ok seen.1) }
+{
+    match told {
+        Err(Memory) => {
+            drop(loose);
+            Err(Memory)
+        }
+        Ok(told) => match loose {
+            Err(Memory) => {
+                drop(told);
+                Err(Memory)
+            }
+            Ok(loose) => Ok((told, loose)),
+        },
+    }
 }
 
 /// After the move of the node at the first path before what is at the second, which makes the new source of the old one.
@@ -189,7 +219,7 @@ fn since_move_of(
     ensures told { (records : Records) (marks : List Mark) → AreToldBy records marks (since_of since.now) → IfOk result (λ next.
         AreToldBy records (remembered marks (moved_so (move_change path.now other.now old.now new.now))) (since_of next)) }
 {
-    unmarked_questions_keep_their_answers_in_worlds();
+    what_need_not_be_asked_keeps_its_answers();
     old.distinct_numbers();
     match move_change_of(alloc, old, path, other, new)? {
         None => Since::anything(alloc),
@@ -274,7 +304,7 @@ fn since_other(
     ensures told { (marks : List Mark) → AreToldBy records.now marks (since_of since.now)
         → IfOk result (λ next. AreToldBy records.now (remembered marks Restyled) (since_of next)) }
 {
-    unmarked_questions_keep_their_answers_in_worlds();
+    what_need_not_be_asked_keeps_its_answers();
     let units = units_alike(alloc, records, old, new)?;
     let Ok(asking) = modes_alike(alloc, old, new) else {
         drop(units);
@@ -358,7 +388,7 @@ pub(crate) fn since_parameter(alloc: Global, since: &Since, name: &Text) -> Resu
     ensures told { (records : Records) (marks : List Mark) → AreToldBy records marks (since_of since.now)
         → IfOk result (λ next. AreToldBy records (remembered marks (Given name.now)) (since_of next)) }
 {
-    unmarked_questions_keep_their_answers_in_worlds();
+    what_need_not_be_asked_keeps_its_answers();
     let name = name.copy(alloc)?;
     since.and(alloc, WorldChange::ParameterGiven(name))
 }

@@ -10,7 +10,7 @@ use Rattle.spec_meaning.specs.Question.{Question, Step, Text, Name, Place, Order
 use Rattle.spec_meaning.proofs.Runs.{agreement}
 use Rattle.spec_transform.specs.Key.{no_globals}
 use Rattle.spec_run.specs.Documents.{Parameters}
-use Rattle.spec_touch.specs.Marks.{WorldChange, any_marks}
+use Rattle.spec_touch.specs.Marks.{WorldChange, any_asks}
 use Rattle.spec_node.specs.Naming.{same_part}
 use Rattle.spec_node.specs.declared.node_ref.NodeRef.{NodeRef}
 use Rattle.spec_node.specs.declared.node_ref.Part.{Part}
@@ -56,13 +56,13 @@ agree_last : (other was : Ask) (q : Question NodeRef) (done : List (Question Nod
 agree_last other was q [] a = (tt, a.0)
 agree_last other was q (x ∷ xs) a = let rest = agree_last other was q xs a.1 in ((a.0, rest.0), rest.1)
 
-agree_unmarked : (was ask : Ask) (changes : List WorldChange) (qs : List (Question NodeRef)) → Agrees was ask changes
-    → list_any (any_marks changes) qs ≡ false → AgreeOn ask was qs
-agree_unmarked was ask changes [] agrees e = tt
-agree_unmarked was ask changes (q ∷ qs) agrees e = by (any_marks changes q) refl (agree_unmarked was ask changes qs agrees) e
+agree_unasked : (was ask : Ask) (changes : List WorldChange) (qs : List (Question NodeRef)) → Agrees was ask changes
+    → list_any (any_asks changes) qs ≡ false → AgreeOn ask was qs
+agree_unasked was ask changes [] agrees e = tt
+agree_unasked was ask changes (q ∷ qs) agrees e = by (any_asks changes q) refl (agree_unasked was ask changes qs agrees) e
   where
-    by : (b : Bool) → any_marks changes q ≡ b → (list_any (any_marks changes) qs ≡ false → AgreeOn ask was qs)
-        → (b || list_any (any_marks changes) qs) ≡ false → AgreeOn ask was (q ∷ qs)
+    by : (b : Bool) → any_asks changes q ≡ b → (list_any (any_asks changes) qs ≡ false → AgreeOn ask was qs)
+        → (b || list_any (any_asks changes) qs) ≡ false → AgreeOn ask was (q ∷ qs)
     by true is rest h = absurd (cc)
     by false is rest h = (agrees q is, rest h)
 
@@ -156,13 +156,13 @@ known_node s first before name own texts has kept unmatched = record {
 
 -- ---- A node that stays
 
--- its values are as before where no change marks what it is called or what was asked for them
-pub unmarked_stays : (s : Stylesheet) (was ask : Ask) (changes : List WorldChange) (name : Expanded) (own : OwnNode) → Agrees was ask changes
-    → any_marks changes (Name own.node) ≡ false → list_any (any_marks changes) (questions_of own.reads.items) ≡ false → HasAsBefore s was ask name own own
-unmarked_stays s was ask changes name own agrees named unmarked = λ texts known. record {
+-- its values are as before where after no change it must be asked what it is called or what was asked for them
+pub unasked_stays : (s : Stylesheet) (was ask : Ask) (changes : List WorldChange) (name : Expanded) (own : OwnNode) → Agrees was ask changes
+    → any_asks changes (Name own.node) ≡ false → list_any (any_asks changes) (questions_of own.reads.items) ≡ false → HasAsBefore s was ask name own own
+unasked_stays s was ask changes name own agrees named unasked = λ texts known. record {
   decided = λ there document called agree.
       known.decided there document (called ∙ agrees (Name own.node) named)
-      (agree_on (truth_in s there document) ask was (questions_of own.reads.items) agree (agree_unmarked was ask changes (questions_of own.reads.items) agrees unmarked));
+      (agree_on (truth_in s there document) ask was (questions_of own.reads.items) agree (agree_unasked was ask changes (questions_of own.reads.items) agrees unasked));
   unmatched = known.unmatched;
 }
 
@@ -172,9 +172,9 @@ pub none_as_before : (s : Stylesheet) (was ask : Ask) (name : Expanded) (old new
 none_as_before s was ask name old new unmatched none = λ texts known. let P : List (List ℕ) → Type 0 = IsNodeOf s ask name new in subst P (sym (known.unmatched unmatched)) none
 
 -- the same over what was read of the node
-pub marked_so : (s : Stylesheet) (was ask : Ask) (changes : List WorldChange) (name : Expanded) (own : OwnNode) {one other : OwnNode} {reads : List CodeQuestion} → Agrees was ask changes
-    → one ≡ own → any_marks changes (Name one.node) ≡ false → other ≡ own → reads ≡ other.reads.items → list_any (any_marks changes) (questions_of reads) ≡ false
+pub unasked_so : (s : Stylesheet) (was ask : Ask) (changes : List WorldChange) (name : Expanded) (own : OwnNode) {one other : OwnNode} {reads : List CodeQuestion} → Agrees was ask changes
+    → one ≡ own → any_asks changes (Name one.node) ≡ false → other ≡ own → reads ≡ other.reads.items → list_any (any_asks changes) (questions_of reads) ≡ false
     → HasAsBefore s was ask name own own
-marked_so s was ask changes name own agrees is named also slice unmarked =
-    unmarked_stays s was ask changes name own agrees (ap (λ (n : OwnNode). any_marks changes (Name n.node)) (sym is) ∙ named)
-    (ap (λ (qs : List CodeQuestion). list_any (any_marks changes) (questions_of qs)) (sym (slice ∙ ap (λ (n : OwnNode). n.reads.items) also)) ∙ unmarked)
+unasked_so s was ask changes name own agrees is named also slice unasked =
+    unasked_stays s was ask changes name own agrees (ap (λ (n : OwnNode). any_asks changes (Name n.node)) (sym is) ∙ named)
+    (ap (λ (qs : List CodeQuestion). list_any (any_asks changes) (questions_of qs)) (sym (slice ∙ ap (λ (n : OwnNode). n.reads.items) also)) ∙ unasked)

@@ -7,7 +7,7 @@ use Rattle.spec_document.specs.Name.{Expanded}
 use Rattle.spec_meaning.specs.Question.{Question, Step, Text, Name, Place, Order, Key, Choice, Copy, Unit as UnitOf, External}
 use Rattle.spec_node.specs.declared.node_ref.NodeRef.{NodeRef}
 use Rattle.spec_run.specs.Documents.{Parameters}
-use Rattle.spec_touch.specs.Marks.{WorldChange, any_marks}
+use Rattle.spec_touch.specs.Marks.{WorldChange, any_asks}
 use Rattle.xt_text.specs.declared.memory.Memory.{Memory}
 use Rattle.xt_touch.specs.View.{since_of}
 use Rattle.xt_spared.specs.View.{Agrees, Ask, IsAmong, IsSpared, KeysStay, Own, Spares, all_stay, by_itself, by_reads, is_key_among, owns_in, owns_of, stays}
@@ -33,14 +33,14 @@ no_keys was ask (External name) h = absurd (cc)
 
 -- what stays is answered alike
 same_if : {A : Type 0} (marked known : Bool) (a b : A) → (marked ≡ false → a ≡ b) → (known ≡ true → a ≡ b) → (not marked || known) ≡ true → a ≡ b
-same_if false known a b unmarked is h = unmarked refl
-same_if true true a b unmarked is h = is refl
-same_if true false a b unmarked is h = absurd (cc)
+same_if false known a b unasked is h = unasked refl
+same_if true true a b unasked is h = is refl
+same_if true false a b unasked is h = absurd (cc)
 
 one_stays : (was ask : Ask) (changes : List WorldChange) (names : List Expanded) → Agrees was ask changes → KeysStay was ask names
     → (q : Question NodeRef) → stays changes names q ≡ true → ask q ≡ was q
 one_stays was ask changes names agrees keys q h =
-    same_if (any_marks changes q) (is_key_among names q) (ask q) (was q) (agrees q) (keys q) h
+    same_if (any_asks changes q) (is_key_among names q) (ask q) (was q) (agrees q) (keys q) h
 
 all_agree : (was ask : Ask) (changes : List WorldChange) (names : List Expanded) → Agrees was ask changes → KeysStay was ask names
     → (qs : List (Question NodeRef)) → all_stay changes names qs ≡ true → AgreeOn ask was qs

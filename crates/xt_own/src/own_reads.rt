@@ -81,7 +81,7 @@ impl OwnReads {
     }
 }
 
-// Nothing is spared but what the changes do not mark.
+// Nothing is spared but what need not be asked after the changes.
 fn nothing_kept<'a>(alloc: Global, since: &'a Since) -> Prepared<'a>
     ensures since { result.spared.since.now ≡ since.now }
     ensures names { result.spared.keys.items ≡ [] }

@@ -6,7 +6,7 @@ ghost use Rattle.std.specs.declared.rc.Rc.{Rc as RcSpec};
 ghost use Rattle.spec_document.specs.Name.{Expanded as ExpandedName};
 ghost use Rattle.spec_meaning.specs.Question as question;
 ghost use Rattle.spec_run.specs.Documents.{Parameters};
-ghost use Rattle.spec_touch.specs.Marks.{any_marks};
+ghost use Rattle.spec_touch.specs.Marks.{any_asks};
 ghost use Rattle.xt_touch.specs.View.{since_of};
 ghost use Rattle.xt_spared.specs.View.{Agrees, Ask, questions_of};
 ghost use Rattle.xt_world.specs.View.{truth_in};
@@ -34,7 +34,7 @@ pub(crate) struct Scene<'a> {
 }
 
 /// The nodes of now, each with what is asked for its values, where the nodes that have a value are as before: no question of
-/// a node that stays is marked, and no node that is gone or came matches an xsl:key. None otherwise.
+/// a node that stays must be asked again, and no node that is gone or came matches an xsl:key. None otherwise.
 pub(crate) fn nodes_that_stay(
     alloc: Global,
     before: &[Rc<OwnNode>],
@@ -146,7 +146,7 @@ fn pass_new(
     }
 }
 
-// A node that is in both, with what is asked of it. None where one of its questions is marked; or where it is gone and
+// A node that is in both, with what is asked of it. None where one of its questions must be asked again; or where it is gone and
 // came again, and matches.
 fn one_that_stays(
     alloc: Global,
@@ -157,10 +157,10 @@ fn one_that_stays(
     ensures stays { (was : Ask) (parameters : Parameters) → Agrees was (truth_in scene.now.stylesheet.now parameters scene.now.document.now) (since_of scene.now.since.now)
         → IfOk result (λ o. IfSome o (λ new. HasAsBefore scene.now.stylesheet.now was (truth_in scene.now.stylesheet.now parameters scene.now.document.now) scene.now.name.now old.now.value new.value)) }
 {
-    if is_name_marked(scene.since, old.node) {
+    if must_ask_name(scene.since, old.node) {
         return one_that_came_again(alloc, old, scene);
     }
-    if some_marked(scene.since, old.reads.as_slice()) {
+    if must_ask_some(scene.since, old.reads.as_slice()) {
         return Ok(None);
     }
     let shared = old.clone()?;
@@ -205,22 +205,22 @@ fn unless_it_matches(new: Rc<OwnNode>) -> Option<Rc<OwnNode>>
     Some(new)
 }
 
-// Whether a change marks what the node is called: it is gone, or it came.
-fn is_name_marked(since: &Since, node: NodeRef) -> bool
-    ensures { result ≡ any_marks (since_of since.now) (question.Name node) }
+// Whether after a change it must be asked what the node is called: it is gone, or it came.
+fn must_ask_name(since: &Since, node: NodeRef) -> bool
+    ensures { result ≡ any_asks (since_of since.now) (question.Name node) }
 {
     let question = Question::Name(node);
-    let is_marked = since.marks(&question);
+    let must_ask = since.asks(&question);
     drop(question);
-    is_marked
+    must_ask
 }
 
-// Whether a change marks one of these.
-fn some_marked(since: &Since, questions: &[Question]) -> bool
-    ensures { result ≡ list_any (any_marks (since_of since.now)) (questions_of questions.now) }
+// Whether after a change one of these must be asked.
+fn must_ask_some(since: &Since, questions: &[Question]) -> bool
+    ensures { result ≡ list_any (any_asks (since_of since.now)) (questions_of questions.now) }
 {
     for question in questions {
-        if since.marks(question) {
+        if since.asks(question) {
             return true;
         }
     }

@@ -19,7 +19,7 @@ use xt_tree::{Doc, NodeRef};
 use xt_world::Stylesheet;
 
 /// The keys that stay after these changes: each has as many nodes as there are now, and answers for each value as before.
-/// No question of a node that stays is marked, and no node that is gone or came matches an xsl:key of the name.
+/// No question of a node that stays must be asked again, and no node that is gone or came matches an xsl:key of the name.
 pub(crate) fn keys_that_stay(
     alloc: Global,
     keys: &[OwnKey],

@@ -15,6 +15,13 @@ use Rattle.xt_record.specs.declared.reuse.Steps.{Steps}
 use Rattle.xt_record.specs.declared.reuse.Verdict.{Verdict}
 use Rattle.xt_record.specs.declared.reuse.Verdict.TheVariants.{Unasked, Holds, Fails}
 
+-- what was judged was asked
+pub holds_asked : Holds ≡ Unasked → ⊥
+holds_asked e = absurd (cc)
+
+pub fails_asked : Fails ≡ Unasked → ⊥
+fails_asked e = absurd (cc)
+
 module _ (changes : List WorldChange) where
   marked_first : (e : Event NodeRef) (es : List (Event NodeRef)) → marked_in changes (e ∷ es) ≡ marked_in changes (e ∷ []) + marked_in changes es
   marked_first (Asked q a) es = omega arith
@@ -42,6 +49,11 @@ module _ (changes : List WorldChange) where
   marked_before (x ∷ es) zero = omega arith
   marked_before (x ∷ es) (suc i) =
       omega (arith, marked_first (event_of x) (map event_of (take i es)), marked_first (event_of x) (map event_of es), marked_before es i)
+
+  -- one is marked among all where it is by itself
+  pub one_marked : (es : List CodeEvent) (i : ℕ) (e : CodeEvent) → i < length es → e ≡ get_or es i e → 0 < marked_in changes (event_of e ∷ [])
+      → 0 < marked_in changes (map event_of es)
+  one_marked es i e lt at h = omega (arith, h, marked_next es i e lt at, marked_before es (suc i))
 
   -- what was asked of those before one, and then of this one
   pub asks_next : {before between after : Steps} (es : List CodeEvent) (i : ℕ) (e : CodeEvent) → i < length es → e ≡ get_or es i e
@@ -74,6 +86,12 @@ module _ (changes : List WorldChange) where
   left_judged holds Holds vs r rs is = refl
   left_judged holds Fails vs r rs is = refl
 
+  left_was : (v : Verdict) (vs : List Verdict) (r : Rc Record Global) (rs : List (Rc Record Global)) → (v ≡ Unasked → ⊥)
+      → marked_left changes (v ∷ vs) (r ∷ rs) ≡ marked_left changes vs rs
+  left_was Unasked vs r rs was = absurd (was refl)
+  left_was Holds vs r rs was = refl
+  left_was Fails vs r rs was = refl
+
   left_first : (v : Verdict) (vs : List Verdict) (r : Rc Record Global) (rs : List (Rc Record Global)) → v ≡ Unasked
       → marked_left changes (v ∷ vs) (r ∷ rs) ≡ marked_in changes (kept_in r.value).trace + marked_left changes vs rs
   left_first Unasked vs r rs is = refl
@@ -86,8 +104,33 @@ module _ (changes : List WorldChange) where
   left_others Holds vs ws r rs n h = h
   left_others Fails vs ws r rs n h = h
 
+  -- no more is left than there is
+  pub left_most : (vs : List Verdict) (rs : List (Rc Record Global)) → marked_left changes vs rs ≤ marked_among changes rs
+  left_most [] rs = omega arith
+  left_most (v ∷ vs) [] = omega arith
+  left_most (Unasked ∷ vs) (r ∷ rs) = omega (arith, left_most vs rs)
+  left_most (Holds ∷ vs) (r ∷ rs) = omega (arith, left_most vs rs)
+  left_most (Fails ∷ vs) (r ∷ rs) = omega (arith, left_most vs rs)
+
+  left_more : (v : Verdict) (vs : List Verdict) (r : Rc Record Global) (rs : List (Rc Record Global)) (n : ℕ)
+      → marked_left changes vs rs + n ≤ marked_among changes rs → marked_left changes (v ∷ vs) (r ∷ rs) + n ≤ marked_among changes (r ∷ rs)
+  left_more Unasked vs r rs n h = omega (arith, h)
+  left_more Holds vs r rs n h = omega (arith, h)
+  left_more Fails vs r rs n h = omega (arith, h)
+
+  -- a record that was judged has none left
+  pub left_at : (vs : List Verdict) (rs : List (Rc Record Global)) (i : ℕ) (v : Verdict) (r : Rc Record Global) → i < length vs → i < length rs
+      → v ≡ get_or vs i v → (v ≡ Unasked → ⊥) → r.value ≡ (get_or rs i r).value
+      → marked_left changes vs rs + marked_in changes (kept_in r.value).trace ≤ marked_among changes rs
+  left_at [] rs i v r lv lr vat was at = absurd (omega arith)
+  left_at (x ∷ vs) [] i v r lv lr vat was at = absurd (omega arith)
+  left_at (x ∷ vs) (y ∷ rs) zero v r lv lr vat was at =
+      omega (arith, left_was x vs y rs (λ e. was (vat ∙ e)), left_most vs rs, ap (λ z. marked_in changes (kept_in z).trace) at)
+  left_at (x ∷ vs) (y ∷ rs) (suc i) v r lv lr vat was at =
+      left_more x vs y rs (marked_in changes (kept_in r.value).trace) (left_at vs rs i v r (omega arith) (omega arith) vat was at)
+
   -- a record that is judged has none left
-  left_now : (holds : Bool) (w : Verdict) (vs : List Verdict) (rs : List (Rc Record Global)) (i : ℕ) (v : Verdict) (r : Rc Record Global)
+  pub left_now : (holds : Bool) (w : Verdict) (vs : List Verdict) (rs : List (Rc Record Global)) (i : ℕ) (v : Verdict) (r : Rc Record Global)
       → w ≡ verdict_of holds → i < length vs → v ≡ get_or vs i v → v ≡ Unasked → i < length rs → r.value ≡ (get_or rs i r).value
       → marked_left changes (set vs i w) rs + marked_in changes (kept_in r.value).trace ≡ marked_left changes vs rs
   left_now holds w [] rs i v r to lv vat is lr at = absurd (omega arith)

@@ -14,18 +14,17 @@ use Rattle.xt_record.specs.declared.record.Record.{Record}
 
 -- ---- What was found
 
-pub found : {P Q : NodeRef → Type 0} (unit : Option NodeRef) → is_some unit ≡ true → ((element : NodeRef) → P element → Q element)
-    → IfSome unit (λ element. P element) → IfSome unit (λ element. Q element)
+pub found : {X : Type 0} {P Q : X → Type 0} (o : Option X) → is_some o ≡ true → ((x : X) → P x → Q x) → IfSome o P → IfSome o Q
 found None is more h = absurd (cc)
-found (Some element) is more h = more element h
+found (Some x) is more h = more x h
 
-pub found_some : (P : Type 0) (unit : Option NodeRef) → is_some unit ≡ true → IfNone unit P
+pub found_some : {X : Type 0} (P : Type 0) (o : Option X) → is_some o ≡ true → IfNone o P
 found_some P None is = absurd (cc)
-found_some P (Some element) is = tt
+found_some P (Some x) is = tt
 
-pub found_none : {P : Type 0} (unit : Option NodeRef) → is_some unit ≡ false → IfNone unit P → P
+pub found_none : {X P : Type 0} (o : Option X) → is_some o ≡ false → IfNone o P → P
 found_none None is h = h
-found_none (Some element) is h = absurd (cc)
+found_none (Some x) is h = absurd (cc)
 
 -- ---- Among what was done
 

@@ -1,34 +1,26 @@
 -- Where none of the questions is marked but choices and keys.
 use Rattle.std.proofs.Common.{◌≡◌, ℕ, zero, suc, ◌+◌, ◌-◌, ◌<◌, Bool, true, false, List, [], ◌∷◌, ◌++◌, map, take, drop, length, get_or, set, replicate, slice_get, Some, refl, sym, ap, subst, ◌∙◌, append_assoc, length-append, arith}
-use Rattle.std.specs.Prelude.{IfSome}
+use Rattle.std.specs.Prelude.{◌&&◌, IfSome, not}
+use Rattle.std.proofs.lemmas.Bool.{and_parts}
 use Rattle.std.specs.declared.rc.Rc.{Rc}
 use Rattle.std.specs.declared.alloc.Global.{Global}
-use Rattle.spec_meaning.specs.Question.{Question}
+use Rattle.spec_meaning.specs.Question.{Answer, Question}
 use Rattle.spec_run.specs.Going.{Event, Asked, Saw, Entered, Held}
 use Rattle.spec_node.specs.declared.node_ref.NodeRef.{NodeRef}
 use Rattle.spec_touch.specs.Marks.{WorldChange, any_marks}
 use Rattle.xt_engine.specs.View.{event_of}
 use Rattle.xt_engine.specs.declared.event.Event.{Event as CodeEvent}
+use Rattle.xt_spared.specs.View.{by_own_reads}
 use Rattle.xt_touch.specs.Named.{Covers}
 use Rattle.xt_touch.specs.declared.named.Named.{Named}
-use Rattle.xt_record.specs.Asked.{NoneMarked, NoneMarkedAmong, NoneMarkedJudged}
+use Rattle.xt_record.specs.Asked.{NoneMarked, NoneMarkedAmong, marked_in, one_if}
 use Rattle.xt_record.specs.Grown.{values_of, AllNamed, AreTrees, AsksNamed, IsTreeAt}
-use Rattle.xt_record.specs.Sure.{verdict_of}
 use Rattle.xt_record.specs.View.{kept_in}
 use Rattle.xt_record.specs.declared.pool.Pool.{Pool}
 use Rattle.xt_record.specs.declared.record.Record.{Record}
-use Rattle.xt_record.specs.declared.reuse.Verdict.{Verdict}
-use Rattle.xt_record.specs.declared.reuse.Verdict.TheVariants.{Unasked, Holds, Fails}
 use Rattle.xt_record.specs.declared.tree.Summary.{Summary}
 use Rattle.xt_record.specs.declared.tree.Tree.{Tree}
 use Rattle.xt_record.proofs.Grown.{at_item, drop_front, there}
-
--- what was judged was asked
-pub holds_asked : Holds ≡ Unasked → ⊥
-holds_asked e = absurd (cc)
-
-pub fails_asked : Fails ≡ Unasked → ⊥
-fails_asked e = absurd (cc)
 
 module _ (changes : List WorldChange) where
   -- ---- Of what was done, one after the other
@@ -61,59 +53,20 @@ module _ (changes : List WorldChange) where
       both_none (event_of x) (map event_of (take (suc i) es)) (first_none (event_of x) before h)
       (none_more es i e (omega arith) at k (others_none (event_of x) before h))
 
-  -- ---- Of records that are judged
+  -- ---- Of one question
+
+  pub marked_alone : (q : Question NodeRef) (a : Answer NodeRef) → (not (by_own_reads q) && any_marks changes q) ≡ true
+      → 0 < marked_in changes (Asked q a ∷ [])
+  marked_alone q a h = omega (arith, ap one_if (and_parts (not (by_own_reads q)) (any_marks changes q) h).1)
+
+  pub unmarked_alone : (q : Question NodeRef) (a : Answer NodeRef) → (not (by_own_reads q) && any_marks changes q) ≡ false
+      → NoneMarked changes (Asked q a ∷ [])
+  unmarked_alone q a h = (λ alone. ap (λ b. not b && any_marks changes q) (sym alone) ∙ h, tt)
+
+  -- ---- Of records from a turn on
 
   abbrev NoneIn : Record → Type 0
   NoneIn r = NoneMarked changes (kept_in r).trace
-
-  pub none_judged : (n : ℕ) (rs : List (Rc Record Global)) → NoneMarkedJudged changes (replicate n Unasked) rs
-  none_judged zero rs = tt
-  none_judged (suc n) [] = tt
-  none_judged (suc n) (r ∷ rs) = none_judged n rs
-
-  judged_by : (holds : Bool) (v : Verdict) (vs : List Verdict) (r : Rc Record Global) (rs : List (Rc Record Global)) → v ≡ verdict_of holds → NoneIn r.value
-      → NoneMarkedJudged changes vs rs → NoneMarkedJudged changes (v ∷ vs) (r ∷ rs)
-  judged_by true Unasked vs r rs is k h = absurd (cc)
-  judged_by false Unasked vs r rs is k h = absurd (cc)
-  judged_by holds Holds vs r rs is k h = (k, h)
-  judged_by holds Fails vs r rs is k h = (k, h)
-
-  behind : (v : Verdict) (vs : List Verdict) (r : Rc Record Global) (rs : List (Rc Record Global)) → NoneMarkedJudged changes (v ∷ vs) (r ∷ rs)
-      → NoneMarkedJudged changes vs rs
-  behind Unasked vs r rs h = h
-  behind Holds vs r rs h = h.1
-  behind Fails vs r rs h = h.1
-
-  before_others : (v : Verdict) (vs ws : List Verdict) (r : Rc Record Global) (rs : List (Rc Record Global)) → NoneMarkedJudged changes (v ∷ vs) (r ∷ rs)
-      → NoneMarkedJudged changes ws rs → NoneMarkedJudged changes (v ∷ ws) (r ∷ rs)
-  before_others Unasked vs ws r rs h k = k
-  before_others Holds vs ws r rs h k = (h.0, k)
-  before_others Fails vs ws r rs h k = (h.0, k)
-
-  pub judged_quiet : (holds : Bool) (w : Verdict) (vs : List Verdict) (rs : List (Rc Record Global)) (i : ℕ) (r : Rc Record Global) → w ≡ verdict_of holds
-      → i < length vs → i < length rs → r.value ≡ (get_or rs i r).value → NoneIn r.value → NoneMarkedJudged changes vs rs
-      → NoneMarkedJudged changes (set vs i w) rs
-  judged_quiet holds w [] rs i r to lv lr at k h = absurd (omega arith)
-  judged_quiet holds w (x ∷ vs) [] i r to lv lr at k h = absurd (omega arith)
-  judged_quiet holds w (x ∷ vs) (y ∷ rs) zero r to lv lr at k h = judged_by holds w vs y rs to (subst NoneIn at k) (behind x vs y rs h)
-  judged_quiet holds w (x ∷ vs) (y ∷ rs) (suc i) r to lv lr at k h =
-      before_others x vs (set vs i w) y rs h (judged_quiet holds w vs rs i r to (omega arith) (omega arith) at k (behind x vs y rs h))
-
-  -- one that was judged
-  judged_none : (v : Verdict) (vs : List Verdict) (r : Rc Record Global) (rs : List (Rc Record Global)) → (v ≡ Unasked → ⊥)
-      → NoneMarkedJudged changes (v ∷ vs) (r ∷ rs) → NoneIn r.value
-  judged_none Unasked vs r rs was h = absurd (was refl)
-  judged_none Holds vs r rs was h = h.0
-  judged_none Fails vs r rs was h = h.0
-
-  pub none_at : (vs : List Verdict) (rs : List (Rc Record Global)) (i : ℕ) (v : Verdict) (r : Rc Record Global) → i < length vs → i < length rs
-      → v ≡ get_or vs i v → (v ≡ Unasked → ⊥) → r.value ≡ (get_or rs i r).value → NoneMarkedJudged changes vs rs → NoneIn r.value
-  none_at [] rs i v r lv lr vat was at h = absurd (omega arith)
-  none_at (x ∷ vs) [] i v r lv lr vat was at h = absurd (omega arith)
-  none_at (x ∷ vs) (y ∷ rs) zero v r lv lr vat was at h = subst NoneIn (sym at) (judged_none x vs y rs (λ e. was (vat ∙ e)) h)
-  none_at (x ∷ vs) (y ∷ rs) (suc i) v r lv lr vat was at h = none_at vs rs i v r (omega arith) (omega arith) vat was at (behind x vs y rs h)
-
-  -- ---- Of records from a turn on
 
   pub none_from : (rs : List (Rc Record Global)) (i : ℕ) (r : Rc Record Global) → i < length rs → r.value ≡ (get_or rs i r).value → NoneIn r.value
       → NoneMarkedAmong changes (drop (suc i) rs) → NoneMarkedAmong changes (drop i rs)

@@ -1,7 +1,7 @@
 -- How many questions of the last run a run asks again.
 --     marked_in   those that changes mark among what was done
 --     marked_of   those of all that a run kept
---     marked_left those of the records that were not judged yet
+--     marked_left those of the records that were not judged yet (IsLeftNoMore)
 --     NoneMarked  where none is marked but choices and keys
 --     UnitIsAsked, NoUnitIsAsked  which units they are for
 --     Asks        what asking some of them counts
@@ -16,6 +16,7 @@ use Rattle.spec_run.specs.Going.{Event, Asked, Saw, Entered, Held}
 use Rattle.spec_node.specs.declared.node_ref.NodeRef.{NodeRef}
 use Rattle.spec_touch.specs.Marks.{WorldChange, any_marks}
 use Rattle.xt_spared.specs.View.{by_own_reads}
+use Rattle.xt_touch.specs.View.{since_of}
 use Rattle.xt_record.specs.View.{kept_in}
 use Rattle.xt_record.specs.declared.pool.Pool.{Pool}
 use Rattle.xt_record.specs.declared.record.Record.{Record}
@@ -53,6 +54,12 @@ marked_left changes (Unasked ∷ vs) (r ∷ rs) = marked_in changes (kept_in r.v
 marked_left changes (Holds ∷ vs) (r ∷ rs) = marked_left changes vs rs
 marked_left changes (Fails ∷ vs) (r ∷ rs) = marked_left changes vs rs
 
+-- those of this record, which was judged, are not among those that are left
+abbrev pub IsLeftNoMore : Reuse → Record → Type 0
+IsLeftNoMore reuse r =
+    marked_left (since_of reuse.spared.now.since.now) reuse.verdicts.items reuse.last.now.records.items
+    + marked_in (since_of reuse.spared.now.since.now) (kept_in r).trace ≤ marked_of (since_of reuse.spared.now.since.now) reuse.last.now
+
 -- ---- Questions but for choices and keys
 
 -- none of them among what was done is marked
@@ -67,14 +74,6 @@ NoneMarked changes (Held first contents ∷ es) = NoneMarked changes es
 abbrev pub NoneMarkedAmong : List WorldChange → List (Rc Record Global) → Type 0
 NoneMarkedAmong changes [] = Unit {0}
 NoneMarkedAmong changes (r ∷ rs) = NoneMarked changes (kept_in r.value).trace × NoneMarkedAmong changes rs
-
--- nor of each of those that were judged
-abbrev pub NoneMarkedJudged : List WorldChange → List Verdict → List (Rc Record Global) → Type 0
-NoneMarkedJudged changes [] rs = Unit {0}
-NoneMarkedJudged changes (v ∷ vs) [] = Unit {0}
-NoneMarkedJudged changes (Unasked ∷ vs) (r ∷ rs) = NoneMarkedJudged changes vs rs
-NoneMarkedJudged changes (Holds ∷ vs) (r ∷ rs) = NoneMarked changes (kept_in r.value).trace × NoneMarkedJudged changes vs rs
-NoneMarkedJudged changes (Fails ∷ vs) (r ∷ rs) = NoneMarked changes (kept_in r.value).trace × NoneMarkedJudged changes vs rs
 
 -- ---- Questions for a unit
 

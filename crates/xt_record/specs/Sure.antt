@@ -11,7 +11,7 @@ use Rattle.xt_spared.specs.declared.spared.Spared.{Spared}
 use Rattle.xt_record.specs.View.{kept_in, AsksHold}
 use Rattle.xt_record.specs.Chain.{keys_in}
 use Rattle.xt_record.specs.Grown.{values_of, AreTrees}
-use Rattle.xt_record.specs.Asked.{NoneMarkedJudged, marked_left, marked_of}
+use Rattle.xt_record.specs.Asked.{marked_left, marked_of}
 use Rattle.xt_record.specs.declared.pool.Pool.{Pool}
 use Rattle.xt_record.specs.declared.record.Record.{Record}
 use Rattle.xt_record.specs.declared.reuse.Verdict.{Verdict}
@@ -73,15 +73,14 @@ AllSpared ask spared (r ∷ rs) = AsksSpared ask spared (kept_in r.value).trace 
 -- ---- What a run may reuse
 
 -- the questions of what this run kept have these answers, those of the last run are as they were found to be, and each question of the last run
--- that is spared has its answer. No more questions were asked than these changes mark of the records of the last run that were judged; and where none
--- was, they mark none of those records' but choices and keys. The trees are so, and those of the last run were put in order as they stand, if they were
+-- that is spared has its answer. No more questions were asked than these changes mark of the records of the last run that were judged. The trees are
+-- so, and those of the last run were put in order as they stand, if they were
 pub record IsSure (ask : Question NodeRef → Answer NodeRef) (reuse : Reuse) : Type 0 where
   pub kept : AllHold ask reuse.kept.records.items
   pub judged : AllJudged ask reuse.verdicts.items reuse.last.now.records.items
   pub spared : AllSpared ask reuse.spared.now reuse.last.now.records.items
   pub counted : reuse.steps.asked + marked_left (since_of reuse.spared.now.since.now) reuse.verdicts.items reuse.last.now.records.items
       ≤ marked_of (since_of reuse.spared.now.since.now) reuse.last.now
-  pub quiet : reuse.steps.asked ≡ 0 → NoneMarkedJudged (since_of reuse.spared.now.since.now) reuse.verdicts.items reuse.last.now.records.items
   pub next : AllHold ask reuse.next.records.items
   pub grown : AreTrees (values_of reuse.next.records.items) reuse.next.trees.items
   pub trees : AreTrees (values_of reuse.last.now.records.items) reuse.last.now.trees.items

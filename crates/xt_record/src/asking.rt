@@ -1,10 +1,10 @@
 // Whether what was asked has its answers.
-ghost use Rattle.std.specs.Prelude.{◌≡◌, ◌<◌, ◌∷◌, [], false, IfOk, map};
+ghost use Rattle.std.specs.Prelude.{◌≡◌, ◌<◌, ◌∷◌, [], IfNone, IfOk, IfSome, map};
 ghost use Rattle.std.specs.Bool.{Decides};
 ghost use Rattle.xt_questions.specs.View.{answer_of, question_of};
 ghost use Rattle.xt_engine.specs.View.{event_of};
 ghost use Rattle.xt_record.specs.View.{AsksHold};
-ghost use Rattle.xt_record.specs.Asked.{Asks, NoneMarked};
+ghost use Rattle.xt_record.specs.Asked.{Asks, NoneMarked, marked_in};
 ghost use Rattle.xt_record.specs.Sure.{AsksSpared};
 ghost use Rattle.xt_touch.specs.View.{since_of};
 
@@ -27,7 +27,6 @@ pub(crate) fn asks_hold<W: World>(
     requires spared { AsksSpared (W.state world.now).truth spared.now (map event_of events.now) }
     ensures holds { IfOk result (λ b. Decides b (AsksHold (W.state world.old).truth (map event_of events.now))) }
     ensures steps { Asks (since_of spared.now.since.now) (map event_of events.now) steps.old steps.new }
-    ensures quiet { IfOk result (λ b. steps.new.asked ≡ 0 → NoneMarked (since_of spared.now.since.now) (map event_of events.now)) }
     ensures truth { (W.state world.new).truth ≡ (W.state world.old).truth }
     ensures name { W.name world.new ≡ W.name world.old }
 {
@@ -50,8 +49,6 @@ fn asks_so<W: World>(
     requires spared { AsksSpared (W.state world.now).truth spared.now (event_of event.now ∷ []) }
     ensures holds { IfOk result (λ b. Decides b (AsksHold (W.state world.old).truth (event_of event.now ∷ []))) }
     ensures steps { Asks (since_of spared.now.since.now) (event_of event.now ∷ []) steps.old steps.new }
-    ensures quiet { IfOk result (λ b. steps.new.asked ≡ 0 → NoneMarked (since_of spared.now.since.now) (event_of event.now ∷ [])) }
-    ensures fails { IfOk result (λ b. b ≡ false → 0 < steps.new.asked) }
     ensures truth { (W.state world.new).truth ≡ (W.state world.old).truth }
     ensures name { W.name world.new ≡ W.name world.old }
 {
@@ -66,6 +63,39 @@ fn asks_so<W: World>(
         Event::Saw(_, _, _, _) => Ok(true),
         Event::Entered(_, _) => Ok(true),
         Event::Held(_, _) => Ok(true),
+    }
+}
+
+/// The first question among what was done that a change marks, but for choices and keys. Takes no memory.
+pub(crate) fn first_marked<'a>(events: &'a [Event], spared: &Spared<'_>) -> Option<&'a Question>
+    ensures marked { IfSome result (λ question. 0 < marked_in (since_of spared.now.since.now) (map event_of events.now)) }
+    ensures none { IfNone result (NoneMarked (since_of spared.now.since.now) (map event_of events.now)) }
+{
+    for event in events {
+        let question = marked_by(event, spared);
+        if question.is_some() {
+            return question;
+        }
+    }
+    None
+}
+
+// The question that was asked there, where it is such a one.
+fn marked_by<'a>(event: &'a Event, spared: &Spared<'_>) -> Option<&'a Question>
+    ensures marked { IfSome result (λ question. 0 < marked_in (since_of spared.now.since.now) (event_of event.now ∷ [])) }
+    ensures none { IfNone result (NoneMarked (since_of spared.now.since.now) (event_of event.now ∷ [])) }
+{
+    match event {
+        Event::Asked(question, _) => {
+            if spared.marks_alone(question) {
+                Some(question)
+            } else {
+                None
+            }
+        }
+        Event::Saw(_, _, _, _) => None,
+        Event::Entered(_, _) => None,
+        Event::Held(_, _) => None,
     }
 }
 

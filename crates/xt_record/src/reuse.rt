@@ -6,7 +6,7 @@ ghost use Rattle.spec_node.specs.declared.node_ref.NodeRef.{NodeRef};
 ghost use Rattle.xt_engine.specs.View.{call_of};
 ghost use Rattle.xt_record.specs.View.{AsksHold, DoesNotServe, DoesNotSuit, IsAt, MayServe, kept_in};
 ghost use Rattle.spec_touch.specs.Marks.{any_marks};
-ghost use Rattle.xt_record.specs.Asked.{Judges, LooksAt, NoneMarked, NoneMarkedAmong, marked_of, StaysSo};
+ghost use Rattle.xt_record.specs.Asked.{IsLeftNoMore, Judges, LooksAt, NoneMarked, NoneMarkedAmong, marked_of, StaysSo};
 ghost use Rattle.xt_record.specs.Chain.{key_of, keys_in, IsLatest};
 ghost use Rattle.xt_record.specs.Grown.{values_of, AreTrees, IsSaidAt, IsTakenOver};
 ghost use Rattle.xt_record.specs.Sure.{from_to, AllHold, AreAnswered, IsSure, TreeHolds, verdict_of};
@@ -16,7 +16,7 @@ ghost use Rattle.xt_spared.specs.View.{IsSparedBy, Spares};
 ghost use Rattle.xt_touch.specs.Named.{Covers};
 ghost use Rattle.xt_touch.specs.View.{since_of};
 
-use crate::asking::asks_hold;
+use crate::asking::{asks_hold, first_marked};
 use crate::frames::Frames;
 use crate::index::Index;
 use crate::tree::Summary;
@@ -91,8 +91,8 @@ pub struct Reuse<'a> {
 // So many records of the last run are looked for one by one, before they are put in order by their calls.
 const FEW: u8 = 64;
 
-// Of a tree that has more records below its own than this no question is asked, since it would mostly be another answer
-// to one of them that is found, and what has others would be asked again.
+// Of a tree that has more records below its own than this no question is asked: it would mostly be found that one of them
+// has another answer, after a look at all before it, and the call is gone along then.
 const MOST_ASKED: usize = 15;
 
 impl<'a> Reuse<'a> {
@@ -331,7 +331,7 @@ impl<'a> Reuse<'a> {
         ensures sure { OnOk result (IsSure (W.state world.old).truth self.new) }
         ensures holds { IfOk result (λ b. Decides b (AsksHold (W.state world.old).truth (kept_in kept.now.value).trace)) }
         ensures judges { Judges self.old self.new }
-        ensures quiet { OnOk result (self.new.steps.asked ≡ 0 → NoneMarked (since_of self.old.spared.now.since.now) (kept_in kept.now.value).trace) }
+        ensures left { OnOk result (IsLeftNoMore self.new kept.now.value) }
         ensures truth { (W.state world.new).truth ≡ (W.state world.old).truth }
         ensures name { W.name world.new ≡ W.name world.old }
     {
@@ -532,16 +532,15 @@ impl<'a> Reuse<'a> {
 
     // Where it says so, no question of a tree need be asked.
     fn spares_all(&self, whole: &Rc<Summary>) -> bool
-        ensures spared { result ≡ true → (question : Question NodeRef) → Covers whole.now.value.named question → IsSparedBy self.now.spared.now question }
-        ensures unmarked { result ≡ true → (question : Question NodeRef) → Covers whole.now.value.named question → any_marks (since_of self.now.spared.now.since.now) question ≡ false }
+        ensures { result ≡ true → (question : Question NodeRef) → Covers whole.now.value.named question → IsSparedBy self.now.spared.now question }
     {
         self.spared.spares_all(&whole.named)
     }
 
     /// Where nothing was run and no question asked again, goes over the records of the last run, from the end on, up to the
-    /// first of which a question is asked. So one is asked where any is marked but choices and keys: who sees that nothing was
-    /// run sees whether the change was looked at. Trees of which no question need be asked are passed over, so it mostly ends
-    /// at once.
+    /// first of which a question is asked. So one is asked where any is marked but choices and keys, though it need not be: who
+    /// sees that nothing was run sees whether the change was looked at. Trees of which no question is marked are passed over,
+    /// so it mostly ends at once.
     ///
     /// # Errors
     /// Want of memory.
@@ -566,7 +565,8 @@ impl<'a> Reuse<'a> {
         Ok(())
     }
 
-    // Judges the record at this turn of the last run, or passes over its tree. It is known of all from the answer on.
+    // Asks of the record at this turn of the last run what must be asked, and else the first question that is marked; or
+    // passes over its tree. It is known of all from the answer on.
     fn judge_at<W: World>(
         &mut self,
         alloc: Global,
@@ -584,16 +584,42 @@ impl<'a> Reuse<'a> {
         ensures truth { (W.state world.new).truth ≡ (W.state world.old).truth }
         ensures name { W.name world.new ≡ W.name world.old }
     {
-        if let Some(first) = self.spared_from(turn) {
+        if let Some(first) = self.unmarked_from(turn) {
             return Ok(first);
         }
         let last = self.last;
-        self.holds(alloc, world, turn, last.record_at(turn))?;
+        let kept = last.record_at(turn);
+        self.holds(alloc, world, turn, kept)?;
+        self.ask_marked(world, kept)?;
         Ok(turn)
     }
 
-    // The turn of the first record of the tree at this turn of the last run, where none of its questions need be asked.
-    fn spared_from(&self, turn: usize) -> Option<usize>
+    // Where nothing was asked, asks the first question of a record that is marked, but for choices and keys, and counts it.
+    fn ask_marked<W: World>(&mut self, world: &mut W, kept: &Rc<Record>) -> Result<(), Memory>
+        requires sure { IsSure (W.state world.now).truth self.now }
+        requires left { IsLeftNoMore self.now kept.now.value }
+        ensures sure { OnOk result (IsSure (W.state world.old).truth self.new) }
+        ensures judges { Judges self.old self.new }
+        ensures quiet { OnOk result (self.new.steps.asked ≡ 0 → NoneMarked (since_of self.old.spared.now.since.now) (kept_in kept.now.value).trace) }
+        ensures truth { (W.state world.new).truth ≡ (W.state world.old).truth }
+        ensures name { W.name world.new ≡ W.name world.old }
+    {
+        if self.steps.asked > 0 {
+            return Ok(());
+        }
+        match first_marked(kept.ran.events.as_slice(), self.spared) {
+            None => Ok(()),
+            Some(question) => {
+                self.steps.asked = 1;
+                let answer = world.ask(question)?;
+                drop(answer);
+                Ok(())
+            }
+        }
+    }
+
+    // The turn of the first record of the tree at this turn of the last run, where none of its questions is marked.
+    fn unmarked_from(&self, turn: usize) -> Option<usize>
         requires { turn < length self.now.last.now.records.items }
         ensures before { IfSome result (λ n. n ≤ turn) }
         ensures quiet { AreTrees (values_of self.now.last.now.records.items) self.now.last.now.trees.items → IfSome result (λ n.
@@ -601,10 +627,17 @@ impl<'a> Reuse<'a> {
             → NoneMarkedAmong (since_of self.now.spared.now.since.now) (drop n self.now.last.now.records.items)) }
     {
         let whole = self.last.whole_at(turn)?;
-        if !self.spares_all(whole) {
+        if !self.marks_none(whole) {
             return None;
         }
         Some(self.last.first_of(turn))
+    }
+
+    // Where it says so, no question of a tree is marked.
+    fn marks_none(&self, whole: &Rc<Summary>) -> bool
+        ensures { result ≡ true → (question : Question NodeRef) → Covers whole.now.value.named question → any_marks (since_of self.now.spared.now.since.now) question ≡ false }
+    {
+        self.spared.marks_none(&whole.named)
     }
 
     /// Counts an instantiation that is run.

@@ -1,15 +1,15 @@
 -- That what has an own choice whose reads stay is spared.
-use Rattle.std.proofs.Common.{◌≡◌, Bool, true, false, List, [], ◌++◌, Option, None, Some, refl}
+use Rattle.std.proofs.Common.{◌≡◌, Bool, true, false, List, ◌++◌, Option, None, Some, refl, sym, ◌∙◌}
 use Rattle.std.specs.Prelude.{◌||◌, not, IfSome, is_some}
 use Rattle.std.specs.Borrow.{Bor}
 use Rattle.std.specs.declared.rc.Rc.{Rc}
 use Rattle.std.specs.declared.alloc.Global.{Global}
 use Rattle.spec_document.specs.Name.{Expanded}
-use Rattle.spec_meaning.specs.Question.{Question, Step, Text, Name, Place, Order, Key, Choice, Copy, Unit as UnitOf, External}
+use Rattle.spec_meaning.specs.Question.{Question}
 use Rattle.spec_node.specs.declared.node_ref.NodeRef.{NodeRef}
-use Rattle.spec_touch.specs.Marks.{WorldChange, any_marks}
+use Rattle.spec_touch.specs.Marks.{WorldChange, any_asks, any_marks}
 use Rattle.xt_questions.specs.View.{question_of}
-use Rattle.xt_spared.specs.View.{IsAmong, IsSpared, by_itself, by_own_reads, by_reads, Own, all_stay, own_of, stays}
+use Rattle.xt_spared.specs.View.{IsAmong, IsSpared, by_itself, by_reads, is_key_among, Own, all_stay, own_of, stays}
 use Rattle.xt_spared.specs.declared.choices.OwnChoice.{OwnChoice}
 use Rattle.xt_spared.proofs.Among.{among_first, among_second}
 
@@ -33,20 +33,19 @@ pub spared_second : (changes : List WorldChange) (names : List Expanded) (owns o
     → IsSpared changes names others question → IsSpared changes names (owns ++ others) question
 spared_second changes names owns others question h = spared_of changes names others (owns ++ others) question (among_second owns others) h
 
--- what stays and is no key and no choice is not marked
-unmarked : (b : Bool) → (not b || false) ≡ true → b ≡ false
-unmarked true e = absurd (cc)
-unmarked false e = refl
+-- what must be asked is marked
+pub asked_marked : (asked marked : Bool) → (marked ≡ false → asked ≡ false) → asked ≡ true → marked ≡ true
+asked_marked asked true less is = refl
+asked_marked asked false less is = sym (less refl) ∙ is
 
-pub stays_alone : (changes : List WorldChange) (names : List Expanded) (question : Question NodeRef) → stays changes names question ≡ true
-    → by_own_reads question ≡ false → any_marks changes question ≡ false
-stays_alone changes names (Step node axis test) h alone = unmarked (any_marks changes (Step node axis test)) h
-stays_alone changes names (Text node) h alone = unmarked (any_marks changes (Text node)) h
-stays_alone changes names (Name node) h alone = unmarked (any_marks changes (Name node)) h
-stays_alone changes names (Place node) h alone = unmarked (any_marks changes (Place node)) h
-stays_alone changes names (Order nodes) h alone = unmarked (any_marks changes (Order nodes)) h
-stays_alone changes names (Key name value) h alone = absurd (cc)
-stays_alone changes names (Choice node mode candidates) h alone = absurd (cc)
-stays_alone changes names (Copy node) h alone = unmarked (any_marks changes (Copy node)) h
-stays_alone changes names (UnitOf element) h alone = unmarked (any_marks changes (UnitOf element)) h
-stays_alone changes names (External name) h alone = unmarked (any_marks changes (External name)) h
+-- so it is with what does not stay
+pub leaving_marked : (changes : List WorldChange) (names : List Expanded) (question : Question NodeRef)
+    → (any_marks changes question ≡ false → any_asks changes question ≡ false) → stays changes names question ≡ false
+    → any_marks changes question ≡ true
+leaving_marked changes names question less leaves =
+    asked_marked (any_asks changes question) (any_marks changes question) less
+    (leaving (any_asks changes question) (is_key_among names question) leaves)
+  where
+    leaving : (a k : Bool) → (not a || k) ≡ false → a ≡ true
+    leaving true k e = refl
+    leaving false k e = absurd (cc)

@@ -1,8 +1,8 @@
 -- What the types of this crate stand for, and which questions need not be asked again.
---     IsSpared      no change since marks it, or it is of a key that stays, or it is a choice and this is so of each question that was asked for it
+--     IsSpared      after no change since must it be asked, or it is of a key that stays, or it is a choice and this is so of each question that was asked for it
 --     IsSparedBy    the same, by a value of the program
 --     by_own_reads  the questions whose answers rest on what was asked for them
---     Agrees        two worlds answer alike what no change marks
+--     Agrees        two worlds answer alike what need be asked after no change
 --     KeysStay      they answer alike what is asked of these keys
 --     Spares        they answer alike what is spared
 use Rattle.std.specs.Prelude.{◌≡◌, ◌⊎◌, Bool, true, false, not, ◌||◌, List, [], ◌∷◌, ◌++◌, map, Option, None, Some}
@@ -11,7 +11,7 @@ use Rattle.std.specs.Borrow.{Bor}
 use Rattle.spec_document.specs.Name.{Expanded, same_name}
 use Rattle.spec_meaning.specs.Question.{Question, Answer, Step, Text, Name, Place, Order, Key, Choice, Copy, Unit, External}
 use Rattle.spec_node.specs.declared.node_ref.NodeRef.{NodeRef}
-use Rattle.spec_touch.specs.Marks.{WorldChange, any_marks}
+use Rattle.spec_touch.specs.Marks.{WorldChange, any_asks}
 use Rattle.xt_questions.specs.View.{question_of}
 use Rattle.xt_questions.specs.declared.question.Question.{Question as CodeQuestion}
 use Rattle.xt_touch.specs.View.{since_of}
@@ -75,9 +75,9 @@ by_own_reads (Copy node) = false
 by_own_reads (Unit element) = false
 by_own_reads (External name) = false
 
--- none of these changes marks it, or it is of a key that stays
+-- after none of these changes must it be asked, or it is of a key that stays
 abbrev pub stays : List WorldChange → List Expanded → Question NodeRef → Bool
-stays changes names question = not (any_marks changes question) || is_key_among names question
+stays changes names question = not (any_asks changes question) || is_key_among names question
 
 abbrev pub all_stay : List WorldChange → List Expanded → List (Question NodeRef) → Bool
 all_stay changes names questions = list_all (stays changes names) questions
@@ -97,7 +97,7 @@ IsSparedBy spared question = IsSpared (since_of spared.since.now) spared.keys.it
 -- ---- Two worlds: `was` answers as in the last finished run, `ask` as now
 
 abbrev pub Agrees : (was ask : Ask) → List WorldChange → Type 0
-Agrees was ask changes = (question : Question NodeRef) → any_marks changes question ≡ false → ask question ≡ was question
+Agrees was ask changes = (question : Question NodeRef) → any_asks changes question ≡ false → ask question ≡ was question
 
 abbrev pub KeysStay : (was ask : Ask) → List Expanded → Type 0
 KeysStay was ask names = (question : Question NodeRef) → is_key_among names question ≡ true → ask question ≡ was question

@@ -1,5 +1,5 @@
 // What need not be asked again.
-ghost use Rattle.std.specs.Prelude.{◌≡◌, true, false, IfSome};
+ghost use Rattle.std.specs.Prelude.{◌≡◌, ◌&&◌, not, true, false, IfSome};
 ghost use Rattle.std.specs.List.{list_any};
 ghost use Rattle.spec_document.specs.Name.{same_name};
 ghost use Rattle.spec_meaning.specs.Question as asked;
@@ -11,13 +11,14 @@ ghost use Rattle.xt_touch.specs.View.{since_of};
 ghost use Rattle.xt_spared.specs.View.{IsAmong, IsSparedBy, all_stay, by_own_reads, is_key_among, own_of, owns_in, owns_of, questions_of, stays};
 
 use crate::{OwnChoice, OwnChoices};
+use spec_touch::what_is_not_marked_need_not_be_asked;
 use std::rc::Rc;
 use xt_names::Expanded;
 use xt_questions::Question;
 use xt_touch::{Named, Since};
 
-/// Which questions need not be asked again: those that no change since marks, those of keys that stay, and the choices of which
-/// this is so of each question that was asked for them.
+/// Which questions need not be asked again: those that no change since asks for, those of keys that stay, and the choices of
+/// which this is so of each question that was asked for them.
 #[derive(Drop)]
 pub struct Spared<'a> {
     since: &'a Since,
@@ -53,8 +54,8 @@ impl<'a> Spared<'a> {
     pub fn spares(&self, question: &Question) -> bool
         ensures spared { result ≡ true → IsSparedBy self.now (question_of question.now) }
         ensures marked { result ≡ false → any_marks (since_of self.now.since.now) (question_of question.now) ≡ true }
-        ensures alone { result ≡ true → by_own_reads (question_of question.now) ≡ false → any_marks (since_of self.now.since.now) (question_of question.now) ≡ false }
     {
+        what_is_not_marked_need_not_be_asked();
         if self.stays(question) {
             return true;
         }
@@ -69,10 +70,24 @@ impl<'a> Spared<'a> {
 
     /// Where it says so, no question of which this is what is named need be asked again. Takes no memory.
     pub fn spares_all(&self, named: &Named) -> bool
-        ensures spared { result ≡ true → (question : asked.Question Node) → Covers named.now question → IsSparedBy self.now question }
-        ensures unmarked { result ≡ true → (question : asked.Question Node) → Covers named.now question → any_marks (since_of self.now.since.now) question ≡ false }
+        ensures { result ≡ true → (question : asked.Question Node) → Covers named.now question → IsSparedBy self.now question }
     {
         self.since.spares_all(named)
+    }
+
+    /// Whether a change marks the question, and its answer does not rest on what was asked for it. More is marked than must be
+    /// asked. Takes no memory.
+    pub fn marks_alone(&self, question: &Question) -> bool
+        ensures { result ≡ (not (by_own_reads (question_of question.now)) && any_marks (since_of self.now.since.now) (question_of question.now)) }
+    {
+        !has_own_reads(question) && self.since.marks(question)
+    }
+
+    /// Where it says so, no change marks any question of which this is what is named. Takes no memory.
+    pub fn marks_none(&self, named: &Named) -> bool
+        ensures { result ≡ true → (question : asked.Question Node) → Covers named.now question → any_marks (since_of self.now.since.now) question ≡ false }
+    {
+        self.since.marks_none(named)
     }
 
     /// The choice of this question of which each question that was asked for it need not be asked again. Takes no memory.
@@ -116,17 +131,29 @@ impl<'a> Spared<'a> {
     fn stays(&self, question: &Question) -> bool
         ensures { result ≡ stays (since_of self.now.since.now) self.now.keys.items (question_of question.now) }
     {
-        !self.since.marks(question) || is_key_among(self.keys.as_slice(), question)
+        !self.since.asks(question) || is_key_among(self.keys.as_slice(), question)
     }
 }
 
-// Whether it asks for the choice of a rule. What does not was not found by what was asked for it.
-fn is_choice(question: &Question) -> bool
-    ensures { result ≡ true → by_own_reads (question_of question.now) ≡ true }
+fn is_choice(question: &Question) -> bool {
+    matches!(question, Question::Choice(_, _, _))
+}
+
+// Whether its answer is made of what is asked for it.
+fn has_own_reads(question: &Question) -> bool
+    ensures { result ≡ by_own_reads (question_of question.now) }
 {
     match question {
+        Question::Step(_, _, _) => false,
+        Question::Text(_) => false,
+        Question::Name(_) => false,
+        Question::Place(_) => false,
+        Question::Order(_) => false,
+        Question::Key(_, _) => true,
         Question::Choice(_, _, _) => true,
-        _ => false,
+        Question::Copy(_) => false,
+        Question::Unit(_) => false,
+        Question::External(_) => false,
     }
 }
 

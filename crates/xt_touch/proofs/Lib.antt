@@ -1,6 +1,7 @@
 pub mod Among
 pub mod Asking
 pub mod Leading
+pub mod Loosening
 pub mod Members
 pub mod Missing
 pub mod Siblings

@@ -13,6 +13,7 @@ use Rattle.spec_touch.specs.Leads.{AreTold}
 use Rattle.spec_touch.proofs.Parting.{told-itself}
 use Rattle.xt_tree.specs.View.{Tree, first_tree, forest_of, tree_of}
 use Rattle.xt_tree.specs.declared.node.Node as code
+use Rattle.xt_touch.specs.Loose.{loose_among, loose_tree}
 use Rattle.xt_touch.specs.Missing.{below, children_of, missing_among, missing_tree}
 use Rattle.xt_touch.proofs.Members.{All, all_parts}
 
@@ -93,14 +94,30 @@ children_told n document =
           (below_told (labels document.nodes) n document.nodes (told-itself (labels document.nodes)))
     ]
 
--- ---- What is missing, one sibling after another
+-- ---- What is gathered of siblings, one after another
 
+-- a turn of gathering what there is of one
+pub gathered_turn : (one : Tree → List ℕ) (all_of : Forest ℕ → List ℕ)
+    → ((x : Rc code.Node Global) (xs : List (Rc code.Node Global)) → all_of (forest_of (x ∷ xs)) ≡ one (tree_of x.value) ++ all_of (forest_of xs))
+    → (siblings : List (Rc code.Node Global)) (i : ℕ) (x : Rc code.Node Global) (was now all : List ℕ)
+    → i < length siblings → x ≡ get_or siblings i x → now ≡ was ++ one (tree_of x.value)
+    → was ++ all_of (forest_of (drop i siblings)) ≡ all → now ++ all_of (forest_of (drop (i + 1) siblings)) ≡ all
+gathered_turn one all_of step siblings i x was now all h is more before =
+    let behind = drop (i + 1) siblings in
+    let rest = all_of (forest_of behind) in
+    ap (λ list. list ++ rest) more ∙ append_assoc was (one (tree_of x.value)) rest
+    ∙ ap (λ list. was ++ list) (sym (step x behind))
+    ∙ ap (λ (y : Rc code.Node Global). was ++ all_of (forest_of (y ∷ behind))) is
+    ∙ sym (at_drop_more (λ xs. was ++ all_of (forest_of xs)) siblings i x h) ∙ before
+
+-- of what is missing
 pub missing_turn : (numbers : List ℕ) (siblings : List (Rc code.Node Global)) (i : ℕ) (x : Rc code.Node Global) (was now all : List ℕ)
     → i < length siblings → x ≡ get_or siblings i x → now ≡ was ++ missing_tree numbers (tree_of x.value)
     → was ++ missing_among numbers (forest_of (drop i siblings)) ≡ all → now ++ missing_among numbers (forest_of (drop (i + 1) siblings)) ≡ all
-missing_turn numbers siblings i x was now all h is more before =
-    let behind = drop (i + 1) siblings in
-    let rest = missing_among numbers (forest_of behind) in
-    ap (λ list. list ++ rest) more ∙ append_assoc was (missing_tree numbers (tree_of x.value)) rest
-    ∙ ap (λ (y : Rc code.Node Global). was ++ missing_among numbers (forest_of (y ∷ behind))) is
-    ∙ sym (at_drop_more (λ xs. was ++ missing_among numbers (forest_of xs)) siblings i x h) ∙ before
+missing_turn numbers = gathered_turn (missing_tree numbers) (missing_among numbers) (λ x xs. refl)
+
+-- of what is no element
+pub loose_turn : (siblings : List (Rc code.Node Global)) (i : ℕ) (x : Rc code.Node Global) (was now all : List ℕ)
+    → i < length siblings → x ≡ get_or siblings i x → now ≡ was ++ loose_tree (tree_of x.value)
+    → was ++ loose_among (forest_of (drop i siblings)) ≡ all → now ++ loose_among (forest_of (drop (i + 1) siblings)) ≡ all
+loose_turn = gathered_turn loose_tree loose_among (λ x xs. refl)

@@ -1,4 +1,5 @@
 pub mod Asked
+pub mod Loose
 pub mod Missing
 pub mod Named
 pub mod Sameness

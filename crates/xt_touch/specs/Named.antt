@@ -65,11 +65,15 @@ LieOutside numbers bounds = (number : ℕ) → is_within bounds number ≡ true 
 
 -- ---- What an edit leaves alone
 
--- no node within the bounds goes or comes; near those within is not the node whose children or attributes change, nor a child of it; and all below
--- those within is as it was
-pub record IsApart (change : Change) (named : Named) : Type 0 where
+-- no node within the bounds goes or comes; near those within is not the node whose children or attributes change, nor a child of it; and it is below
+-- none of those within
+pub record IsAround (change : Change) (named : Named) : Type 0 where
   pub moving : LieOutside (change.gone ++ change.brought) named.all
   pub node_near : LieOutside (change.node ∷ []) named.near
   pub children_near : LieOutside (change.before ++ change.after) named.near
   pub holding_inside : LieOutside (change.node ∷ change.above) named.inside
-  pub children_inside : LieOutside (change.before ++ change.after) named.inside
+
+-- and all below those within is as it was, where these are the children that may be others
+pub record IsApart (loose : List ℕ) (change : Change) (named : Named) : Type 0 where
+  pub around : IsAround change named
+  pub loose_inside : LieOutside loose named.inside

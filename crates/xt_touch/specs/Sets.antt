@@ -27,3 +27,8 @@ pub record AreSetsOf (change : Change) (moving holding children : List ℕ) (goe
 -- an attribute of an element whose attributes change
 abbrev pub is_changed_attribute : Change → NodeRef → Bool
 is_changed_attribute change node = change.of_attributes && is_attribute node.part && (node.node.number == change.node)
+
+-- what some children are looked up in
+pub record AreSetOf (numbers set : List ℕ) (bounds : Bounds) : Type 0 where
+  pub of_all : AreSame set numbers
+  pub within : LieWithin numbers bounds

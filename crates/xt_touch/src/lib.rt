@@ -4,14 +4,18 @@
 //! ```text
 //! let change = seen_change(alloc, &change, &old, &new)?;      // of the source as it is seen
 //! let asking = Modes::asking(alloc, &rules)?;
-//! let since = since.and(alloc, WorldChange::SourceEdited { change, asking })?;
+//! let loose = loose_children(alloc, &new, change.node)?;
+//! let since = since.and(alloc, WorldChange::SourceEdited { change, asking, loose })?;
 //! since.marks(&question)                                      // a few look-ups a change, however much it holds
+//! since.asks(&question)                                       // less: of children that stay elements are as they were
 //! let named = Named::nothing().with(&question).with(&other);
 //! since.spares_all(&named)                                    // whether it surely marks none of them, by a few comparisons
 //! ```
 #![tactic(auto)]
 
+mod children;
 mod elements;
+mod loose;
 mod marks;
 mod modes;
 mod moved;
@@ -22,6 +26,7 @@ mod since;
 mod source;
 mod world_change;
 
+pub use children::loose_children;
 pub use elements::Elements;
 pub use marks::Marks;
 pub use modes::Modes;

@@ -1,5 +1,5 @@
 // Which questions a change of a world marks.
-ghost use Rattle.std.specs.Prelude.{◌≡◌, ◌==◌, true, false, length, IfOk};
+ghost use Rattle.std.specs.Prelude.{◌≡◌, ◌==◌, ℕ, List, true, false, length, IfOk};
 ghost use Rattle.spec_meaning.specs.Question as asked;
 ghost use Rattle.spec_node.specs.declared.node_ref.NodeRef.{NodeRef as Node};
 ghost use Rattle.spec_touch.specs.Marks as spec;
@@ -7,6 +7,7 @@ ghost use Rattle.xt_questions.specs.View.{question_of};
 ghost use Rattle.xt_touch.specs.Named.{Covers};
 ghost use Rattle.xt_touch.specs.View.{is_move, keeps_sheet, marked_by, world_change_of};
 
+use crate::loose::Loose;
 use crate::moved::MoveMarks;
 use crate::source::SourceMarks;
 use crate::{Elements, Modes, Named, WorldChange};
@@ -28,6 +29,7 @@ enum Cause {
     Edit {
         source: SourceMarks,
         asking: Modes,
+        loose: Loose,
     },
     // The source, by a move.
     Move {
@@ -51,9 +53,14 @@ impl Marks {
         ensures { IfOk result (λ marks. marked_by marks ≡ world_change_of change) }
     {
         let cause = match change {
-            WorldChange::SourceEdited { change, asking } => Cause::Edit {
+            WorldChange::SourceEdited {
+                change,
+                asking,
+                loose,
+            } => Cause::Edit {
                 source: SourceMarks::new(alloc, change)?,
                 asking,
+                loose: Loose::new(alloc, loose)?,
             },
             WorldChange::SourceMoved { change, asking } => Cause::Move {
                 moved: MoveMarks::new(alloc, change)?,
@@ -71,9 +78,11 @@ impl Marks {
         ensures { result ≡ spec.marks (marked_by self.now) (question_of question.now) }
     {
         match &self.cause {
-            Cause::Edit { source, asking } => {
-                source.touches(question) && !source.spares(asking, question)
-            }
+            Cause::Edit {
+                source,
+                asking,
+                loose: _,
+            } => source.touches(question) && !source.spares(asking, question),
             Cause::Move { moved, asking } => {
                 moved.touches(question) && !moved.spares(asking, question)
             }
@@ -83,13 +92,36 @@ impl Marks {
         }
     }
 
-    /// Where it says so, it marks no question of which this is what is named. Takes no memory.
-    pub fn spares_all(&self, named: &Named) -> bool
-        ensures { result ≡ true → (question : asked.Question Node) → Covers named.now question
-            → spec.marks (marked_by self.now) question ≡ false }
+    /// Whether the question must be asked, since it may have another answer: not all that is marked must. Takes no memory.
+    pub fn is_asked(&self, question: &Question) -> bool
+        ensures { result ≡ spec.asks (marked_by self.now) (question_of question.now) }
     {
         match &self.cause {
-            Cause::Edit { source, asking } => edit_spares_all(source, asking, named),
+            Cause::Edit {
+                source,
+                asking,
+                loose,
+            } => edit_asks(source, asking, loose, question),
+            Cause::Move { moved, asking } => {
+                moved.touches(question) && !moved.spares(asking, question)
+            }
+            Cause::Modules { units, asking } => by_modules(units, asking, question),
+            Cause::Parameter(name) => by_parameter(name, question),
+            Cause::Anything => true,
+        }
+    }
+
+    /// Where it says so, no question must be asked of which this is what is named. Takes no memory.
+    pub fn spares_all(&self, named: &Named) -> bool
+        ensures { result ≡ true → (question : asked.Question Node) → Covers named.now question
+            → spec.asks (marked_by self.now) question ≡ false }
+    {
+        match &self.cause {
+            Cause::Edit {
+                source,
+                asking,
+                loose,
+            } => edit_spares_all(source, asking, loose, named),
             Cause::Move {
                 moved: _,
                 asking: _,
@@ -98,7 +130,31 @@ impl Marks {
                 units: _,
                 asking: _,
             } => false,
-            Cause::Parameter(_) => !named.external,
+            Cause::Parameter(_) => spares_parameters(named),
+            Cause::Anything => false,
+        }
+    }
+
+    /// Where it says so, it marks no question of which this is what is named. Takes no memory.
+    pub fn marks_none(&self, named: &Named) -> bool
+        ensures { result ≡ true → (question : asked.Question Node) → Covers named.now question
+            → spec.marks (marked_by self.now) question ≡ false }
+    {
+        match &self.cause {
+            Cause::Edit {
+                source,
+                asking,
+                loose: _,
+            } => edit_marks_none(source, asking, named),
+            Cause::Move {
+                moved: _,
+                asking: _,
+            } => false,
+            Cause::Modules {
+                units: _,
+                asking: _,
+            } => false,
+            Cause::Parameter(_) => spares_parameters(named),
             Cause::Anything => false,
         }
     }
@@ -111,6 +167,7 @@ impl Marks {
             Cause::Edit {
                 source: _,
                 asking: _,
+                loose: _,
             } => true,
             Cause::Move {
                 moved: _,
@@ -133,6 +190,7 @@ impl Marks {
             Cause::Edit {
                 source: _,
                 asking: _,
+                loose: _,
             } => false,
             Cause::Move {
                 moved: _,
@@ -148,10 +206,39 @@ impl Marks {
     }
 }
 
-// Where it says so, an edit marks none of these questions.
-fn edit_spares_all(source: &SourceMarks, asking: &Modes, named: &Named) -> bool
+// Where it says so, a parameter that is given marks none of these questions.
+fn spares_parameters(named: &Named) -> bool
+    ensures { result ≡ true → (name : List ℕ) (question : asked.Question Node) → Covers named.now question → spec.by_parameter name question ≡ false }
+{
+    !named.external
+}
+
+// Whether a question must be asked after an edit.
+fn edit_asks(source: &SourceMarks, asking: &Modes, loose: &Loose, question: &Question) -> bool
+    ensures { result ≡ spec.asks (spec.SourceEdited source.now asking.now loose.now) (question_of question.now) }
+{
+    (source.touches(question) && source.touches_but(loose, question))
+        && !source.spares(asking, question)
+}
+
+// Where it says so, none of these questions must be asked after an edit.
+fn edit_spares_all(source: &SourceMarks, asking: &Modes, loose: &Loose, named: &Named) -> bool
     ensures { result ≡ true → (question : asked.Question Node) → Covers named.now question
-        → spec.marks (spec.SourceEdited source.now asking.now) question ≡ false }
+        → spec.asks (spec.SourceEdited source.now asking.now loose.now) question ≡ false }
+{
+    if named.anywhere {
+        return false;
+    }
+    if !spares_choices(asking, named) {
+        return false;
+    }
+    !source.meets_but(loose, named)
+}
+
+// Where it says so, an edit marks none of these questions.
+fn edit_marks_none(source: &SourceMarks, asking: &Modes, named: &Named) -> bool
+    ensures { result ≡ true → (loose : List ℕ) (question : asked.Question Node) → Covers named.now question
+        → spec.marks (spec.SourceEdited source.now asking.now loose) question ≡ false }
 {
     if named.anywhere {
         return false;

@@ -6,9 +6,10 @@ ghost use Rattle.spec_change.specs.Change.{is_among};
 ghost use Rattle.spec_touch.specs.Leads as spec;
 ghost use Rattle.spec_touch.specs.Leads.{AreTold, Leads};
 ghost use Rattle.xt_edit.specs.Telling.{change_in, numbers_in};
-ghost use Rattle.xt_touch.specs.Missing.{children_of, missing_among, missing_tree};
+ghost use Rattle.xt_touch.specs.Missing.{missing_among, missing_tree};
 ghost use Rattle.xt_tree.specs.View.{forest_of, tree_of};
 
+use crate::children::children_at;
 use std::alloc::Global;
 use std::rc::Rc;
 use xt_edit::Change;
@@ -39,19 +40,6 @@ pub fn seen_change(alloc: Global, change: &Change, old: &Doc, new: &Doc) -> Resu
         gone,
         brought,
     })
-}
-
-// The nodes directly below the root or this node.
-fn children_at(document: &Doc, node: NodeId) -> &[Rc<Node>]
-    ensures { forest_of result.now ≡ children_of node.number document.now }
-{
-    if document.root() == node {
-        return document.children();
-    }
-    match document.node(node) {
-        None => &[],
-        Some(node) => node.children(),
-    }
 }
 
 // Whether the document has the node below its root.

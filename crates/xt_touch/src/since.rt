@@ -96,13 +96,38 @@ impl Since {
         false
     }
 
-    /// Where it says so, none of them marks any question of which this is what is named. Takes no memory.
+    /// Whether after one of them this question must be asked: not all that is marked must. Takes no memory.
+    pub fn asks(&self, question: &Question) -> bool
+        ensures { result ≡ spec.any_asks (since_of self.now) (question_of question.now) }
+    {
+        for marks in &self.changes {
+            if marks.is_asked(question) {
+                return true;
+            }
+        }
+        false
+    }
+
+    /// Where it says so, no question must be asked of which this is what is named. Takes no memory.
     pub fn spares_all(&self, named: &Named) -> bool
+        ensures { result ≡ true → (question : asked.Question Node) → Covers named.now question
+            → spec.any_asks (since_of self.now) question ≡ false }
+    {
+        for marks in &self.changes {
+            if !marks.spares_all(named) {
+                return false;
+            }
+        }
+        true
+    }
+
+    /// Where it says so, none of them marks any question of which this is what is named. Takes no memory.
+    pub fn marks_none(&self, named: &Named) -> bool
         ensures { result ≡ true → (question : asked.Question Node) → Covers named.now question
             → spec.any_marks (since_of self.now) question ≡ false }
     {
         for marks in &self.changes {
-            if !marks.spares_all(named) {
+            if !marks.marks_none(named) {
                 return false;
             }
         }

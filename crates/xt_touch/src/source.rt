@@ -5,9 +5,10 @@ ghost use Rattle.spec_touch.specs.Plain as plain;
 ghost use Rattle.spec_touch.specs.Touched as spec;
 ghost use Rattle.xt_edit.specs.Telling.{change_in, numbers_in};
 ghost use Rattle.xt_questions.specs.View.{question_of};
-ghost use Rattle.xt_touch.specs.Named.{IsApart, LieWithin, is_within};
+ghost use Rattle.xt_touch.specs.Named.{IsApart, IsAround, LieWithin, is_within};
 ghost use Rattle.xt_touch.specs.Sets.{AreSame, is_changed_attribute};
 
+use crate::loose::Loose;
 use crate::numbers::Numbers;
 use crate::{Bounds, Modes, Named};
 use spec_document::Axis;
@@ -76,10 +77,41 @@ impl SourceMarks {
         }
     }
 
+    /// The same, where of the children that stay these alone may be others. Takes no memory.
+    pub(crate) fn touches_but(&self, loose: &Loose, question: &Question) -> bool
+        ensures { result ≡ spec.touched_but loose.now self.now (question_of question.now) }
+    {
+        if self.change.of_attributes {
+            self.touches_by_attributes(question)
+        } else {
+            self.touches_by_children_but(loose, question)
+        }
+    }
+
     /// Whether it may mark a question of which this is what is named, other than a choice, and none of those that are marked
     /// whatever they name. Takes no memory.
     pub(crate) fn meets(&self, named: &Named) -> bool
-        ensures { result ≡ false → IsApart self.now named.now }
+        ensures { result ≡ false → IsApart (self.now.before ++ self.now.after) self.now named.now }
+    {
+        if self.beside.meets(named.inside) {
+            return true;
+        }
+        self.meets_around(named)
+    }
+
+    /// The same, where of the children that stay these alone may be others. Takes no memory.
+    pub(crate) fn meets_but(&self, loose: &Loose, named: &Named) -> bool
+        ensures { result ≡ false → IsApart loose.now self.now named.now }
+    {
+        if loose.meets(named.inside) {
+            return true;
+        }
+        self.meets_around(named)
+    }
+
+    // The same, but for children whose inside is named.
+    fn meets_around(&self, named: &Named) -> bool
+        ensures { result ≡ false → IsAround self.now named.now }
     {
         if self.goes.meets(named.all) {
             return true;
@@ -88,9 +120,6 @@ impl SourceMarks {
             return true;
         }
         if self.beside.meets(named.near) {
-            return true;
-        }
-        if self.beside.meets(named.inside) {
             return true;
         }
         self.is_held_within(named.inside)
@@ -165,6 +194,32 @@ impl SourceMarks {
         ensures { result ≡ spec.inside_by_children self.now node }
     {
         self.holds_change(node) || self.is_child(node)
+    }
+
+    // The same, where of the children that stay these alone may be others.
+    fn touches_by_children_but(&self, loose: &Loose, question: &Question) -> bool
+        ensures { result ≡ spec.by_children_but loose.now self.now (question_of question.now) }
+    {
+        match question {
+            Question::Step(node, axis, _) => {
+                self.goes_or_comes(*node) || self.step_by_children(*axis, *node)
+            }
+            Question::Text(node) => self.goes_or_comes(*node) || self.inside_but(loose, *node),
+            Question::Name(node) => self.goes_or_comes(*node),
+            Question::Place(_) => true,
+            Question::Order(nodes) => self.any_goes_or_comes(nodes.as_slice()),
+            Question::Key(_, _) => true,
+            Question::Choice(_, _, _) => true,
+            Question::Copy(node) => self.goes_or_comes(*node) || self.inside_but(loose, *node),
+            Question::Unit(_) => false,
+            Question::External(_) => false,
+        }
+    }
+
+    fn inside_but(&self, loose: &Loose, node: NodeRef) -> bool
+        ensures { result ≡ spec.inside_but loose.now self.now node }
+    {
+        self.holds_change(node) || loose.has(node)
     }
 
     // Whether a change of attributes marks it.
@@ -254,8 +309,8 @@ impl SourceMarks {
     }
 }
 
-// Bounds of the numbers of these nodes and of those.
-fn bounds(nodes: &[NodeId], others: &[NodeId]) -> Bounds
+/// Bounds of the numbers of these nodes and of those.
+pub(crate) fn bounds(nodes: &[NodeId], others: &[NodeId]) -> Bounds
     ensures { LieWithin (numbers_in nodes.now ++ numbers_in others.now) result }
 {
     with_all(with_all(Bounds::nothing(), nodes), others)
@@ -284,8 +339,8 @@ fn has_one_of(bounds: Bounds, nodes: &[NodeId]) -> bool
     false
 }
 
-// The set of some nodes and of others.
-fn both(alloc: Global, some: &[NodeId], others: &[NodeId]) -> Result<Numbers, Memory>
+/// The set of some nodes and of others.
+pub(crate) fn both(alloc: Global, some: &[NodeId], others: &[NodeId]) -> Result<Numbers, Memory>
     ensures { IfOk result (λ set. AreSame set (numbers_in some.now ++ numbers_in others.now)) }
 {
     let mut set = Numbers::new(alloc);
@@ -294,7 +349,7 @@ fn both(alloc: Global, some: &[NodeId], others: &[NodeId]) -> Result<Numbers, Me
     Ok(set)
 }
 
-// Whether it is a node of the tree, and no attribute or namespace node of it.
+/// Whether it is a node of the tree, and no attribute or namespace node of it.
 pub(crate) fn is_itself(part: Part) -> bool
     ensures { result ≡ spec.is_itself part }
 {

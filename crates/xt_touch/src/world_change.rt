@@ -2,6 +2,7 @@
 use crate::{Elements, Modes};
 use xt_edit::{Change, MoveChange};
 use xt_text::Text;
+use xt_tree::NodeId;
 
 /// What changed of a world, which is a stylesheet, parameters and a source as it is seen.
 #[derive(Drop)]
@@ -11,6 +12,9 @@ pub enum WorldChange {
         change: Change,
         /// The modes that have a rule whose pattern has a predicate or key(): each choice in such a mode is marked.
         asking: Modes,
+        /// All children of its node, after it and as they are seen, that are no elements: these alone may be others where they
+        /// stay.
+        loose: Vec<NodeId>,
     },
     /// A node of the source is moved.
     SourceMoved {

@@ -28,7 +28,7 @@ returns-in-None-clause-told c = λ records marks h.
 pub returns-in-Ok-clause-spared : goal.returns-in-Ok-clause-spared
 returns-in-Ok-clause-spared c = λ rules method parameters all.
     IfOk-weaker c.and.result _ _ (λ next is.
-    move_stays c.unmarked_questions_keep_their_answers_in_worlds.ensures c.args.stylesheet.now rules method parameters c.args.path.now c.args.other.now
+    move_stays c.what_need_not_be_asked_keeps_its_answers.ensures c.args.stylesheet.now rules method parameters c.args.path.now c.args.other.now
     c.args.old.now c.args.new.now all c.requires.faultless c.distinct_numbers.ensures c.requires.moved (move_change_in c.in-Some.change)
     (sym c.in_ok-move_change_of.ensures ∙ ap (option_map move_change_in) c.in-Some.is)
     c.in-Ok.asking

@@ -7,7 +7,7 @@ use Rattle.xt_held.proofs.marking.since_other.Goals as goal
 pub returns-clause-spared : goal.returns-clause-spared
 returns-clause-spared c = λ rules others method another parameters source see.
     IfOk-weaker c.and.result _ _ (λ next is.
-    modules_stay c.unmarked_questions_keep_their_answers_in_worlds.ensures c.args.old.now c.args.new.now rules others method another parameters source see
+    modules_stay c.what_need_not_be_asked_keeps_its_answers.ensures c.args.old.now c.args.new.now rules others method another parameters source see
     c.in_ok-units.units c.in-Ok.asking c.in_ok-units.ensures.alike c.in-Ok.ensures (since_of c.args.since.now) (since_of next) is) c.and.ensures
 
 pub returns-clause-told : goal.returns-clause-told

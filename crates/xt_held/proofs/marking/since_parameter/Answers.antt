@@ -9,7 +9,7 @@ use Rattle.xt_held.proofs.marking.since_parameter.Goals as goal
 pub returns-clause-spared : goal.returns-clause-spared
 returns-clause-spared c = λ known parameters value source.
     IfOk-weaker c.and.result _ _ (λ next is.
-    value_stays c.unmarked_questions_keep_their_answers_in_worlds.ensures c.args.name.now known parameters value source
+    value_stays c.what_need_not_be_asked_keeps_its_answers.ensures c.args.name.now known parameters value source
     (since_of c.args.since.now) (since_of next)
     (is ∙ ap (λ name. remembered (since_of c.args.since.now) (ParameterGiven name)) c.in_ok-name.ensures)) c.and.ensures
 

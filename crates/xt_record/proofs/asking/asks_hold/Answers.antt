@@ -6,7 +6,6 @@ use Rattle.xt_record.specs.View.{AsksHold}
 use Rattle.xt_record.specs.Sure.{AsksSpared}
 use Rattle.xt_record.proofs.Answered.{answered_at, answered_more, spared_at}
 use Rattle.xt_record.proofs.Counting.{asks_next, asks_up_to}
-use Rattle.xt_record.proofs.Quiet.{none_more}
 use Rattle.xt_touch.specs.View.{since_of}
 use Rattle.xt_record.proofs.asking.asks_hold.Goals as goal
 
@@ -33,8 +32,6 @@ loop-event-preserved g c =
     record {
       holds = rw add-one (answered_more truth es i event (omega arith) c.event-item.is now c.loop-event.invariant.holds);
       steps = rw add-one (asks_next changes es i event (omega arith) c.event-item.is c.loop-event.invariant.steps c.in_ok-asks_so.ensures.steps);
-      quiet = λ none. rw add-one (none_more changes es i event (omega arith) c.event-item.is (c.in_ok-asks_so.ensures.quiet none)
-          (c.loop-event.invariant.quiet (omega (arith, c.asks_so.ensures.steps.asked, none))));
       truth = c.asks_so.ensures.truth ∙ c.loop-event.invariant.truth;
       name = c.asks_so.ensures.name ∙ c.loop-event.invariant.name;
     }
@@ -59,6 +56,3 @@ returns-then-not-branch-clause-holds g c = (
       let here = answered_at truth c.args.events.now c.loop-event.event-index event (omega arith) c.event-item.is all in
       sym c.if-not-branch.true ∙ c.in_ok-asks_so.ensures.holds.1 (subst Holds (sym c.loop-event.invariant.truth) here),
 )
-
-pub returns-then-not-branch-clause-quiet : goal.returns-then-not-branch-clause-quiet
-returns-then-not-branch-clause-quiet g c = λ none. absurd (omega (arith, none, c.in_ok-asks_so.ensures.fails c.if-not-branch.true))

@@ -1,10 +1,8 @@
 use Rattle.std.proofs.Common.{◌∷◌, [], refl, subst, sym}
 use Rattle.xt_engine.specs.View.{event_of}
 use Rattle.xt_engine.specs.declared.event.Event.{Event}
-use Rattle.xt_record.specs.Asked.{NoneMarked}
 use Rattle.xt_record.specs.View.{AsksHold}
 use Rattle.xt_record.specs.Sure.{AsksSpared}
-use Rattle.xt_touch.specs.View.{since_of}
 use Rattle.xt_record.proofs.asking.asks_so.Goals as goal
 
 pub returns-then-spares-clause-holds : goal.returns-then-spares-clause-holds
@@ -14,8 +12,3 @@ returns-then-spares-clause-holds g c =
     let Holds : Event → Type 0 = λ e. AsksHold truth (event_of e ∷ []) in
     let holds = subst Holds (sym c.in-Asked.is) ((subst Spared c.in-Asked.is c.requires.spared).0 (c.spares.ensures.spared c.if-spares.true), tt) in
     (λ _. holds, λ _. refl)
-
-pub returns-then-spares-clause-quiet : goal.returns-then-spares-clause-quiet
-returns-then-spares-clause-quiet g c = λ none.
-    let None : Event → Type 0 = λ e. NoneMarked (since_of c.args.spared.now.since.now) (event_of e ∷ []) in
-    subst None (sym c.in-Asked.is) (c.spares.ensures.alone c.if-spares.true, tt)

@@ -8,7 +8,6 @@ returns-clause-sure g c =
       judged = s.judged;
       spared = s.spared;
       counted = s.counted;
-      quiet = s.quiet;
       next = s.next;
       grown = s.grown;
       trees = s.trees;

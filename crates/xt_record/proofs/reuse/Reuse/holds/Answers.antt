@@ -2,12 +2,11 @@ use Rattle.std.proofs.Common.{◌∙◌, Decides, List, ap, map, refl, subst, sy
 use Rattle.xt_engine.specs.View.{event_of}
 use Rattle.xt_engine.specs.declared.event.Event.{Event}
 use Rattle.xt_record.specs.View.{AsksHold}
-use Rattle.xt_record.specs.Asked.{NoneMarked, marked_in, marked_of}
+use Rattle.xt_record.specs.Asked.{marked_in, marked_of}
 use Rattle.xt_record.specs.Sure.{AsksSpared, IsTrueOf}
 use Rattle.xt_record.specs.declared.record.Record.{Record}
-use Rattle.xt_record.proofs.Counting.{counted_now}
+use Rattle.xt_record.proofs.Counting.{counted_now, fails_asked, holds_asked, left_at, left_most, left_now}
 use Rattle.xt_record.proofs.Judging.{all_spared_at, as_many_judged, judged_at, judged_now, judged_so}
-use Rattle.xt_record.proofs.Quiet.{fails_asked, holds_asked, judged_quiet, none_at}
 use Rattle.xt_touch.specs.View.{since_of}
 use Rattle.xt_record.proofs.reuse.Reuse.holds.Goals as goal
 
@@ -80,35 +79,44 @@ returns-in_ok-holds-in-Unasked-clause-sure g c =
       counted = counted_now changes self.steps.asked c.asks_hold.new.steps.asked (marked_of changes self.last.now) holds now vs rs turn c.index-verdict.result.now kept (map event_of c.as_slice-events.result.now) c.verdict_of.ensures
           (omega (arith, k.within, as_many_judged truth vs rs k.sure.judged))
           c.index-verdict.ensures c.in-Unasked.is k.within k.at same c.asks_hold.ensures.steps.most k.sure.counted;
-      quiet = λ none.
-          let asks = c.asks_hold.ensures.steps.asked in
-          let None : List Event → Type 0 = λ es. NoneMarked changes (map event_of es) in
-          let NoneIn : Record → Type 0 = λ r. None r.ran.events.items in
-          let quiet = subst NoneIn c.deref.ensures (subst None c.as_slice-events.ensures.value (c.in_ok-holds-in-Unasked.ensures.quiet none)) in
-          judged_quiet changes holds now vs rs turn kept c.verdict_of.ensures (omega (arith, k.within, as_many_judged truth vs rs k.sure.judged)) k.within k.at
-          quiet (k.sure.quiet (omega (arith, asks, none)));
       next = k.sure.next;
       grown = k.sure.grown;
       trees = k.sure.trees;
       ordered = k.sure.ordered;
     }
 
-pub returns-in-Holds-clause-quiet : goal.returns-in-Holds-clause-quiet
-returns-in-Holds-clause-quiet g c = λ none.
+pub returns-in_ok-holds-in-Unasked-clause-left : goal.returns-in_ok-holds-in-Unasked-clause-left
+returns-in_ok-holds-in-Unasked-clause-left g c =
     let truth = (g.W.World.state c.args.world.now).truth in
     let self = c.args.self.now in
+    let vs = self.verdicts.items in
     let rs = self.last.now.records.items in
     let k = c.requires in
-    none_at (since_of self.spared.now.since.now) self.verdicts.items rs c.args.turn c.index-verdict.result.now c.args.kept.now
-    (omega (arith, k.within, as_many_judged truth self.verdicts.items rs k.sure.judged)) k.within c.index-verdict.ensures
-    (λ unasked. holds_asked (sym c.in-Holds.is ∙ unasked)) k.at (k.sure.quiet none)
+    let changes = since_of self.spared.now.since.now in
+    omega (
+      arith,
+      left_now changes c.in_ok-holds-in-Unasked.holds c.verdict_of.result vs rs c.args.turn c.index-verdict.result.now c.args.kept.now c.verdict_of.ensures
+          (omega (arith, k.within, as_many_judged truth vs rs k.sure.judged))
+          c.index-verdict.ensures c.in-Unasked.is k.within k.at,
+      left_most changes vs rs,
+    )
 
-pub returns-in-Fails-clause-quiet : goal.returns-in-Fails-clause-quiet
-returns-in-Fails-clause-quiet g c = λ none.
+pub returns-in-Holds-clause-left : goal.returns-in-Holds-clause-left
+returns-in-Holds-clause-left g c =
     let truth = (g.W.World.state c.args.world.now).truth in
     let self = c.args.self.now in
     let rs = self.last.now.records.items in
     let k = c.requires in
-    none_at (since_of self.spared.now.since.now) self.verdicts.items rs c.args.turn c.index-verdict.result.now c.args.kept.now
+    left_at (since_of self.spared.now.since.now) self.verdicts.items rs c.args.turn c.index-verdict.result.now c.args.kept.now
     (omega (arith, k.within, as_many_judged truth self.verdicts.items rs k.sure.judged)) k.within c.index-verdict.ensures
-    (λ unasked. fails_asked (sym c.in-Fails.is ∙ unasked)) k.at (k.sure.quiet none)
+    (λ unasked. holds_asked (sym c.in-Holds.is ∙ unasked)) k.at
+
+pub returns-in-Fails-clause-left : goal.returns-in-Fails-clause-left
+returns-in-Fails-clause-left g c =
+    let truth = (g.W.World.state c.args.world.now).truth in
+    let self = c.args.self.now in
+    let rs = self.last.now.records.items in
+    let k = c.requires in
+    left_at (since_of self.spared.now.since.now) self.verdicts.items rs c.args.turn c.index-verdict.result.now c.args.kept.now
+    (omega (arith, k.within, as_many_judged truth self.verdicts.items rs k.sure.judged)) k.within c.index-verdict.ensures
+    (λ unasked. fails_asked (sym c.in-Fails.is ∙ unasked)) k.at

@@ -17,7 +17,6 @@ returns-clause-sure c = on_ok c.add.result c.add.ensures (λ added ask sure hold
       judged = s.judged;
       spared = s.spared;
       counted = s.counted;
-      quiet = s.quiet;
       next = s.next;
       grown = s.grown;
       trees = s.trees;

@@ -4,13 +4,12 @@ use Rattle.std.specs.declared.alloc.Global.{Global}
 use Rattle.xt_record.specs.Sure.{AllHold, AllJudged}
 use Rattle.xt_record.specs.declared.record.Record.{Record}
 use Rattle.xt_record.specs.declared.reuse.Verdict.{Verdict}
-use Rattle.xt_record.specs.Asked.{NoneMarkedJudged, marked_among, marked_left}
+use Rattle.xt_record.specs.Asked.{marked_among, marked_left}
 use Rattle.xt_record.specs.Grown.{values_of, AreTrees}
 use Rattle.xt_record.specs.declared.tree.Tree.{Tree}
 use Rattle.xt_record.proofs.Chaining.{none_some}
 use Rattle.xt_record.proofs.Counting.{unasked_left}
 use Rattle.xt_record.proofs.Judging.{unasked}
-use Rattle.xt_record.proofs.Quiet.{none_judged}
 use Rattle.xt_record.proofs.Sparing.{all_spared}
 use Rattle.xt_touch.specs.View.{since_of}
 use Rattle.xt_record.proofs.reuse.Reuse.new.Goals as goal
@@ -25,8 +24,6 @@ returns-clause-sure c = λ was ask answered spares.
       spared = all_spared was ask c.args.spared.now spares rs answered.hold;
       counted = subst (λ (vs : List Verdict). 0 + marked_left changes vs rs ≤ marked_among changes rs) (sym (c.in_ok-vec.ensures.items_if_clones_equal (λ y e. e)))
           (unasked_left changes c.count.result rs);
-      quiet = λ none. subst (λ (vs : List Verdict). NoneMarkedJudged changes vs rs) (sym (c.in_ok-vec.ensures.items_if_clones_equal (λ y e. e)))
-          (none_judged changes c.count.result rs);
       next = subst (λ (next : List (Rc Record Global)). AllHold ask next) (sym c.new-3.ensures.records) tt;
       grown = subst (λ (ts : List Tree). AreTrees (values_of c.new-3.result.records.items) ts) (sym c.new-3.ensures.trees)
           (λ turn t w here whole. absurd (none_some here));

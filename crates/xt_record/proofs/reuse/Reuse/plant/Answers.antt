@@ -20,7 +20,6 @@ returns-clause-sure c = on_ok c.plant.result (on_both _ _ c.plant.result c.plant
       judged = sure.judged;
       spared = sure.spared;
       counted = sure.counted;
-      quiet = sure.quiet;
       next = subst (λ (rs : List (Rc Record Global)). AllHold ask rs) (sym both.0)
           (all_more ask before copy sure.next (subst Holds (sym c.in_ok-clone.ensures.cases) holds));
       grown = both.1 sure.grown;

@@ -9,7 +9,6 @@ said_at-requires g c =
         judged = sure.judged;
         spared = sure.spared;
         counted = sure.counted;
-        quiet = sure.quiet;
         next = sure.next;
         grown = sure.grown;
         trees = sure.trees;

@@ -27,7 +27,6 @@ returns-clause-sure g c =
       judged = sure.judged;
       spared = sure.spared;
       counted = sure.counted;
-      quiet = sure.quiet;
       next = taken_hold truth vs ts turn levels call x.whole.value x.record.value mid.next.records.items c.take_over.new.self.records.items said
           k.records sure.next;
       grown = k.trees c.requires.sure.trees sure.grown;

@@ -1,7 +1,7 @@
-use Rattle.std.proofs.Common.{◌∙◌, sym, true≢false}
+use Rattle.std.proofs.Common.{◌∙◌, sym}
 use Rattle.xt_questions.specs.View.{question_of}
 use Rattle.xt_spared.specs.View.{owns_in, owns_of}
-use Rattle.xt_spared.proofs.Sparing.{found_spared, spared_first, spared_second, stays_alone}
+use Rattle.xt_spared.proofs.Sparing.{found_spared, spared_first, spared_second}
 use Rattle.xt_touch.specs.View.{since_of}
 use Rattle.xt_spared.proofs.spared.Spared.spares.Goals as goal
 
@@ -22,13 +22,3 @@ returns-clause-spared c = λ is.
     spared_second (since_of self.since.now) self.keys.items (owns_in self.choices) (owns_of self.made_now) question
     (found_spared (since_of self.since.now) self.keys.items (owns_of self.made_now) question c.found_in.result
     k.question k.among k.stays (sym c.is_some-2.ensures ∙ is))
-
-pub returns-then-stays-clause-alone : goal.returns-then-stays-clause-alone
-returns-then-stays-clause-alone c = λ is alone.
-    stays_alone (since_of c.args.self.now.since.now) c.args.self.now.keys.items (question_of c.args.question.now) (sym c.stays.ensures ∙ c.if-stays.true) alone
-
-pub returns-then-is_some-clause-alone : goal.returns-then-is_some-clause-alone
-returns-then-is_some-clause-alone c = λ is alone. absurd (true≢false (sym (c.is_choice.ensures c.if-not-is_choice.false) ∙ alone))
-
-pub returns-clause-alone : goal.returns-clause-alone
-returns-clause-alone c = λ is alone. absurd (true≢false (sym (c.is_choice.ensures c.if-not-is_choice.false) ∙ alone))

@@ -1,24 +1,16 @@
-use Rattle.std.proofs.Common.{◌≡◌, false, ◌∷◌, ◌++◌, sym, ◌∙◌, subst}
-use Rattle.std.specs.List.{list_any}
+use Rattle.std.proofs.Common.{◌++◌, subst}
 use Rattle.spec_change.specs.Change.{Change}
 use Rattle.xt_edit.specs.Telling.{change_in}
-use Rattle.xt_touch.specs.Named.{IsApart, is_within}
-use Rattle.xt_touch.proofs.Within.{apart, outside, outside_alone}
+use Rattle.xt_touch.specs.Named.{LieOutside}
+use Rattle.xt_touch.proofs.Within.{apart}
 use Rattle.xt_touch.proofs.source.SourceMarks.meets.Goals as goal
 
 pub returns : goal.returns
-returns c = λ held.
+returns c = λ around.
     let change = change_in c.self.inside.change in
-    let sets = c.self.invariant in
-    let beside = c.self.inside.beside in
-    let named = c.args.named.now in
-    let none_held : list_any (is_within named.inside) (change.node ∷ change.above) ≡ false =
-    subst (λ (x : Change). list_any (is_within named.inside) (x.node ∷ x.above) ≡ false) (sym c.self.view_is) (sym c.is_held_within.ensures ∙ held) in
-    let is_apart : IsApart change named = record {
-      moving = apart (change.gone ++ change.brought) c.self.inside.goes named.all sets.within_goes (c.meets.ensures c.if-meets.false);
-      node_near = outside_alone change.node named.near (sym c.has.ensures ∙ c.if-has.false);
-      children_near = apart (change.before ++ change.after) beside named.near sets.within_beside (c.meets-2.ensures c.if-meets-2.false);
-      holding_inside = outside (change.node ∷ change.above) named.inside none_held;
-      children_inside = apart (change.before ++ change.after) beside named.inside sets.within_beside (c.meets-3.ensures c.if-meets-3.false);
-    } in
-    subst (λ (x : Change). IsApart x named) c.self.view_is is_apart
+    let inside = c.args.named.now.inside in
+    let beside = apart (change.before ++ change.after) c.self.inside.beside inside c.self.invariant.within_beside (c.meets.ensures c.if-meets.false) in
+    record {
+      around = c.meets_around.ensures around;
+      loose_inside = subst (λ (x : Change). LieOutside (x.before ++ x.after) inside) c.self.view_is beside;
+    }
