@@ -22,6 +22,7 @@ ghost use Rattle.xt_record.specs.Sure.{AreAnswered, IsSure};
 ghost use Rattle.xt_own.specs.View.{Carries, OwnDecides};
 ghost use Rattle.spec_run.specs.Documents.{Parameters as Values};
 ghost use Rattle.xt_world.specs.ParameterView.{parameters_of};
+ghost use Rattle.xt_world.specs.SourceView.{AreFound};
 ghost use Rattle.xt_world.specs.View.{truth_in};
 ghost use Rattle.xt_touch.specs.View.{since_of};
 ghost use Rattle.xt_held.specs.Complete.{Completes, KeepsWhere};
@@ -53,7 +54,7 @@ use xt_syntax::{Method, SpaceRules};
 use xt_text::{Memory, Path, Text};
 use xt_touch::Since;
 use xt_tree::{Doc, NodeRef};
-use xt_world::{Parameters, SheetWorld, Stylesheet, same_run};
+use xt_world::{FoundKeys, Parameters, SheetWorld, Stylesheet, same_run};
 
 /// What the transformation of documents comes to (XSLT 1.0, section 2.1).
 #[derive(Drop)]
@@ -271,19 +272,21 @@ fn whole(
     ensures complete { IfOk result (λ over. Completes (setting_on stylesheet.now (parameters_of parameters.now) source.now) over.whole over.kept.records) }
 {
     source.distinct_numbers();
-    let prepared = last
+    let (prepared, found) = last
         .own
         .prepare(alloc, since, source, stylesheet, &last.records)?;
+    let records = &last.records;
     let spared = &prepared.spared;
-    let Ok(recorded) = run_recorded(alloc, stylesheet, parameters, source, &last.records, spared)
-    else {
+    let Ok(recorded) = run_recorded(
+        alloc, stylesheet, parameters, source, records, spared, found,
+    ) else {
         drop(prepared);
         return Err(Memory);
     };
     with_own(alloc, stylesheet, source, prepared, recorded)
 }
 
-// The run in a world of its own, where these questions need not be asked again.
+// The run in a world of its own, in which these keys were found already, where these questions need not be asked again.
 fn run_recorded(
     alloc: Global,
     stylesheet: &Stylesheet,
@@ -291,8 +294,10 @@ fn run_recorded(
     source: &Doc,
     last: &Pool,
     spared: &Spared<'_>,
+    keys: Vec<FoundKeys>,
 ) -> Result<Recorded, Memory>
-    requires { SparesRecords (truth_in stylesheet.now (parameters_of parameters.now) source.now) last.now spared.now }
+    requires spares { SparesRecords (truth_in stylesheet.now (parameters_of parameters.now) source.now) last.now spared.now }
+    requires found { AreFound stylesheet.now source.now keys.items }
     ensures run { (sheet : plain.Sheet) → AnswersAs stylesheet.now sheet
         → IfOk result (λ over. whole_of over.whole ≡ run_of (setting_of sheet (parameters_of parameters.now) (document_of (plain_of source.now)))) }
     ensures records { IfOk result (λ over. AreAnswered (truth_in stylesheet.now (parameters_of parameters.now) source.now) over.records) }
@@ -305,7 +310,7 @@ fn run_recorded(
     source.distinct_numbers();
     let root = NodeRef::of(source.root());
     let mut reuse = Reuse::new(alloc, last, spared)?;
-    let mut world = SheetWorld::new(alloc, source, stylesheet, parameters);
+    let mut world = SheetWorld::new(alloc, source, stylesheet, parameters, keys);
     let mut engine = Runner::new();
     let whole = run(
         alloc,

@@ -1,6 +1,6 @@
 pub mod There
 pub mod Programs
-pub mod Matched
+pub mod OneNode
 pub mod Entries
 pub mod Grouping
 pub mod Lookups

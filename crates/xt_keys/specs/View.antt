@@ -7,8 +7,7 @@ use Rattle.std.specs.declared.alloc.Global.{Global}
 use Rattle.std.specs.declared.string.String.{String}
 use Rattle.spec_meaning.specs.Naming.{AreApart}
 use Rattle.spec_meaning.specs.Program.{Program, Give, Supply, State, then}
-use Rattle.spec_transform.specs.Match.{matches}
-use Rattle.spec_transform.specs.Key.{KeyAt, Entry, pattern_context}
+use Rattle.spec_transform.specs.Key.{KeyAt, Entry}
 use Rattle.spec_node.specs.declared.node_ref.NodeRef.{NodeRef}
 use Rattle.spec_node.specs.Naming.{same_ref}
 use Rattle.xt_syntax.specs.PartView.{site_of}
@@ -97,18 +96,6 @@ with_each text node [] nodes = nodes
 with_each text node (t ∷ ts) nodes = with_each text node ts (if bytes_eq t text then with_node node nodes else nodes)
 
 -- ---- One node
-
--- whether it matches a key
-abbrev pub matches_at : KeyAt → NodeRef → Program NodeRef Bool
-matches_at k node = matches same_ref (pattern_context k node) k.key.pattern node
-
--- whether it matches one of these keys; or whether it did so before
-abbrev pub matched : List KeyAt → NodeRef → Program NodeRef Bool
-matched [] node = Give false
-matched (k ∷ ks) node = (then) (matches_at k node) (λ before. if before then Give true else matched ks node)
-
-abbrev pub matched_or : List KeyAt → NodeRef → Bool → Program NodeRef Bool
-matched_or ks node before = if before then Give true else matched ks node
 
 -- the list at the end
 abbrev pub last_list : List (List (List ℕ)) → List (List ℕ)

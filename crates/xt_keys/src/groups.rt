@@ -98,12 +98,9 @@ impl KeyIndex {
     }
 }
 
-/// The index of nodes by what was found for each.
-pub(crate) fn grouped(
-    alloc: Global,
-    nodes: &[NodeRef],
-    found: &[Vec<Text>],
-) -> Result<KeyIndex, Memory>
+/// The index of these nodes, no two of which are the same, by the values of each: those at its place among the lists. So
+/// nodes are found that are known to have these values, with no question asked of any of them.
+pub fn grouped(alloc: Global, nodes: &[NodeRef], found: &[Vec<Text>]) -> Result<KeyIndex, Memory>
     requires apart { AreNodesApart nodes.now }
     requires each { length found.now ≡ length nodes.now }
     ensures { IfOk result (λ index. (text : List ℕ) → nodes_found text index ≡ having text nodes.now (map items found.now)) }

@@ -108,7 +108,7 @@ fn refused_there(
 }
 
 // Where the pattern and the use of a key at this site stand for a node: there are no variables.
-pub(crate) fn context_at(site: &Site, node: NodeRef) -> Result<Context, Memory>
+fn context_at(site: &Site, node: NodeRef) -> Result<Context, Memory>
     ensures { IfOk result (IsContextOf site.now node) }
 {
     let scope = site.scope.copy()?;

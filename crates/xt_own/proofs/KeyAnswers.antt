@@ -19,45 +19,39 @@ use Rattle.xt_keys.proofs.Grouping.{having_is}
 use Rattle.xt_world.specs.View.{truth_in}
 use Rattle.xt_world.specs.declared.stylesheet.Stylesheet.{Stylesheet}
 use Rattle.xt_spared.specs.View.{questions_of}
-use Rattle.xt_own.specs.Keys.{AreKnown, AreNodesOf, IsKeyOf, nodes_of}
+use Rattle.xt_own.specs.Keys.{AreNodesOf, IsKeyOf, having_in, lists_of, nodes_of}
 use Rattle.xt_own.specs.declared.own_key.OwnKey.{OwnKey}
 use Rattle.xt_own.specs.declared.own_node.OwnNode.{OwnNode}
 use Rattle.xt_own.proofs.AtOnce.{AllGive, all_at_once}
 use Rattle.xt_own.proofs.NodeReading.{agree_with_itself}
 
-each_gives : (s : Stylesheet) (p : Parameters) (d : Document ℕ) (name : Expanded) (owns : List (Rc OwnNode Global)) (lists : List (List (List ℕ)))
-    → AreNodesOf s (truth_in s p d) name owns lists → AllGive (truth_of d) (keys_named name (units_in s.units.items)) [] (nodes_of owns) lists
-each_gives s p d name [] [] known = tt
-each_gives s p d name [] (l ∷ lists) known = absurd known
-each_gives s p d name (own ∷ owns) [] known = absurd known
-each_gives s p d name (own ∷ owns) (l ∷ lists) known = (
-  record { before = []; same = refl; gives = known.0.decided p d refl (agree_with_itself (truth_in s p d) (questions_of own.value.reads.items)) },
-  each_gives s p d name owns lists known.1,
+each_gives : (s : Stylesheet) (p : Parameters) (d : Document ℕ) (name : Expanded) (owns : List (Rc OwnNode Global))
+    → AreNodesOf s (truth_in s p d) name owns → AllGive (truth_of d) (keys_named name (units_in s.units.items)) [] (nodes_of owns) (lists_of owns)
+each_gives s p d name [] known = tt
+each_gives s p d name (own ∷ owns) known = (
+  record { before = []; same = refl; gives = known.0 p d refl (agree_with_itself (truth_in s p d) (questions_of own.value.reads.items)) },
+  each_gives s p d name owns known.1,
 )
 
-pub answers_so : (s : Stylesheet) (p : Parameters) (d : Document ℕ) (name : Expanded) (owns : List (Rc OwnNode Global)) (lists : List (List (List ℕ)))
-    → nodes_of owns ≡ map ref_of (entries_of d) → AreNodesApart (map ref_of (entries_of d)) → AreNodesOf s (truth_in s p d) name owns lists
-    → (text : List ℕ) → truth_in s p d (Key name text) ≡ SomeNodes (having text (nodes_of owns) lists)
-answers_so s p d name owns lists all apart known text =
+pub answers_so : (s : Stylesheet) (p : Parameters) (d : Document ℕ) (name : Expanded) (owns : List (Rc OwnNode Global))
+    → nodes_of owns ≡ map ref_of (entries_of d) → AreNodesApart (map ref_of (entries_of d)) → AreNodesOf s (truth_in s p d) name owns
+    → (text : List ℕ) → truth_in s p d (Key name text) ≡ SomeNodes (having_in text owns)
+answers_so s p d name owns all apart known text =
     let nodes = nodes_of owns in
     let ks = keys_named name (units_in s.units.items) in
-    let told = all_at_once (truth_of d) ks nodes lists [] (subst AreNodesApart (sym all) apart) (each_gives s p d name owns lists known) in
+    let told = all_at_once (truth_of d) ks nodes (lists_of owns) [] (subst AreNodesApart (sym all) apart) (each_gives s p d name owns known) in
     ap (λ (ns : List NodeRef). keyed same_ref ns text (outcome_of (truth_of d) no_globals (indexed same_ref ks ns []))) (sym all)
     ∙ ap (keyed same_ref nodes text) told.gives
     ∙ ap (λ (ns : List NodeRef). SomeNodes ns) (sym (having_is nodes told.entries text) ∙ ap (having text nodes) told.texts)
 
 -- all nodes of a source, asked there
 pub key_known : (s : Stylesheet) (p : Parameters) (d : Document ℕ) (key : OwnKey) → nodes_of key.nodes.items ≡ map ref_of (entries_of d)
-    → AreNodesApart (map ref_of (entries_of d)) → AreKnown s (truth_in s p d) key.name key.nodes.items → IsKeyOf s (truth_in s p d) key
-key_known s p d key all apart known = record {
-  lists = known.lists;
-  nodes = known.known;
-  answers = answers_so s p d key.name key.nodes.items known.lists all apart known.known;
-}
+    → AreNodesApart (map ref_of (entries_of d)) → AreNodesOf s (truth_in s p d) key.name key.nodes.items → IsKeyOf s (truth_in s p d) key
+key_known s p d key all apart known = record { nodes = known; answers = answers_so s p d key.name key.nodes.items all apart known }
 
 pub key_of_known : (s : Stylesheet) (p : Parameters) (d : Document ℕ) (name : Expanded) (key : OwnKey) (owns : Vec (Rc OwnNode Global) Global) → key.name ≡ name → key.nodes ≡ owns
-    → nodes_of owns.items ≡ map ref_of (entries_of d) → AreNodesApart (map ref_of (entries_of d)) → AreKnown s (truth_in s p d) name owns.items → IsKeyOf s (truth_in s p d) key
+    → nodes_of owns.items ≡ map ref_of (entries_of d) → AreNodesApart (map ref_of (entries_of d)) → AreNodesOf s (truth_in s p d) name owns.items → IsKeyOf s (truth_in s p d) key
 key_of_known s p d name key owns named held all apart known =
-    let K : Expanded → Type 0 = λ n. AreKnown s (truth_in s p d) n key.nodes.items in
-    let L : Vec (Rc OwnNode Global) Global → Type 0 = λ v. AreKnown s (truth_in s p d) name v.items in
+    let K : Expanded → Type 0 = λ n. AreNodesOf s (truth_in s p d) n key.nodes.items in
+    let L : Vec (Rc OwnNode Global) Global → Type 0 = λ v. AreNodesOf s (truth_in s p d) name v.items in
     key_known s p d key (ap (λ (v : Vec (Rc OwnNode Global) Global). nodes_of v.items) held ∙ all) apart (subst K (sym named) (subst L (sym held) known))

@@ -1,7 +1,6 @@
 -- What a log tells.
-use Rattle.std.proofs.Common.{◌≡◌, ℕ, Bool, true, false, not, ◌==◌, List, [], ◌∷◌, length, map, Option, Some, Result, Ok, Err, refl, sym, ap, subst, ◌∙◌, arith}
+use Rattle.std.proofs.Common.{◌≡◌, ℕ, List, [], map, Option, Some, Result, Ok, Err, sym, ap, subst, ◌∙◌}
 use Rattle.std.specs.Prelude.{Vec}
-use Rattle.std.proofs.lemmas.Bool.{eqb-true}
 use Rattle.std.specs.Global.{Global}
 use Rattle.std.specs.declared.rc.Rc.{Rc}
 use Rattle.spec_document.specs.Forest.{Document}
@@ -22,7 +21,7 @@ use Rattle.xt_document_world.specs.View.{truth_of}
 use Rattle.xt_world.specs.View.{truth_in}
 use Rattle.xt_world.specs.declared.stylesheet.Stylesheet.{Stylesheet}
 use Rattle.xt_spared.specs.View.{questions_of}
-use Rattle.xt_own.specs.Keys.{IsKnown, own_questions, texts_of}
+use Rattle.xt_own.specs.Keys.{IsNodeOf, own_questions, texts_of}
 use Rattle.xt_own.specs.Logs.{IsLog, IsReadFor}
 use Rattle.xt_own.specs.declared.own_node.OwnNode.{OwnNode}
 use Rattle.xt_own.proofs.NodeReading.{known_node}
@@ -54,21 +53,8 @@ log_at s d name node units old new found reads same runs =
     let P : List (Rc ResolvedUnit Global) → Type 0 = λ us. Runs items no_globals 0 (texts_of (units_in us) name node) old new found in
     log_of s d name node old new found reads (subst P same runs)
 
-is_true : (b : Bool) → not b ≡ false → b ≡ true
-is_true true e = refl
-is_true false e = absurd (cc)
-
-pub no_texts : (texts : List (List ℕ)) (b : Bool) → b ≡ not (length texts == 0) → b ≡ false → texts ≡ []
-no_texts [] b e h = refl
-no_texts (t ∷ texts) b e h =
-    let none : length (t ∷ texts) ≡ 0 = eqb-true (length (t ∷ texts)) 0 (is_true (length (t ∷ texts) == 0) (sym e ∙ h)) in absurd (omega (arith, none))
-
 -- the node of what was found
-pub told_known : (s : Stylesheet) (p : Parameters) (d : Document ℕ) (name : Expanded) (own : OwnNode) (texts : List (List ℕ)) (reads : List Read)
-    → IsReadFor s d name own.node texts reads
-    → Some (questions_of own.reads.items) ≡ own_questions own.node [] (map read_of reads)
-    → (own.matches ≡ false → texts ≡ []) → IsKnown s (truth_in s p d) name own
-told_known s p d name own texts reads is kept unmatched = record {
-  texts = texts;
-  known = known_node s p d name own texts is.has (ap (λ rs. own_questions own.node [] rs) (sym is.read) ∙ sym kept) unmatched;
-}
+pub told_known : (s : Stylesheet) (p : Parameters) (d : Document ℕ) (name : Expanded) (own : OwnNode) (reads : List Read)
+    → IsReadFor s d name own.node own.texts.items reads → Some (questions_of own.reads.items) ≡ own_questions own.node [] (map read_of reads)
+    → IsNodeOf s (truth_in s p d) name own
+told_known s p d name own reads is kept = known_node s p d name own is.has (ap (λ rs. own_questions own.node [] rs) (sym is.read) ∙ sym kept)

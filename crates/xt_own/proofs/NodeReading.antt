@@ -17,12 +17,11 @@ use Rattle.spec_node.specs.declared.node_ref.Part.{Part}
 use Rattle.spec_node.specs.declared.node_ref.Part.TheVariants as part
 use Rattle.xt_match.specs.Context.{units_in}
 use Rattle.xt_questions.specs.Change.{AllStand}
-use Rattle.xt_questions.specs.declared.question.Question.{Question as CodeQuestion}
 use Rattle.xt_document_world.specs.View.{truth_of}
 use Rattle.xt_world.specs.View.{truth_in}
 use Rattle.xt_world.specs.declared.stylesheet.Stylesheet.{Stylesheet}
 use Rattle.xt_spared.specs.View.{Ask, Agrees, questions_of}
-use Rattle.xt_own.specs.Keys.{AgreeOn, HasAsBefore, HasTexts, IsNodeOf, is_name_of, is_of_tree, own_questions, texts_of}
+use Rattle.xt_own.specs.Keys.{AgreeOn, HasTexts, IsNodeOf, is_name_of, is_of_tree, own_questions, texts_of}
 use Rattle.xt_own.specs.Logs.{reads_for}
 use Rattle.xt_own.specs.declared.own_node.OwnNode.{OwnNode}
 
@@ -141,40 +140,21 @@ module _ (s : Stylesheet) (first there : Parameters) (before document : Document
           record { one = (sym (tree_alone s there document q of_tree) ∙ last.1 ∙ tree_alone s first before q of_tree ∙ stand.0, on.one); other = last.0 }
 
 -- the values of a node that were found, with the questions of what was read for them
-pub known_node : (s : Stylesheet) (first : Parameters) (before : Document ℕ) (name : Expanded) (own : OwnNode) (texts : List (List ℕ))
-    → HasTexts s before name own.node texts → own_questions own.node [] (reads_for s before name own.node) ≡ Some (questions_of own.reads.items)
-    → (own.matches ≡ false → texts ≡ []) → IsNodeOf s (truth_in s first before) name own texts
-known_node s first before name own texts has kept unmatched = record {
-  decided = λ there document called agree.
-      let p = texts_of (units_in s.units.items) name own.node in
-      let E : Said (List (List ℕ)) → Type 0 = IsEnded in
-      let hold = reads_hold s first there before document own.node no_globals (questions_of own.reads.items) called agree (reads_for s before name own.node) []
-      (reads_stand (truth_of before) no_globals 0 p) kept in
-      (agreement (truth_of before) (truth_of document) no_globals no_globals 0 p hold.one (subst E (sym has) tt)).0 ∙ has;
-  unmatched = unmatched;
-}
+pub known_node : (s : Stylesheet) (first : Parameters) (before : Document ℕ) (name : Expanded) (own : OwnNode) → HasTexts s before name own.node own.texts.items
+    → own_questions own.node [] (reads_for s before name own.node) ≡ Some (questions_of own.reads.items) → IsNodeOf s (truth_in s first before) name own
+known_node s first before name own has kept = λ there document called agree.
+    let p = texts_of (units_in s.units.items) name own.node in
+    let E : Said (List (List ℕ)) → Type 0 = IsEnded in
+    let hold = reads_hold s first there before document own.node no_globals (questions_of own.reads.items) called agree (reads_for s before name own.node) []
+    (reads_stand (truth_of before) no_globals 0 p) kept in
+    (agreement (truth_of before) (truth_of document) no_globals no_globals 0 p hold.one (subst E (sym has) tt)).0 ∙ has
 
 -- ---- A node that stays
 
 -- its values are as before where after no change it must be asked what it is called or what was asked for them
 pub unasked_stays : (s : Stylesheet) (was ask : Ask) (changes : List WorldChange) (name : Expanded) (own : OwnNode) → Agrees was ask changes
-    → any_asks changes (Name own.node) ≡ false → list_any (any_asks changes) (questions_of own.reads.items) ≡ false → HasAsBefore s was ask name own own
-unasked_stays s was ask changes name own agrees named unasked = λ texts known. record {
-  decided = λ there document called agree.
-      known.decided there document (called ∙ agrees (Name own.node) named)
-      (agree_on (truth_in s there document) ask was (questions_of own.reads.items) agree (agree_unasked was ask changes (questions_of own.reads.items) agrees unasked));
-  unmatched = known.unmatched;
-}
-
--- a node that has no values, before and now
-pub none_as_before : (s : Stylesheet) (was ask : Ask) (name : Expanded) (old new : OwnNode) → old.matches ≡ false → IsNodeOf s ask name new []
-    → HasAsBefore s was ask name old new
-none_as_before s was ask name old new unmatched none = λ texts known. let P : List (List ℕ) → Type 0 = IsNodeOf s ask name new in subst P (sym (known.unmatched unmatched)) none
-
--- the same over what was read of the node
-pub unasked_so : (s : Stylesheet) (was ask : Ask) (changes : List WorldChange) (name : Expanded) (own : OwnNode) {one other : OwnNode} {reads : List CodeQuestion} → Agrees was ask changes
-    → one ≡ own → any_asks changes (Name one.node) ≡ false → other ≡ own → reads ≡ other.reads.items → list_any (any_asks changes) (questions_of reads) ≡ false
-    → HasAsBefore s was ask name own own
-unasked_so s was ask changes name own agrees is named also slice unasked =
-    unasked_stays s was ask changes name own agrees (ap (λ (n : OwnNode). any_asks changes (Name n.node)) (sym is) ∙ named)
-    (ap (λ (qs : List CodeQuestion). list_any (any_asks changes) (questions_of qs)) (sym (slice ∙ ap (λ (n : OwnNode). n.reads.items) also)) ∙ unasked)
+    → any_asks changes (Name own.node) ≡ false → list_any (any_asks changes) (questions_of own.reads.items) ≡ false
+    → IsNodeOf s was name own → IsNodeOf s ask name own
+unasked_stays s was ask changes name own agrees named unasked known = λ there document called agree.
+    known there document (called ∙ agrees (Name own.node) named)
+    (agree_on (truth_in s there document) ask was (questions_of own.reads.items) agree (agree_unasked was ask changes (questions_of own.reads.items) agrees unasked))

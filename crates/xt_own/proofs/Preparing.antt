@@ -1,35 +1,20 @@
 -- What is spared before a run, and what is known of the rest still.
 use Rattle.std.proofs.Common.{◌≡◌, inl, inr, Bool, true, false, not, List, [], ◌∷◌, ◌++◌, refl, sym, ◌∙◌, subst}
-use Rattle.std.specs.Prelude.{ℕ, ◌||◌, IfOk, Result, Ok, Err}
+use Rattle.std.specs.Prelude.{ℕ, ◌||◌}
 use Rattle.std.proofs.lemmas.Bool.{and_parts}
 use Rattle.spec_document.specs.Forest.{Document}
-use Rattle.spec_document.specs.Name.{Expanded}
-use Rattle.spec_meaning.specs.Question.{Question, Step, Text, Name, Place, Order, Key, Choice, Copy, Unit as UnitOf, External}
+use Rattle.spec_meaning.specs.Question.{Question}
 use Rattle.spec_node.specs.declared.node_ref.NodeRef.{NodeRef}
 use Rattle.spec_run.specs.Documents.{Parameters}
 use Rattle.spec_touch.specs.Marks.{WorldChange, any_asks}
-use Rattle.xt_text.specs.declared.memory.Memory.{Memory}
 use Rattle.xt_touch.specs.View.{since_of}
+use Rattle.xt_spared.specs.declared.spared.KeyThatStays.{KeyThatStays}
 use Rattle.xt_spared.specs.View.{Agrees, Ask, IsAmong, IsSpared, KeysStay, Own, Spares, all_stay, by_itself, by_reads, is_key_among, owns_in, owns_of, stays}
 use Rattle.xt_world.specs.View.{truth_in}
 use Rattle.xt_world.specs.declared.stylesheet.Stylesheet.{Stylesheet}
 use Rattle.xt_own.specs.Keys.{AgreeOn, AllKeys}
 use Rattle.xt_own.specs.View.{AllDecide, Carries, IsDecided, IsWorld}
-use Rattle.xt_own.specs.declared.own_key.OwnKey.{OwnKey}
 use Rattle.xt_own.specs.declared.own_reads.Prepared.{Prepared}
-
--- no key is one of none
-pub no_keys : (was ask : Ask) → KeysStay was ask []
-no_keys was ask (Step node axis test) h = absurd (cc)
-no_keys was ask (Text node) h = absurd (cc)
-no_keys was ask (Name node) h = absurd (cc)
-no_keys was ask (Place node) h = absurd (cc)
-no_keys was ask (Order nodes) h = absurd (cc)
-no_keys was ask (Key name value) h = absurd (cc)
-no_keys was ask (Choice node mode candidates) h = absurd (cc)
-no_keys was ask (Copy node) h = absurd (cc)
-no_keys was ask (UnitOf element) h = absurd (cc)
-no_keys was ask (External name) h = absurd (cc)
 
 -- what stays is answered alike
 same_if : {A : Type 0} (marked known : Bool) (a b : A) → (marked ≡ false → a ≡ b) → (known ≡ true → a ≡ b) → (not marked || known) ≡ true → a ≡ b
@@ -37,12 +22,12 @@ same_if false known a b unasked is h = unasked refl
 same_if true true a b unasked is h = is refl
 same_if true false a b unasked is h = absurd (cc)
 
-one_stays : (was ask : Ask) (changes : List WorldChange) (names : List Expanded) → Agrees was ask changes → KeysStay was ask names
+one_stays : (was ask : Ask) (changes : List WorldChange) (names : List KeyThatStays) → Agrees was ask changes → KeysStay was ask names
     → (q : Question NodeRef) → stays changes names q ≡ true → ask q ≡ was q
 one_stays was ask changes names agrees keys q h =
     same_if (any_asks changes q) (is_key_among names q) (ask q) (was q) (agrees q) (keys q) h
 
-all_agree : (was ask : Ask) (changes : List WorldChange) (names : List Expanded) → Agrees was ask changes → KeysStay was ask names
+all_agree : (was ask : Ask) (changes : List WorldChange) (names : List KeyThatStays) → Agrees was ask changes → KeysStay was ask names
     → (qs : List (Question NodeRef)) → all_stay changes names qs ≡ true → AgreeOn ask was qs
 all_agree was ask changes names agrees keys [] h = tt
 all_agree was ask changes names agrees keys (q ∷ qs) h =
@@ -78,7 +63,7 @@ some_world s was true made world none own among = world refl
 some_world s was false made world none own among = absurd (subst (λ (owns : List Own). IsAmong own owns) (none refl) among)
 
 -- `owns` were made before, and `made` now
-module _ (s : Stylesheet) (was : Ask) (parameters : Parameters) (document : Document ℕ) (changes : List WorldChange) (names : List Expanded)
+module _ (s : Stylesheet) (was : Ask) (parameters : Parameters) (document : Document ℕ) (changes : List WorldChange) (names : List KeyThatStays)
     (owns made : List Own) (agrees : Agrees was (truth_in s parameters document) changes) (keys : KeysStay was (truth_in s parameters document) names)
     (are : AllDecide s was owns) (now : AllDecide s (truth_in s parameters document) made) (world : (own : Own) → IsAmong own made → IsWorld s was) where
   agree : (own : Own) → all_stay changes names own.reads ≡ true → AgreeOn (truth_in s parameters document) was own.reads
@@ -109,8 +94,8 @@ module _ (s : Stylesheet) (was : Ask) (parameters : Parameters) (document : Docu
       let decides = one_decides s was owns own among are in
       decides others other (agree_through (truth_in s others other) ask was own.reads on stay) ∙ sym (decides parameters document stay)
 
--- what is prepared of these changes, names, choices and keys
-pub prepared : (p : Prepared) (s : Stylesheet) (was : Ask) (parameters : Parameters) (document : Document ℕ) (changes : List WorldChange) (names : List Expanded)
+-- what is prepared of these changes, keys that stay and choices
+pub prepared : (p : Prepared) (s : Stylesheet) (was : Ask) (parameters : Parameters) (document : Document ℕ) (changes : List WorldChange) (names : List KeyThatStays)
     (owns made : List Own) → since_of p.spared.since.now ≡ changes → p.spared.keys.items ≡ names → owns_in p.spared.choices ≡ owns
     → owns_of p.spared.made_now ≡ made
     → Agrees was (truth_in s parameters document) changes → KeysStay was (truth_in s parameters document) names → AllDecide s was owns
@@ -132,16 +117,3 @@ prepared p s was parameters document changes names owns made e f g m agrees keys
         keys = known;
       },
     )
-
-pub prepared_if : (r : Result Prepared Memory) (s : Stylesheet) (was : Ask) (parameters : Parameters) (document : Document ℕ) (changes : List WorldChange)
-    (names : List Expanded) (owns made : List Own) (keys : List OwnKey)
-    → IfOk r (λ p. since_of p.spared.since.now ≡ changes) → IfOk r (λ p. p.spared.keys.items ≡ names) → IfOk r (λ p. owns_in p.spared.choices ≡ owns)
-    → IfOk r (λ p. owns_of p.spared.made_now ≡ made) → IfOk r (λ p. p.keys.items ≡ keys)
-    → Agrees was (truth_in s parameters document) changes → KeysStay was (truth_in s parameters document) names → AllDecide s was owns
-    → AllDecide s (truth_in s parameters document) made → ((own : Own) → IsAmong own made → IsWorld s was)
-    → AllKeys s (truth_in s parameters document) keys
-    → IfOk r (λ p. Spares was (truth_in s parameters document) p.spared × Carries s (truth_in s parameters document) p)
-prepared_if (Ok p) s was parameters document changes names owns made keys e f g m k agrees stay are now world known =
-    prepared p s was parameters document changes names owns made e f g m agrees stay are now world
-    (subst (AllKeys s (truth_in s parameters document)) (sym k) known)
-prepared_if (Err x) s was parameters document changes names owns made keys e f g m k agrees stay are now world known = tt

@@ -19,11 +19,13 @@ use Rattle.xt_document_world.specs.View.{truth_of}
 use Rattle.xt_touch.specs.View.{since_of}
 use Rattle.xt_touch.specs.declared.since.Since.{Since}
 use Rattle.xt_keys.specs.View.{having, texts_at}
+use Rattle.xt_world.specs.SourceView.{AreFound}
 use Rattle.xt_world.specs.View.{truth_in}
 use Rattle.xt_world.specs.declared.stylesheet.Stylesheet.{Stylesheet}
-use Rattle.xt_spared.specs.View.{Ask, Agrees, questions_of}
+use Rattle.xt_spared.specs.View.{Ask, Agrees, KeysStay, is_text_among, questions_of}
 use Rattle.xt_own.specs.declared.own_node.OwnNode.{OwnNode}
 use Rattle.xt_own.specs.declared.own_key.OwnKey.{OwnKey}
+use Rattle.xt_own.specs.declared.stay.KeysAfter.{KeysAfter}
 
 -- ---- What is asked
 
@@ -72,87 +74,75 @@ texts_of units name node = (then) (indexed same_ref (keys_named name units) (nod
 abbrev pub HasTexts : Stylesheet → Document ℕ → Expanded → NodeRef → List (List ℕ) → Type 0
 HasTexts s document name node texts = outcome_of (truth_of document) no_globals (texts_of (units_in s.units.items) name node) ≡ Gives texts
 
-pub record IsNodeOf (s : Stylesheet) (was : Ask) (name : Expanded) (own : OwnNode) (texts : List (List ℕ)) : Type 0 where
-  pub decided : (parameters : Parameters) (document : Document ℕ)
-      → truth_in s parameters document (Name own.node) ≡ was (Name own.node)
-      → AgreeOn (truth_in s parameters document) was (questions_of own.reads.items)
-      → HasTexts s document name own.node texts
-  pub unmatched : own.matches ≡ false → texts ≡ []
-
--- it has some values
-pub record IsKnown (s : Stylesheet) (was : Ask) (name : Expanded) (own : OwnNode) : Type 0 where
-  pub texts : List (List ℕ)
-  pub known : IsNodeOf s was name own texts
+-- these are its values, wherever what was asked for them has the same answers
+abbrev pub IsNodeOf : Stylesheet → (was : Ask) → Expanded → OwnNode → Type 0
+IsNodeOf s was name own =
+    (parameters : Parameters) (document : Document ℕ) → truth_in s parameters document (Name own.node) ≡ was (Name own.node)
+    → AgreeOn (truth_in s parameters document) was (questions_of own.reads.items) → HasTexts s document name own.node own.texts.items
 
 -- ---- The keys of a name
 
 abbrev pub nodes_of : List (Rc OwnNode Global) → List NodeRef
 nodes_of owns = map (λ own. own.value.node) owns
 
-abbrev pub AreNodesOf : Stylesheet → Ask → Expanded → List (Rc OwnNode Global) → List (List (List ℕ)) → Type 0
-AreNodesOf s was name [] [] = Unit {0}
-AreNodesOf s was name [] (texts ∷ lists) = ⊥
-AreNodesOf s was name (own ∷ owns) [] = ⊥
-AreNodesOf s was name (own ∷ owns) (texts ∷ lists) = IsNodeOf s was name own.value texts × AreNodesOf s was name owns lists
+abbrev pub lists_of : List (Rc OwnNode Global) → List (List (List ℕ))
+lists_of owns = map (λ own. own.value.texts.items) owns
 
--- they have some values
-pub record AreKnown (s : Stylesheet) (was : Ask) (name : Expanded) (owns : List (Rc OwnNode Global)) : Type 0 where
-  pub lists : List (List (List ℕ))
-  pub known : AreNodesOf s was name owns lists
+abbrev pub AreNodesOf : Stylesheet → Ask → Expanded → List (Rc OwnNode Global) → Type 0
+AreNodesOf s was name [] = Unit {0}
+AreNodesOf s was name (own ∷ owns) = IsNodeOf s was name own.value × AreNodesOf s was name owns
+
+-- the nodes that have a text
+abbrev pub having_in : List ℕ → List (Rc OwnNode Global) → List NodeRef
+having_in text owns = having text (nodes_of owns) (lists_of owns)
 
 pub record IsKeyOf (s : Stylesheet) (was : Ask) (key : OwnKey) : Type 0 where
-  pub lists : List (List (List ℕ))
-  pub nodes : AreNodesOf s was key.name key.nodes.items lists
-  pub answers : (text : List ℕ) → was (Key key.name text) ≡ SomeNodes (having text (nodes_of key.nodes.items) lists)
+  pub nodes : AreNodesOf s was key.name key.nodes.items
+  pub answers : (text : List ℕ) → was (Key key.name text) ≡ SomeNodes (having_in text key.nodes.items)
 
 abbrev pub AllKeys : Stylesheet → Ask → List OwnKey → Type 0
 AllKeys s was [] = Unit {0}
 AllKeys s was (key ∷ keys) = IsKeyOf s was key × AllKeys s was keys
 
-abbrev pub names_of : List OwnKey → List Expanded
-names_of keys = map (λ key. key.name) keys
-
 -- ---- Keys that stay
 
--- which nodes have a value is answered as before
-abbrev pub AnswersStay : (was ask : Ask) → Expanded → Type 0
-AnswersStay was ask name = (text : List ℕ) → ask (Key name text) ≡ was (Key name text)
+-- which nodes have a value is answered as before, but for these values
+abbrev pub AnswersStay : (was ask : Ask) → Expanded → (but : List (List ℕ)) → Type 0
+AnswersStay was ask name but = (text : List ℕ) → is_text_among text but ≡ false → ask (Key name text) ≡ was (Key name text)
 
-pub record Stays (s : Stylesheet) (was ask : Ask) (key : OwnKey) : Type 0 where
+pub record Stays (s : Stylesheet) (was ask : Ask) (key : OwnKey) (but : List (List ℕ)) : Type 0 where
   pub known : IsKeyOf s ask key
-  pub answers : AnswersStay was ask key.name
+  pub answers : AnswersStay was ask key.name but
 
-abbrev pub AllStay : Stylesheet → (was ask : Ask) → List OwnKey → Type 0
-AllStay s was ask [] = Unit {0}
-AllStay s was ask (key ∷ keys) = Stays s was ask key × AllStay s was ask keys
-
-abbrev pub with_some : List OwnKey → Option OwnKey → List OwnKey
-with_some keys None = keys
-with_some keys (Some key) = keys ++ key ∷ []
-
--- a node that stays has the values that it had
-abbrev pub HasAsBefore : Stylesheet → (was ask : Ask) → Expanded → (old new : OwnNode) → Type 0
-HasAsBefore s was ask name old new = (texts : List (List ℕ)) → IsNodeOf s was name old texts → IsNodeOf s ask name new texts
+-- what is known of all keys that stay
+pub record AreAfter (s : Stylesheet) (was : Ask) (parameters : Parameters) (document : Document ℕ) (after : KeysAfter) : Type 0 where
+  pub stay : KeysStay was (truth_in s parameters document) after.stay.items
+  pub keys : AllKeys s (truth_in s parameters document) after.keys.items
+  pub found : AreFound s document after.found.items
 
 -- ---- Two lists that are passed side by side: the nodes of before and those of now
 
--- the answer for each text is of what was found and then of what is left
-pub record Passed (s : Stylesheet) (was ask : Ask) (name : Expanded) (answer : List ℕ → List NodeRef) (left found : List (Rc OwnNode Global)) : Type 0 where
-  pub before : List (List (List ℕ))
-  pub after : List (List (List ℕ))
-  pub old : AreNodesOf s was name left before
-  pub new : AreNodesOf s ask name found after
-  pub same : (text : List ℕ) → answer text ≡ having text (nodes_of found) after ++ having text (nodes_of left) before
+-- but for these texts the answer is of what was found and then of what is left
+pub record Passed (s : Stylesheet) (was ask : Ask) (name : Expanded) (answer : List ℕ → List NodeRef) (but : List (List ℕ)) (left found : List (Rc OwnNode Global))
+    : Type 0 where
+  pub old : AreNodesOf s was name left
+  pub new : AreNodesOf s ask name found
+  pub same : (text : List ℕ) → is_text_among text but ≡ false → answer text ≡ having_in text found ++ having_in text left
+
+-- each of these texts is among those
+abbrev pub Covers : (texts but : List (List ℕ)) → Type 0
+Covers texts but = (text : List ℕ) → is_text_among text but ≡ false → is_text_among text texts ≡ false
 
 -- so it is from here to there
-abbrev pub Goes : Stylesheet → Document ℕ → Since → Expanded → (left found left_after found_after : List (Rc OwnNode Global)) → Type 0
-Goes s document since name left found left_after found_after =
+abbrev pub Goes : Stylesheet → Document ℕ → Since → Expanded → (but : List (List ℕ)) → (left found : List (Rc OwnNode Global))
+    → (but_after : List (List ℕ)) → (left_after found_after : List (Rc OwnNode Global)) → Type 0
+Goes s document since name but left found but_after left_after found_after =
     (was : Ask) (parameters : Parameters) (answer : List ℕ → List NodeRef) → Agrees was (truth_in s parameters document) (since_of since)
-    → Passed s was (truth_in s parameters document) name answer left found
-    → Passed s was (truth_in s parameters document) name answer left_after found_after
+    → Passed s was (truth_in s parameters document) name answer but left found
+    → Passed s was (truth_in s parameters document) name answer but_after left_after found_after
 
--- so it is where some are left out
-abbrev pub Skips : Expanded → (left left_after : List (Rc OwnNode Global)) → Type 0
-Skips name left left_after =
-    (s : Stylesheet) (was ask : Ask) (answer : List ℕ → List NodeRef) (found : List (Rc OwnNode Global))
-    → Passed s was ask name answer left found → Passed s was ask name answer left_after found
+-- so it is where some are left out, whose values are added
+abbrev pub Skips : (but : List (List ℕ)) → (left : List (Rc OwnNode Global)) → (but_after : List (List ℕ)) → (left_after : List (Rc OwnNode Global)) → Type 0
+Skips but left but_after left_after =
+    (s : Stylesheet) (was ask : Ask) (name : Expanded) (answer : List ℕ → List NodeRef) (found : List (Rc OwnNode Global))
+    → Passed s was ask name answer but left found → Passed s was ask name answer but_after left_after found

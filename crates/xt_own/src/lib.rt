@@ -6,8 +6,9 @@
 //! each key, of each node. Before the next run this tells which of them need not be asked again.
 //!
 //! ```text
-//! let prepared = own.prepare(alloc, &since, &source, &stylesheet, &last)?;  // before a run, by the records of the last
+//! let (prepared, found) = own.prepare(alloc, &since, &source, &stylesheet, &last)?;  // before a run, by the records of the last
 //! prepared.spared                                                          // for what asks again
+//! found                                                                    // indexes of keys, for the world of the run
 //! let own = prepared.gather(alloc, &source, &stylesheet, &kept)?;           // after it
 //! ```
 #![tactic(auto)]
@@ -16,6 +17,7 @@ mod asked;
 mod choices;
 mod choosing;
 mod gathering;
+mod indexing;
 mod moved;
 mod own_key;
 mod own_node;
@@ -27,3 +29,4 @@ mod stay;
 pub use own_key::OwnKey;
 pub use own_node::OwnNode;
 pub use own_reads::{OwnReads, Prepared};
+pub use stay::{KeptKey, KeysAfter};

@@ -2,7 +2,7 @@
 ghost use Rattle.std.specs.Prelude.{◌≡◌, IfOk, IfSome};
 ghost use Rattle.spec_run.specs.Documents.{Parameters};
 ghost use Rattle.xt_world.specs.View.{truth_in};
-ghost use Rattle.xt_own.specs.Keys.{AreKnown, IsKeyOf, nodes_of};
+ghost use Rattle.xt_own.specs.Keys.{AreNodesOf, IsKeyOf, nodes_of};
 
 use crate::own_node::{OwnNode, own_node};
 use std::alloc::Global;
@@ -13,7 +13,7 @@ use xt_text::Memory;
 use xt_tree::{Doc, NodeRef};
 use xt_world::Stylesheet;
 
-/// The keys of one name: all nodes of a source, in document order, each with what was asked for its values.
+/// The keys of one name: all nodes of a source, in document order, each with its values and what was asked for them.
 #[derive(Drop)]
 pub struct OwnKey {
     pub(crate) name: Expanded,
@@ -64,7 +64,7 @@ fn own_nodes(
     nodes: &[NodeRef],
 ) -> Result<Option<Vec<Rc<OwnNode>>>, Memory>
     ensures nodes { IfOk result (λ o. IfSome o (λ owns. nodes_of owns.items ≡ nodes.now)) }
-    ensures known { (parameters : Parameters) → IfOk result (λ o. IfSome o (λ owns. AreKnown stylesheet.now (truth_in stylesheet.now parameters document.now) name.now owns.items)) }
+    ensures known { (parameters : Parameters) → IfOk result (λ o. IfSome o (λ owns. AreNodesOf stylesheet.now (truth_in stylesheet.now parameters document.now) name.now owns.items)) }
 {
     let mut owns = Vec::new(alloc);
     for node in nodes {

@@ -2,24 +2,25 @@
 ghost use Rattle.std.specs.Prelude.{◌≡◌, true, false, [], Ok, IfOk, OnOk};
 ghost use Rattle.spec_run.specs.Documents.{Parameters};
 ghost use Rattle.xt_touch.specs.View.{keep_sheet, since_of};
-ghost use Rattle.xt_spared.specs.View.{Agrees, Ask, KeysStay, Spares, owns_in, owns_of};
+ghost use Rattle.xt_spared.specs.View.{Agrees, Ask, Spares, owns_in, owns_of};
+ghost use Rattle.xt_world.specs.SourceView.{AreFound};
 ghost use Rattle.xt_world.specs.View.{truth_in};
-ghost use Rattle.xt_own.specs.Keys.{AllKeys, names_of};
+ghost use Rattle.xt_own.specs.Keys.{AllKeys, AreAfter};
 ghost use Rattle.xt_own.specs.View.{AllDecide, Carries, CarriesChoices, OwnDecides};
 
 use crate::gathering::gather_choices;
 use crate::moved::choices_made_now;
 use crate::own_key::{OwnKey, own_key};
-use crate::stay::keys_that_stay;
+use crate::stay::{KeysAfter, keys_that_stay, no_keys};
 use std::alloc::Global;
-use xt_names::{Expanded, copy_name};
+use xt_names::Expanded;
 use xt_record::Pool;
 use xt_spared::{OwnChoices, Spared};
 use xt_syntax::Declared;
 use xt_text::Memory;
 use xt_touch::{Modes, Since};
 use xt_tree::Doc;
-use xt_world::Stylesheet;
+use xt_world::{FoundKeys, Stylesheet};
 
 /// What was asked, after a run, for each choice and each key that it asked.
 #[derive(Drop)]
@@ -55,7 +56,8 @@ impl OwnReads {
 
     /// What need not be asked again after these changes since the run that kept these records: nothing but what they do not
     /// mark, where one of them is no change of the source and gives no parameter. After a move choices of which nothing is
-    /// known are made once more.
+    /// known are made once more. Beside it stand the indexes of keys of which some values may be others: the world of the run
+    /// need not find these nodes by patterns.
     pub fn prepare<'a>(
         &'a self,
         alloc: Global,
@@ -63,21 +65,23 @@ impl OwnReads {
         document: &Doc,
         stylesheet: &Stylesheet,
         last: &Pool,
-    ) -> Result<Prepared<'a>, Memory>
+    ) -> Result<(Prepared<'a>, Vec<FoundKeys>), Memory>
         ensures spares { (was : Ask) (parameters : Parameters) → (keep_sheet (since_of since.now) ≡ true → OwnDecides stylesheet.now was self.now)
             → Agrees was (truth_in stylesheet.now parameters document.now) (since_of since.now)
-            → IfOk result (λ p. Spares was (truth_in stylesheet.now parameters document.now) p.spared × Carries stylesheet.now (truth_in stylesheet.now parameters document.now) p) }
-        ensures since { IfOk result (λ p. p.spared.since.now ≡ since.now) }
+            → IfOk result (λ p. Spares was (truth_in stylesheet.now parameters document.now) p.0.spared × Carries stylesheet.now (truth_in stylesheet.now parameters document.now) p.0) }
+        ensures found { (was : Ask) (parameters : Parameters) → (keep_sheet (since_of since.now) ≡ true → OwnDecides stylesheet.now was self.now)
+            → Agrees was (truth_in stylesheet.now parameters document.now) (since_of since.now) → IfOk result (λ p. AreFound stylesheet.now document.now p.1.items) }
+        ensures since { IfOk result (λ p. p.0.spared.since.now ≡ since.now) }
     {
         if !since.keeps_stylesheet() {
-            return Ok(nothing_kept(alloc, since));
+            return Ok((nothing_kept(alloc, since), Vec::new(alloc)));
         }
         let made_now = made_after(alloc, self.gathered, since, document, stylesheet, last)?;
-        let Ok(keys) = keys_after(alloc, self.keys.as_slice(), since, document, stylesheet) else {
+        let Ok(after) = keys_after(alloc, self.keys.as_slice(), since, document, stylesheet) else {
             drop(made_now);
             return Err(Memory);
         };
-        with_keys(alloc, since, &self.choices, keys, made_now)
+        Ok(with_keys(since, &self.choices, after, made_now))
     }
 }
 
@@ -102,12 +106,12 @@ fn keys_after(
     since: &Since,
     document: &Doc,
     stylesheet: &Stylesheet,
-) -> Result<Vec<OwnKey>, Memory>
-    ensures known { (was : Ask) (parameters : Parameters) → AllKeys stylesheet.now was keys.now → Agrees was (truth_in stylesheet.now parameters document.now) (since_of since.now) → IfOk result (λ ks. AllKeys stylesheet.now (truth_in stylesheet.now parameters document.now) ks.items) }
-    ensures stay { (was : Ask) (parameters : Parameters) → AllKeys stylesheet.now was keys.now → Agrees was (truth_in stylesheet.now parameters document.now) (since_of since.now) → IfOk result (λ ks. KeysStay was (truth_in stylesheet.now parameters document.now) (names_of ks.items)) }
+) -> Result<KeysAfter, Memory>
+    ensures { (was : Ask) (parameters : Parameters) → AllKeys stylesheet.now was keys.now → Agrees was (truth_in stylesheet.now parameters document.now) (since_of since.now)
+        → IfOk result (AreAfter stylesheet.now was parameters document.now) }
 {
     if keys.is_empty() || since.moves() {
-        return Ok(Vec::new(alloc));
+        return Ok(no_keys(alloc));
     }
     keys_that_stay(alloc, keys, since, document, stylesheet)
 }
@@ -136,35 +140,21 @@ fn made_after(
 
 // With these keys that stay, and all choices.
 fn with_keys<'a>(
-    alloc: Global,
     since: &'a Since,
     choices: &'a OwnChoices,
-    keys: Vec<OwnKey>,
+    after: KeysAfter,
     made_now: OwnChoices,
-) -> Result<Prepared<'a>, Memory>
-    ensures since { IfOk result (λ p. p.spared.since.now ≡ since.now) }
-    ensures names { IfOk result (λ p. p.spared.keys.items ≡ names_of keys.items) }
-    ensures choices { IfOk result (λ p. owns_in p.spared.choices ≡ owns_of choices.now) }
-    ensures made_now { IfOk result (λ p. owns_of p.spared.made_now ≡ owns_of made_now) }
-    ensures keys { IfOk result (λ p. p.keys.items ≡ keys.items) }
+) -> (Prepared<'a>, Vec<FoundKeys>)
+    ensures since { result.0.spared.since.now ≡ since.now }
+    ensures stay { result.0.spared.keys.items ≡ after.stay.items }
+    ensures choices { owns_in result.0.spared.choices ≡ owns_of choices.now }
+    ensures made_now { owns_of result.0.spared.made_now ≡ owns_of made_now }
+    ensures keys { result.0.keys.items ≡ after.keys.items }
+    ensures found { result.1.items ≡ after.found.items }
 {
-    let Ok(names) = names_of(alloc, keys.as_slice()) else {
-        drop(keys);
-        drop(made_now);
-        return Err(Memory);
-    };
-    let spared = Spared::new(since, names, Some(choices), made_now);
-    Ok(Prepared { spared, keys })
-}
-
-fn names_of(alloc: Global, keys: &[OwnKey]) -> Result<Vec<Expanded>, Memory>
-    ensures { IfOk result (λ names. names.items ≡ names_of keys.now) }
-{
-    let mut names = Vec::new(alloc);
-    for key in keys {
-        names.push(copy_name(alloc, &key.name)?)?;
-    }
-    Ok(names)
+    let KeysAfter { stay, keys, found } = after;
+    let spared = Spared::new(since, stay, Some(choices), made_now);
+    (Prepared { spared, keys }, found)
 }
 
 impl<'a> Prepared<'a> {

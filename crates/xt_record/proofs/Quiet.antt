@@ -1,7 +1,6 @@
 -- Where none of the questions is marked but choices and keys.
 use Rattle.std.proofs.Common.{◌≡◌, ℕ, zero, suc, ◌+◌, ◌-◌, ◌<◌, Bool, true, false, List, [], ◌∷◌, ◌++◌, map, take, drop, length, get_or, set, replicate, slice_get, Some, refl, sym, ap, subst, ◌∙◌, append_assoc, length-append, arith}
-use Rattle.std.specs.Prelude.{◌&&◌, IfSome, not}
-use Rattle.std.proofs.lemmas.Bool.{and_parts}
+use Rattle.std.specs.Prelude.{IfSome}
 use Rattle.std.specs.declared.rc.Rc.{Rc}
 use Rattle.std.specs.declared.alloc.Global.{Global}
 use Rattle.spec_meaning.specs.Question.{Answer, Question}
@@ -55,13 +54,12 @@ module _ (changes : List WorldChange) where
 
   -- ---- Of one question
 
-  pub marked_alone : (q : Question NodeRef) (a : Answer NodeRef) → (not (by_own_reads q) && any_marks changes q) ≡ true
-      → 0 < marked_in changes (Asked q a ∷ [])
-  marked_alone q a h = omega (arith, ap one_if (and_parts (not (by_own_reads q)) (any_marks changes q) h).1)
+  pub marked_alone : (q : Question NodeRef) (a : Answer NodeRef) → any_marks changes q ≡ true → 0 < marked_in changes (Asked q a ∷ [])
+  marked_alone q a h = omega (arith, ap one_if h)
 
-  pub unmarked_alone : (q : Question NodeRef) (a : Answer NodeRef) → (not (by_own_reads q) && any_marks changes q) ≡ false
+  pub unmarked_alone : (q : Question NodeRef) (a : Answer NodeRef) → (by_own_reads q ≡ false → any_marks changes q ≡ false)
       → NoneMarked changes (Asked q a ∷ [])
-  unmarked_alone q a h = (λ alone. ap (λ b. not b && any_marks changes q) (sym alone) ∙ h, tt)
+  unmarked_alone q a h = (h, tt)
 
   -- ---- Of records from a turn on
 

@@ -66,7 +66,8 @@ fn asks_so<W: World>(
     }
 }
 
-/// The first question among what was done that a change marks, but for choices and keys. Takes no memory.
+/// The first question among what was done that a change marks, but for choices and for keys that stay.
+/// Takes no memory.
 pub(crate) fn first_marked<'a>(events: &'a [Event], spared: &Spared<'_>) -> Option<&'a Question>
     ensures marked { IfSome result (λ question. 0 < marked_in (since_of spared.now.since.now) (map event_of events.now)) }
     ensures none { IfNone result (NoneMarked (since_of spared.now.since.now) (map event_of events.now)) }

@@ -538,8 +538,8 @@ impl<'a> Reuse<'a> {
     }
 
     /// Where nothing was run and no question asked again, goes over the records of the last run, from the end on, up to the
-    /// first of which a question is asked. So one is asked where any is marked but choices and keys, though it need not be: who
-    /// sees that nothing was run sees whether the change was looked at. Trees of which no question is marked are passed over,
+    /// first of which a question is asked. So one is asked where any is marked but choices and keys that stay, though it need not
+    /// be: who sees that nothing was run sees whether the change was looked at. Trees of which no question is marked are passed over,
     /// so it mostly ends at once.
     ///
     /// # Errors
@@ -594,7 +594,8 @@ impl<'a> Reuse<'a> {
         Ok(turn)
     }
 
-    // Where nothing was asked, asks the first question of a record that is marked, but for choices and keys, and counts it.
+    // Where nothing was asked, asks the first question of a record that is marked, but for choices and for keys that stay, and
+    // counts it.
     fn ask_marked<W: World>(&mut self, world: &mut W, kept: &Rc<Record>) -> Result<(), Memory>
         requires sure { IsSure (W.state world.now).truth self.now }
         requires left { IsLeftNoMore self.now kept.now.value }

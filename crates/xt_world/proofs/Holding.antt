@@ -11,7 +11,7 @@ use Rattle.spec_meaning.specs.Question.{Question, Answer}
 use Rattle.spec_node.specs.declared.node_ref.NodeRef.{NodeRef}
 use Rattle.xt_match.specs.Context.{units_in}
 use Rattle.xt_world.specs.KeyView.{answer_found, found_for, keyed_in}
-use Rattle.xt_world.specs.SourceView.{answer_or, source_in}
+use Rattle.xt_world.specs.SourceView.{AreFound, answer_or, keyed_by, source_in}
 use Rattle.xt_world.specs.declared.found.FoundKeys.{FoundKeys}
 use Rattle.xt_world.specs.declared.stylesheet.Stylesheet.{Stylesheet}
 
@@ -51,6 +51,33 @@ more_held s document keys k right = λ i q. by q i
     by (question.Copy node) = refl
     by (question.Unit element) = refl
     by (question.External name) = refl
+
+-- keys by which each value is answered as without them
+pub found_before : (s : Stylesheet) (document : Document ℕ) (keys : List FoundKeys) → AreFound s document keys → source_in s document keys ≡ source_in s document []
+found_before s document keys found = λ i q. by q i
+  where
+    by : (q : Question NodeRef) → source_in s document keys q ≡ source_in s document [] q
+    by (question.Key name text) = found name text
+    by (question.Step node axis test) = refl
+    by (question.Text node) = refl
+    by (question.Name node) = refl
+    by (question.Place node) = refl
+    by (question.Order nodes) = refl
+    by (question.Choice node mode candidates) = refl
+    by (question.Copy node) = refl
+    by (question.Unit element) = refl
+    by (question.External name) = refl
+
+-- so it is of none
+pub none_found : (s : Stylesheet) (document : Document ℕ) (keys : List FoundKeys) → keys ≡ [] → AreFound s document keys
+none_found s document keys e = λ name text. ap (λ (ks : List FoundKeys). keyed_by s document ks name text) e
+
+-- and of one more that answers truly
+pub one_more_found : (s : Stylesheet) (document : Document ℕ) (keys : List FoundKeys) (k : FoundKeys)
+    → ((text : List ℕ) → answer_found k.found text ≡ keyed_in (units_in s.units.items) document k.name text)
+    → AreFound s document keys → AreFound s document (keys ++ k ∷ [])
+one_more_found s document keys k right found = λ name text.
+    one_more (λ n. keyed_in (units_in s.units.items) document n text) name text k (right text) keys ∙ found name text
 
 -- what is true after a question is what was true before, whether it was answered or not
 pub truth_stays : {A E : Type 0} (r : Result A E) (q : Question NodeRef) (old new : Question NodeRef → Answer NodeRef)

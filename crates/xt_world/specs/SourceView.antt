@@ -1,5 +1,5 @@
 -- What a source answers with the keys of a stylesheet, by the keys that it holds.
-use Rattle.std.specs.Prelude.{ℕ, List, Option, None, Some}
+use Rattle.std.specs.Prelude.{◌≡◌, ℕ, List, [], Option, None, Some}
 use Rattle.spec_document.specs.Name.{Expanded}
 use Rattle.spec_document.specs.Forest.{Document}
 use Rattle.spec_meaning.specs.Question.{Question, Answer}
@@ -20,6 +20,10 @@ answer_or other text (Some found) = answer_found found text
 
 abbrev pub keyed_by : Stylesheet → Document ℕ → List FoundKeys → Expanded → List ℕ → Answer NodeRef
 keyed_by s document keys name text = answer_or (keyed_in (units_in s.units.items) document name text) text (found_for keys name)
+
+-- by these keys each value is answered as without them
+abbrev pub AreFound : Stylesheet → Document ℕ → List FoundKeys → Type 0
+AreFound s document keys = (name : Expanded) (text : List ℕ) → keyed_by s document keys name text ≡ keyed_by s document [] name text
 
 abbrev pub source_in : Stylesheet → Document ℕ → List FoundKeys → Question NodeRef → Answer NodeRef
 source_in s document keys (question.Key name text) = keyed_by s document keys name text

@@ -2,11 +2,11 @@
 //! copies of its nodes, for their template rules, for the units of the stylesheet and for the values that
 //! parameters are given from outside. Of what it was asked it keeps the keys: all keys of a name are found for all
 //! nodes when a first value is asked for. It keeps too which rules may match the nodes that it met, by what these are
-//! called. `Source` is the part of it that knows the tree and the keys alone.
+//! called. `Source` is the part of it that knows the tree and the keys alone. Keys that were found already may be given.
 //!
 //! ```text
 //! let stylesheet = Stylesheet::new(alloc, sheet, numbers)?;   // of the elements of its units, if they serve
-//! let mut world = SheetWorld::new(alloc, &source, &stylesheet, &parameters);
+//! let mut world = SheetWorld::new(alloc, &source, &stylesheet, &parameters, keys);      // keys that were found already
 //! ```
 #![tactic(auto)]
 
@@ -24,6 +24,7 @@ mod stylesheet;
 mod world;
 
 pub use common::{same_rules, same_units};
+pub use found::{Found, FoundKeys};
 pub use laws::{same_plain_choices, same_run};
 pub use parameters::{Before, Parameters};
 pub use source::Source;

@@ -9,6 +9,7 @@ ghost use Rattle.xt_world.specs.ParameterView.{parameters_of};
 ghost use Rattle.xt_world.specs.SourceView.{source_of};
 ghost use Rattle.xt_world.specs.View.{GivesNumber, choice_with, copy_in, rule_held, rule_numbered, said_by, truth_with, unit_held};
 
+use crate::found::FoundKeys;
 use crate::source::Source;
 use crate::{Parameters, Stylesheet};
 use std::alloc::Global;
@@ -36,23 +37,26 @@ pub struct SheetWorld<'a> {
 impl<'a> SheetWorld<'a> {
     ghost use Rattle.std.specs.Prelude.{◌≡◌};
     ghost use Rattle.xt_world.specs.ParameterView.{parameters_of};
+    ghost use Rattle.xt_world.specs.SourceView.{AreFound};
     ghost use Rattle.xt_world.specs.View.{truth_in};
     ghost use Rattle.xt_world.specs.WorldView.{truth_at};
 
-    /// The world of these, in which no keys were found yet. Takes no memory.
+    /// The world of these, in which these keys were found already, if any. Takes no memory.
     pub fn new(
         alloc: Global,
         document: &'a Doc,
         stylesheet: &'a Stylesheet,
         parameters: &'a Parameters,
+        keys: Vec<FoundKeys>,
     ) -> SheetWorld<'a>
+        requires { AreFound stylesheet.now document.now keys.items }
         ensures { truth_at result ≡ truth_in stylesheet.now (parameters_of parameters.now) document.now }
     {
         let source = Source {
             alloc,
             document,
             stylesheet,
-            keys: Vec::new(alloc),
+            keys,
         };
         let table = RuleTable::new(alloc, &stylesheet.rules);
         SheetWorld {

@@ -17,11 +17,14 @@ use Rattle.xt_held.proofs.Costing.{Begins, counted_on, recorded_asked, recorded_
 use denote.Ref.{Bor}
 use Rattle.xt_held.proofs.outcome.run_recorded.Goals as goal
 
+pub new-world-requires : goal.new-world-requires
+new-world-requires c = c.requires.found
+
 pub run-whole-requires : goal.run-whole-requires
 run-whole-requires c =
     subst (λ (ask : Ask). IsSure ask c.in_ok-reuse.reuse) (sym c.new-world.ensures)
-    (c.in_ok-reuse.ensures.sure c.requires.was (truth_in c.args.stylesheet.now (parameters_of c.args.parameters.now) c.args.source.now) c.requires.answered
-    c.requires.spares)
+    (c.in_ok-reuse.ensures.sure c.requires.spares.was (truth_in c.args.stylesheet.now (parameters_of c.args.parameters.now) c.args.source.now) c.requires.spares.answered
+    c.requires.spares.spares)
 
 pub returns-clause-run : goal.returns-clause-run
 returns-clause-run c = λ sheet answers.

@@ -16,10 +16,14 @@ use Rattle.xt_held.proofs.outcome.whole.Goals as goal
 pub run_recorded-requires : goal.run_recorded-requires
 run_recorded-requires c =
     let known = c.requires in
+    let given = parameters_of c.args.parameters.now in
     record {
-      was = known.was;
-      answered = known.answered;
-      spares = (c.in_ok-prepared.ensures.spares known.was (parameters_of c.args.parameters.now) known.own known.agrees).0;
+      spares = record {
+        was = known.was;
+        answered = known.answered;
+        spares = (c.in_ok-prepared.ensures.spares known.was given known.own known.agrees).0;
+      };
+      found = c.in_ok-prepared.ensures.found known.was given known.own known.agrees;
     }
 
 pub returns-clause-run : goal.returns-clause-run

@@ -1,4 +1,4 @@
-use Rattle.xt_keys.proofs.Matched.{last_is}
+use Rattle.xt_keys.proofs.OneNode.{last_is}
 use Rattle.xt_keys.proofs.node.last_of.Goals as goal
 
 pub returns : goal.returns

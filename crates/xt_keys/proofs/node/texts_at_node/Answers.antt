@@ -4,7 +4,7 @@ use Rattle.spec_node.specs.Naming.{same_ref}
 use Rattle.xt_questions.proofs.Steps.{runs_then, runs_stop, runs_gives, exits}
 use Rattle.xt_match.specs.Context.{units_in}
 use Rattle.xt_match.proofs.Together.{runs_as}
-use Rattle.xt_keys.proofs.Matched.{only_one}
+use Rattle.xt_keys.proofs.OneNode.{only_one}
 use Rattle.xt_keys.proofs.node.texts_at_node.Goals as goal
 
 pub returns-in_err-found-clause-runs : goal.returns-in_err-found-clause-runs

@@ -12,4 +12,4 @@ loop-node-preserved c = record {
 
 pub returns-clause-goes : goal.returns-clause-goes
 returns-clause-goes c = λ was parameters answer agrees passed.
-    c.some_match.ensures c.if-some_match.false c.args.scene.now.name.now _ was _ answer _ (c.loop-node.invariant.goes was parameters answer agrees passed)
+    c.in_ok-add_rest.ensures c.if-not-branch.false _ was _ c.args.scene.now.name.now answer _ (c.loop-node.invariant.goes was parameters answer agrees passed)

@@ -6,5 +6,5 @@ abbrev pub invariant-loop-node : goal.invariant-loop-node
 invariant-loop-node l = record {
   bound : l.passed ≤ length l.before;
   nodes : nodes_of l.found.items ≡ take l.node-index l.now;
-  goes : Goes l.scene.stylesheet.now l.scene.document.now l.scene.since.now l.scene.name.now l.before [] (drop l.passed l.before) l.found.items;
+  goes : Goes l.scene.stylesheet.now l.scene.document.now l.scene.since.now l.scene.name.now l.fn.but.items l.before [] l.but.items (drop l.passed l.before) l.found.items;
 }

@@ -12,7 +12,11 @@ returns-in-Some-clause-goes c =
     let before = c.args.before.now in
     let old = c.args.found.now.items in
     let new = c.pass_here.new.found.items in
-    let weaker : (after : ℕ) → Goes s d since name (drop c.in-Some.next before) old (drop after before) new → Goes s d since name (drop c.args.passed before) old (drop after before) new =
+    let first = c.args.but.now.items in
+    let between = c.past_gone.new.but.items in
+    let last = c.pass_here.new.but.items in
+    let weaker : (after : ℕ) → Goes s d since name between (drop c.in-Some.next before) old last (drop after before) new
+    → Goes s d since name first (drop c.args.passed before) old last (drop after before) new =
     λ after goes was parameters answer agrees passed.
-    goes was parameters answer agrees (some_is _ c.in-Some.is (c.in_ok-past_gone.ensures.skips name) s was _ answer old passed) in
+    goes was parameters answer agrees (some_is _ c.in-Some.is c.in_ok-past_gone.ensures.skips s was _ name answer old passed) in
     ok_some_weaker _ weaker c.pass_here.ensures.goes

@@ -1,4 +1,4 @@
-use Rattle.std.proofs.Common.{◌∷◌, ◌<◌, [], ◌∙◌, subst, sym}
+use Rattle.std.proofs.Common.{◌∷◌, ◌<◌, [], subst, sym}
 use Rattle.xt_engine.specs.View.{event_of}
 use Rattle.xt_engine.specs.declared.event.Event.{Event}
 use Rattle.xt_questions.specs.View.{answer_of, question_of}
@@ -11,10 +11,10 @@ pub returns-then-marks_alone-clause-marked : goal.returns-then-marks_alone-claus
 returns-then-marks_alone-clause-marked c =
     let changes = since_of c.args.spared.now.since.now in
     let Marked : Event → Type 0 = λ e. 0 < marked_in changes (event_of e ∷ []) in
-    subst Marked (sym c.in-Asked.is) (marked_alone changes (question_of c.in-Asked.question) (answer_of c.in-Asked.field-1) (sym c.marks_alone.ensures ∙ c.if-marks_alone.true))
+    subst Marked (sym c.in-Asked.is) (marked_alone changes (question_of c.in-Asked.question) (answer_of c.in-Asked.field-1) (c.marks_alone.ensures.marked c.if-marks_alone.true))
 
 pub returns-else-marks_alone-clause-none : goal.returns-else-marks_alone-clause-none
 returns-else-marks_alone-clause-none c =
     let changes = since_of c.args.spared.now.since.now in
     let None : Event → Type 0 = λ e. NoneMarked changes (event_of e ∷ []) in
-    subst None (sym c.in-Asked.is) (unmarked_alone changes (question_of c.in-Asked.question) (answer_of c.in-Asked.field-1) (sym c.marks_alone.ensures ∙ c.if-marks_alone.false))
+    subst None (sym c.in-Asked.is) (unmarked_alone changes (question_of c.in-Asked.question) (answer_of c.in-Asked.field-1) (c.marks_alone.ensures.unmarked c.if-marks_alone.false))
