@@ -4,7 +4,6 @@ use Rattle.std.proofs.Common.{Result, Ok, Err, arith, refl, sym, ap, subst, ◌�
 use Rattle.std.specs.Prelude.{IfOk, IfSome, ◌||◌}
 use Rattle.std.specs.declared.alloc.Global.{Global}
 use Rattle.std.specs.declared.rc.Rc.{Rc}
-use Rattle.spec_document.specs.Forest.{Document, Plain}
 use Rattle.spec_meaning.specs.Question.{Question, Step, Text, Name, Place, Order, Key, Choice, Copy, Unit as UnitOf, External}
 use Rattle.spec_structure.specs.Modules.{Modules}
 use Rattle.spec_run.specs.Documents.{main_name}
@@ -18,7 +17,6 @@ use Rattle.spec_touch.specs.Marks.{WorldChange, any_marks}
 use Rattle.xt_spared.specs.View.{by_own_reads}
 use Rattle.xt_text.specs.declared.memory.Memory.{Memory}
 use Rattle.xt_touch.specs.View.{since_of}
-use Rattle.xt_touch.specs.declared.since.Since.{Since}
 use Rattle.xt_record.specs.Asked.{AsksUnit, NoneMarked, NoneMarkedAmong, UnitIsAsked, marked_in, marked_among, marked_of, one_if}
 use Rattle.xt_record.specs.View.{kept_in}
 use Rattle.xt_record.specs.declared.pool.Pool.{Pool}

@@ -1,17 +1,14 @@
 -- What a run has cost, by what it counts.
-use Rattle.std.proofs.Common.{◌≡◌, ◌≤◌, ℕ, ◌+◌, Bool, true, false, List, [], ◌∷◌, ◌++◌, length, map, min, Option, None, Some, Result, Ok, Err, arith, refl, sym, ap, subst, ◌∙◌}
+use Rattle.std.proofs.Common.{◌≡◌, ◌≤◌, ℕ, ◌+◌, List, [], ◌++◌, length, map, min, Option, None, Some, Result, Ok, Err, arith, refl, sym, ap, subst, ◌∙◌}
 use Rattle.std.specs.Prelude.{IfOk, OnOk}
 use Rattle.std.proofs.lemmas.List.{append-nil}
 use Rattle.std.proofs.lemmas.Result.{IfOk-weaker}
-use Rattle.std.specs.declared.alloc.Global.{Global}
-use Rattle.std.specs.declared.rc.Rc.{Rc}
 use Rattle.spec_document.specs.Forest.{Document}
 use Rattle.spec_run.specs.Documents.{Parameters}
 use Rattle.spec_run.specs.Meaning.{Setting}
 use Rattle.spec_run.specs.Trail.{Kept}
-use Rattle.spec_reuse.specs.Among.{IsIn}
-use Rattle.spec_reuse.specs.Instantiation.{Instantiation, instantiations}
-use Rattle.spec_reuse.specs.Ledger.{AreCounted, Enters}
+use Rattle.spec_reuse.specs.Instantiation.{instantiations}
+use Rattle.spec_reuse.specs.Ledger.{Enters}
 use Rattle.spec_reuse.proofs.Counting.{run_counted}
 use Rattle.spec_node.specs.declared.node_ref.NodeRef.{NodeRef}
 use Rattle.spec_cost.specs.Paying.{IsUnrecorded}
@@ -24,9 +21,7 @@ use Rattle.xt_world.specs.declared.stylesheet.Stylesheet as world
 use Rattle.xt_touch.specs.View.{since_of}
 use Rattle.xt_record.specs.Asked.{marked_of}
 use Rattle.xt_record.specs.Sure.{IsSure}
-use Rattle.xt_record.specs.View.{kept_in}
 use Rattle.xt_record.specs.declared.pool.Pool.{Pool}
-use Rattle.xt_record.specs.declared.record.Record.{Record}
 use Rattle.xt_record.specs.declared.reuse.Reuse.{Reuse}
 use Rattle.xt_driver.specs.Counted.{CountedWhole, kept_at, most_counted, records_of}
 use Rattle.xt_driver.specs.View.{setting_in}

@@ -1,5 +1,5 @@
 -- Which rules for white space are known of after a change, and what is told of a document by its name.
-use Rattle.std.proofs.Common.{◌≡◌, ℕ, Bool, true, false, List, [], ◌∷◌, Option, None, Some, Result, Ok, Err, refl, sym, ap, subst, ◌∙◌}
+use Rattle.std.proofs.Common.{◌≡◌, ℕ, List, [], ◌∷◌, Option, None, Some, Result, Ok, Err, refl, sym, ap, subst, ◌∙◌}
 use Rattle.std.specs.Prelude.{IfOk}
 use Rattle.spec_document.specs.Fault.{Fault}
 use Rattle.spec_document.specs.Forest.{Document, Plain}
@@ -9,9 +9,8 @@ use Rattle.spec_structure.specs.Modules.{Modules}
 use Rattle.spec_compile.specs.Sheet as compile
 use Rattle.spec_compile.specs.Sheet.{IsSheet}
 use Rattle.spec_run.specs.Documents.{main_name}
-use Rattle.spec_cost.specs.Marking.{Known, KnowsOf, Mark, and_marks, known_by, marks_between}
+use Rattle.spec_cost.specs.Marking.{Known, KnowsOf, Mark, and_marks, marks_between}
 use Rattle.spec_cost.specs.Numbers.{NumberedDocuments}
-use Rattle.xt_syntax.specs.SheetView.{space_rules_of}
 use Rattle.xt_compile.specs.View.{refusal_in}
 use Rattle.spec_touch.specs.Marks.{WorldChange, Anything}
 use Rattle.xt_text.specs.declared.memory.Memory.{Memory}

@@ -39,12 +39,12 @@ use Rattle.xt_world.specs.declared.stylesheet.Stylesheet as world
 use Rattle.xt_driver.specs.Counted.{kept_at}
 use Rattle.xt_held.specs.Complete.{KeepsFor, KeepsWhere}
 use Rattle.xt_held.specs.Cost.{Costs, CostsRun, kept_among, setting_on, setting_seen}
-use Rattle.xt_held.specs.Marked.{AreToldBy, IsLeastOf, Tells, known_in, known_of, left_of, records_after}
+use Rattle.xt_held.specs.Marked.{AreToldBy, IsLeastOf, Tells, known_of, left_of, records_after}
 use Rattle.xt_held.specs.RunView.{last_known}
 use Rattle.xt_held.specs.OutcomeView.{no_counts}
 use Rattle.xt_held.specs.Called.{AreCalled, IsCalled, IsCalledIn, numbered_modules}
 use Rattle.xt_held.specs.PastView.{Brings, IsPast, PaysFor, edited_as, given_as, is_edited_by, is_of_module, numbers_of}
-use Rattle.xt_held.specs.StylesheetView.{AreCompiled, AreCompiledBy}
+use Rattle.xt_held.specs.StylesheetView.{AreCompiledBy}
 use Rattle.xt_held.specs.View.{Basis, IsComing, IsCurrent, IsBatchOf, IsKept, IsMadeFrom, IsPending, IsTold, ModulesStay, documents_of, edited_basis, made_of, next_basis, next_batch, next_before, next_compiled, next_documents, next_numbers, next_present, next_source, numbered_document, present_basis, present_by, present_of}
 use Rattle.xt_held.specs.declared.batch.Batch.{Batch}
 use Rattle.xt_held.specs.declared.counts.Counts.{Counts}

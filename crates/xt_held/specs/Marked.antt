@@ -5,7 +5,7 @@
 --     AsksLeast     what it says of changes that nothing was run and nothing asked again
 --     IsAskedBy     what a run asked again, and what is told of after it
 --     Tells         what is told of a change that is ready
-use Rattle.std.specs.Prelude.{ℕ, ◌≡◌, ◌⊎◌, ◌≤◌, Bool, true, false, List, [], ◌∷◌, length, map, ◌||◌, Option, None, Some, IfSome}
+use Rattle.std.specs.Prelude.{ℕ, ◌≡◌, ◌⊎◌, ◌≤◌, true, false, List, [], ◌∷◌, length, map, ◌||◌, Option, None, Some, IfSome}
 use Rattle.spec_document.specs.Forest.{Document}
 use Rattle.spec_meaning.specs.Question.{Question, Unit as UnitOf}
 use Rattle.spec_node.specs.declared.node_ref.NodeRef.{NodeRef}

@@ -88,7 +88,9 @@ fn lift_unit(
 {
     let mut own = Vec::new(alloc);
     let left = left_unit(alloc, unit, &mut own)?;
-    add_first(stands_in(&unit.site.place, before), own, items)?;
+    // A unit without items has none wherever it stands, so those before it are not looked at.
+    let is_later = !own.is_empty() && stands_in(&unit.site.place, before);
+    add_first(is_later, own, items)?;
     Ok(left)
 }
 

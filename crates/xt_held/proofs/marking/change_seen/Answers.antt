@@ -1,11 +1,10 @@
-use Rattle.std.proofs.Common.{ℕ, ◌≡◌, IfOk, Result, List, map, subst}
+use Rattle.std.proofs.Common.{ℕ, ◌≡◌, IfOk, map, subst}
 use Rattle.std.proofs.lemmas.Result.{IfOk-weaker}
 use Rattle.spec_document.specs.Forest.{Document}
 use Rattle.spec_seen.specs.Seen as sight
 use Rattle.spec_touch.specs.Leads as leads
 use Rattle.spec_touch.specs.Leads.{AreLooseBelow, Leads}
 use Rattle.xt_edit.specs.Telling.{change_in, numbers_in}
-use Rattle.xt_edit.specs.declared.change.Change.{Change}
 use Rattle.xt_syntax.specs.SheetView.{space_rule_of}
 use Rattle.xt_held.proofs.marking.change_seen.Goals as goal
 
